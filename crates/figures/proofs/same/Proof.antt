@@ -1,0 +1,17 @@
+-- `same` meets its contract: of two strings of one length, one starts with the other where they are the same.
+use borrow.Author.Tests.{eq-eqb, ne-eqb}
+use borrow.Author.Needs.{needs}
+use Rattle.figures.proofs.same.Statement.{statement}
+use Rattle.figures.proofs.same.Tie as tie
+
+returns : tie.Need-returns
+returns c = rw (ne-eqb _ _ (c .if1 .taken))
+
+starts-requires : tie.Need-starts-requires
+starts-requires c κs = search needs
+
+returns-2 : tie.Need-returns-2
+returns-2 c = rw (eq-eqb _ _ (c .before .if1 .left)) (c .starts .ensures)
+
+pub same-spec : {M : Type 1} → statement M
+same-spec = tie.close (tie.spec returns starts-requires returns-2)

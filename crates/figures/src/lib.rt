@@ -1,0 +1,118 @@
+// Decimal figures in bytes, and byte strings laid down or compared: what every layer above reads and writes with.
+ghost use mathlib.Core.Path.{_≡_};
+ghost use lib.ListN.{length};
+ghost use Rattle.figures.specs.Decimal.{numberIn, digitsOf, isDigit};
+ghost use Rattle.figures.specs.Bytes.{laid, startsWith, sameBytes, every, within};
+
+// What digits say; Not where a byte is no digit, or there are more of them than a word can have.
+pub enum Said {
+    Not,
+    Number(u64),
+}
+
+fn wide(b: u8) -> u64
+    ensures { λ r. ⌜ r ≡ b ⌝ }
+{
+    b as u64
+}
+
+pub fn digit(b: u8) -> bool
+    ensures { λ r. ⌜ r ≡ isDigit b ⌝ }
+{
+    if b < b'0' {
+        return false;
+    }
+    b <= b'9'
+}
+
+// The number that the bytes say.
+pub fn number(s: &[u8]) -> Said
+    ensures { λ r. ⌜ r ≡ numberIn (now (s .entry)) ⌝ }
+{
+    if 16 < s.len() {
+        return Said::Not;
+    }
+    let mut n: u64 = 0;
+    let mut i = 0;
+    while i < s.len() {
+        let b = s[i];
+        if !digit(b) {
+            return Said::Not;
+        }
+        n = n * 10 + wide(b - b'0');
+        i += 1;
+    }
+    Said::Number(n)
+}
+
+// Fills the bytes with the last digits of n.
+pub fn put_number(n: u64, out: &mut [u8])
+    ensures { λ _. ⌜ now (out .exit) ≡ digitsOf (length (now (out .entry))) n ⌝ }
+{
+    let mut left = n;
+    let mut i = out.len();
+    while 0 < i {
+        i -= 1;
+        out[i] = b'0' + (left % 10) as u8;
+        left = left / 10;
+    }
+}
+
+// Whether every byte is from low to high.
+pub fn all_within(s: &[u8], low: u8, high: u8) -> bool
+    ensures { λ r. ⌜ r ≡ every (within low high) (now (s .entry)) ⌝ }
+{
+    let mut i = 0;
+    while i < s.len() {
+        let b = s[i];
+        if b < low {
+            return false;
+        }
+        if high < b {
+            return false;
+        }
+        i += 1;
+    }
+    true
+}
+
+// Writes w from the start of the room, as far as there is room; what lies beyond is as it was.
+pub fn lay(w: &[u8], room: &mut [u8])
+    ensures { λ _. ⌜ now (room .exit) ≡ laid (now (w .entry)) (now (room .entry)) ⌝ }
+{
+    let mut i = 0;
+    while i < w.len() {
+        if room.len() <= i {
+            return;
+        }
+        room[i] = w[i];
+        i += 1;
+    }
+}
+
+// Whether s starts with w.
+pub fn starts(s: &[u8], w: &[u8]) -> bool
+    ensures { λ r. ⌜ r ≡ startsWith (now (w .entry)) (now (s .entry)) ⌝ }
+{
+    let mut i = 0;
+    while i < w.len() {
+        if s.len() <= i {
+            return false;
+        }
+        if s[i] != w[i] {
+            return false;
+        }
+        i += 1;
+    }
+    true
+}
+
+// Whether the two are the same bytes.
+pub fn same(a: &[u8], b: &[u8]) -> bool
+    ensures { λ r. ⌜ r ≡ sameBytes (now (a .entry)) (now (b .entry)) ⌝ }
+{
+    if a.len() != b.len() {
+        return false;
+    }
+    starts(a, b)
+}
