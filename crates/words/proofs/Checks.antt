@@ -1,0 +1,169 @@
+-- What a check says of the rule that it tests: from its answer, and from the test of that answer.
+use Prim.Native.Nat.{ℕ, _+_, _-_, _≤_, _<_}
+use mathlib.Core.Path.{_≡_, refl, sym, _∙_}
+use mathlib.Core.Bool.{Bool, true, false, cond, not, _&&_, and-true, and-assoc}
+use mathlib.Core.List.{List}
+use native.Mathlib.Omega.{arith}
+use borrow.Author.Tests.{not-true, not-false, le-leb, lt-leb, leb-true, leb-false}
+use borrow.Rule.Slice.PartMut.{midOf}
+use lib.Dec.{leb}
+use lib.ListN.{length, take, drop, length-drop, drop-of-length-le}
+use lib.Seq.{take-all, length-take-le}
+use Rattle.figures.specs.Bytes.{every}
+use Rattle.figures.specs.Decimal.{isDigit, numberOf, numberIn}
+use Rattle.figures.specs.declared.Said.{Said}
+use Rattle.figures.specs.declared.Said.the-variants as said
+use Rattle.words.specs.Kinds.{isTextual, kindOf, indexOf, indexRight, indexAt}
+use Rattle.words.specs.Information.{signRight, signOf, signAt}
+use Rattle.words.specs.Records.{width, textRight, isGraphic, isZero}
+use Rattle.words.specs.Reading.{wordSize, dataIn, dataRight, ppmIn, underIn, mmIn, figuresIn, pairAt, spelledAt}
+use Rattle.words.specs.declared.kinds.Kind.{Kind}
+use Rattle.words.specs.declared.kinds.Indexed.{Indexed}
+use Rattle.words.specs.declared.counts.Figures.{Figures}
+use Rattle.words.specs.declared.reading.Spelled.{Spelled}
+use Rattle.words.specs.declared.reading.Parted.{Parted}
+use Rattle.words.specs.declared.information.Informed.{Informed}
+use Rattle.words.specs.declared.information.Signed.{Signed}
+use Rattle.words.specs.declared.kinds.Kind.the-variants as kind
+use Rattle.words.specs.declared.kinds.Indexed.the-variants as indexed
+use Rattle.words.specs.declared.reading.Spelled.the-variants as spelled
+use Rattle.words.specs.declared.reading.Parted.the-variants as parted
+use Rattle.words.specs.declared.information.Informed.the-variants as informed
+use Rattle.words.specs.declared.information.Signed.the-variants as signed
+
+-- a check that answers by a Bool
+pub failed : {r b : Bool} → r ≡ b → not r ≡ true → b ≡ false
+failed {r} e t = sym e ∙ not-true r t
+
+pub passed : {r b : Bool} → r ≡ b → not r ≡ false → b ≡ true
+passed {r} e t = sym e ∙ not-false r t
+
+-- a check that answers by an enum: x where the rule b holds, and y where not
+refused : {A : Type 0} (b : Bool) (x y : A) {r : A} → (x ≡ y → ⊥) → r ≡ cond b x y → r ≡ y → b ≡ false
+refused true x y apart e f = absurd (apart (sym e ∙ f))
+refused false x y apart e f = refl
+
+granted : {A : Type 0} (b : Bool) (x y : A) {r z : A} → (y ≡ z → ⊥) → r ≡ cond b x y → r ≡ z → (b ≡ true) × (z ≡ x)
+granted true x y apart e f = (refl, sym f ∙ e)
+granted false x y apart e f = absurd (apart (sym e ∙ f))
+
+clash : _≡_ {A = ℕ} 0 1 → ⊥
+clash z = omega arith
+
+pub informed-not : {b : Bool} {r : Informed} → r ≡ cond b informed.Right informed.Not → r ≡ informed.Not → b ≡ false
+informed-not {b} e f = refused b informed.Right informed.Not (λ q. clash (cc)) e f
+
+pub informed-right : {b : Bool} {r : Informed} → r ≡ cond b informed.Right informed.Not → r ≡ informed.Right → b ≡ true
+informed-right {b} e f = granted b informed.Right informed.Not (λ q. clash (cc)) e f .0
+
+pub parted-not : {b : Bool} {r : Parted} → r ≡ cond b parted.Blank parted.Not → r ≡ parted.Not → b ≡ false
+parted-not {b} e f = refused b parted.Blank parted.Not (λ q. clash (cc)) e f
+
+pub parted-blank : {b : Bool} {r : Parted} → r ≡ cond b parted.Blank parted.Not → r ≡ parted.Blank → b ≡ true
+parted-blank {b} e f = granted b parted.Blank parted.Not (λ q. clash (cc)) e f .0
+
+pub index-not : (t o : ℕ) {r : Indexed} → r ≡ indexAt t o → r ≡ indexed.Not → indexRight t o ≡ false
+index-not t o e f = refused (indexRight t o) (indexed.Listed (indexOf t o) (kindOf (indexOf t o))) indexed.Not (λ q. clash (cc)) e f
+
+pub index-is : (t o : ℕ) {r : Indexed} {i : ℕ} {k : Kind} → r ≡ indexAt t o → r ≡ indexed.Listed i k
+    → (indexRight t o ≡ true) × (i ≡ indexOf t o) × (k ≡ kindOf (indexOf t o))
+index-is t o e f =
+    let ok = granted (indexRight t o) (indexed.Listed (indexOf t o) (kindOf (indexOf t o))) indexed.Not (λ q. clash (cc)) e f in
+    (ok .0, cc (ok .1), cc (ok .1))
+
+-- what `number` takes: no more than 16 digits
+abbrev pub isNumber : List ℕ → Bool
+isNumber s = leb (length s) 16 && every isDigit s
+
+pub said-not : (s : List ℕ) {r : Said} → r ≡ numberIn s → r ≡ said.Not → isNumber s ≡ false
+said-not s e f = refused (isNumber s) (said.Number (numberOf s)) said.Not (λ q. clash (cc)) e f
+
+pub said-number : (s : List ℕ) {r : Said} {n : ℕ} → r ≡ numberIn s → r ≡ said.Number n → (isNumber s ≡ true) × (n ≡ numberOf s)
+said-number s e f =
+    let ok = granted (isNumber s) (said.Number (numberOf s)) said.Not (λ q. clash (cc)) e f in
+    (ok .0, cc (ok .1))
+
+pub sign-not : (k : Kind) (b : ℕ) {r : Signed} → r ≡ signAt k b → r ≡ signed.Not → signRight k b ≡ false
+sign-not k b e f = refused (signRight k b) (signed.Sign (signOf b)) signed.Not (λ q. clash (cc)) e f
+
+pub sign-is : (k : Kind) (b : ℕ) {r : Signed} {m : ℕ} → r ≡ signAt k b → r ≡ signed.Sign m → (signRight k b ≡ true) × (m ≡ signOf b)
+sign-is k b e f =
+    let ok = granted (signRight k b) (signed.Sign (signOf b)) signed.Not (λ q. clash (cc)) e f in
+    (ok .0, cc (ok .1))
+
+-- the three checks of a pair's data: its ppm, its sign, its mm
+abbrev pub pairParts : List ℕ → Bool
+pairParts d = isNumber (ppmIn d) && (signRight kind.Pair (underIn d) && isNumber (mmIn d))
+
+few : (n : ℕ) → 4 ≤ n → (b : Bool) → leb (n - 4) 16 ≡ b → leb n 20 ≡ b
+few n h true e = le-leb n 20 (omega (arith, leb-true (n - 4) 16 e))
+few n h false e = lt-leb n 20 (omega (arith, leb-false (n - 4) 16 e))
+
+pub pair-by : (d : List ℕ) → 4 ≤ length d → pairAt d ≡ cond (pairParts d) (spelled.Says (figuresIn kind.Pair d)) spelled.Not
+pair-by d h =
+    let front = length-take-le (length d - 4) d (omega arith) in
+    let back : length (mmIn d) ≡ 3 = omega (arith, length-drop (length d - 3) d) in
+    rw (le-leb 4 (length d) h, few (length d) h (leb (length d - 4) 16) refl, front, back, and-true, and-assoc)
+
+-- the ppm and the mm as `pair_at` lends them, as `number` reads them
+pub ppm-in : (d : List ℕ) → numberIn (midOf 0 (length d - 4 - 0) d) ≡ numberIn (ppmIn d)
+ppm-in d = let all : length d - 4 - 0 ≡ length d - 4 = omega arith in rw all
+
+pub mm-in : (d : List ℕ) → 4 ≤ length d → numberIn (midOf (length d - 4 + 1) (length d - (length d - 4 + 1)) d) ≡ numberIn (mmIn d)
+mm-in d h =
+    let from : length d - 4 + 1 ≡ length d - 3 = omega arith in
+    rw (from, take-all (length d - (length d - 3)) (mmIn d) (omega (arith, length-drop (length d - 3) d)))
+
+pub pair-short : (d : List ℕ) → length d < 4 → pairAt d ≡ spelled.Not
+pair-short d h = rw (lt-leb 4 (length d) h)
+
+-- the data of a word: no more than `number` takes, and no fewer than a pair has
+pub width-bounds : (wide : Bool) → (8 ≤ width wide) × (width wide ≤ 16)
+width-bounds true = (omega arith, omega arith)
+width-bounds false = (omega arith, omega arith)
+
+pub data-length : (wide : Bool) (s : List ℕ) → wordSize wide ≤ length s → length (dataIn wide s) ≡ width wide
+data-length wide s h = length-take-le (width wide) (drop 7 s) (omega (arith, length-drop 7 s))
+
+-- the data as `read_word` lends them
+pub data-part : (wide : Bool) (s : List ℕ) (n : ℕ) → n ≡ width wide → midOf 7 (7 + n - 7) s ≡ dataIn wide s
+data-part wide s n e = let q : 7 + n - 7 ≡ width wide = omega arith in rw q
+
+pub spelled-by : (k : Kind) (d : List ℕ) → 4 ≤ length d → length d ≤ 16
+    → spelledAt k d ≡ cond (dataRight k d) (spelled.Says (figuresIn k d)) spelled.Not
+spelled-by kind.Missing d h g = refl
+spelled-by kind.Numbered d h g = refl
+spelled-by kind.Text d h g = refl
+spelled-by kind.Angle d h g = rw (le-leb (length d) 16 g)
+spelled-by kind.Length d h g = rw (le-leb (length d) 16 g)
+spelled-by kind.Constant d h g = rw (le-leb (length d) 16 g)
+spelled-by kind.Pair d h g = rw (le-leb 4 (length d) h, le-leb (length d) 20 (omega arith))
+
+module _ (k : Kind) (wide : Bool) (s : List ℕ) (h : wordSize wide ≤ length s) where
+  spelled-data : spelledAt k (dataIn wide s) ≡ cond (dataRight k (dataIn wide s)) (spelled.Says (figuresIn k (dataIn wide s))) spelled.Not
+  spelled-data =
+      let long = data-length wide s h in
+      let bounds = width-bounds wide in
+      spelled-by k (dataIn wide s) (omega arith) (omega arith)
+
+  pub spelled-not : {r : Spelled} → r ≡ spelledAt k (dataIn wide s) → r ≡ spelled.Not → dataRight k (dataIn wide s) ≡ false
+  spelled-not e f =
+      refused (dataRight k (dataIn wide s)) (spelled.Says (figuresIn k (dataIn wide s))) spelled.Not (λ q. clash (cc)) (e ∙ spelled-data) f
+
+  pub spelled-says : {r : Spelled} {y : Figures} → r ≡ spelledAt k (dataIn wide s) → r ≡ spelled.Says y
+      → (dataRight k (dataIn wide s) ≡ true) × (y ≡ figuresIn k (dataIn wide s))
+  spelled-says e f =
+      let ok = granted (dataRight k (dataIn wide s)) (spelled.Says (figuresIn k (dataIn wide s))) spelled.Not (λ q. clash (cc)) (e ∙ spelled-data) f in
+      (ok .0, cc (ok .1))
+
+-- all of a text is data
+all-data : (p q : ℕ → Bool) (n : ℕ) (t : List ℕ) → length t ≤ n → every p (take n t) && every q (drop n t) ≡ every p t
+unfolding every
+all-data p q n t h = rw (take-all n t h, drop-of-length-le t {i = n} h, and-true)
+
+pub text-wide : (k : Kind) (t : List ℕ) → isTextual k ≡ true → length t ≡ 16 → textRight true k t ≡ every isGraphic t
+text-wide k t e h = rw e (all-data isGraphic isZero 16 t (omega arith))
+
+pub text-narrow : (k : Kind) (t : List ℕ) → isTextual k ≡ true → length t ≡ 16
+    → textRight false k t ≡ every isGraphic (take 8 t) && every isZero (take 8 (drop 8 t))
+text-narrow k t e h = rw (e, take-all 8 (drop 8 t) (omega (arith, length-drop 8 t)))

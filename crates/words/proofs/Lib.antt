@@ -1,0 +1,10 @@
+pub mod Tests
+pub mod Checks
+pub mod Sexagesimal
+pub mod Positions
+pub mod Characters
+pub mod Values
+pub mod Places
+pub mod RoundTrip
+pub mod Given
+pub mod Writes

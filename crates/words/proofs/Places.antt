@@ -1,0 +1,125 @@
+-- Where a word's positions stand in its bytes: the bytes of a word are its positions in order, and a word looks at no byte past its own.
+use Prim.Native.Nat.{ℕ, suc, _+_, _≤_}
+use mathlib.Core.Path.{_≡_, sym, ap, _∙_}
+use mathlib.Core.Bool.{Bool, _&&_}
+use mathlib.Core.List.{List, [], _∷_, _++_, append-assoc}
+use native.Mathlib.Omega.{arith}
+use borrow.Author.Tests.{le-leb}
+use lib.Dec.{eqb}
+use lib.ListN.{length, getD, take, drop, length-append, take-append-drop}
+use lib.Seq.{take-at, getD-at, getD-drop, drop-drop, drop-cons, length-take-le}
+use Rattle.figures.specs.Decimal.{isDigit}
+use Rattle.words.specs.Kinds.{kindOf, isListed, indexOf}
+use Rattle.words.specs.Information.{infoRight, signOf, signRight}
+use Rattle.words.specs.Counts.{valueAt}
+use Rattle.words.specs.Records.{width, recordOf}
+use Rattle.words.specs.Reading.{wordSize, pos, dataIn, dataRight, figuresIn, textOf, isCounted, countOr, rightWord, unless, wordOf}
+use Rattle.words.specs.declared.counts.Count.{Count}
+use Rattle.words.specs.declared.counts.Valued.{Valued}
+use Rattle.words.specs.declared.records.Word.{Word}
+use Rattle.words.specs.declared.reading.Fault.the-variants.{Index, Information, Sign, Characters, Separator, Value}
+use Rattle.words.specs.declared.reading.OneWord.{OneWord}
+use Rattle.words.proofs.Checks.{data-length}
+
+-- the positions of a word
+pub record Places : Type 0 where
+  pub tens : ℕ
+  pub ones : ℕ
+  pub first : ℕ
+  pub second : ℕ
+  pub mode : ℕ
+  pub unit : ℕ
+  pub sign : ℕ
+  pub letters : List ℕ
+  pub end : ℕ
+
+abbrev pub indexBy : Places → ℕ
+indexBy p = indexOf (p .tens) (p .ones)
+
+-- the bytes of a word, and then the rest
+abbrev pub spread : Places → List ℕ → List ℕ
+spread p rest = p .tens ∷ p .ones ∷ p .first ∷ p .second ∷ p .mode ∷ p .unit ∷ p .sign ∷ (p .letters ++ (p .end ∷ rest))
+
+abbrev pub placesIn : Bool → List ℕ → Places
+placesIn wide s = record {
+  tens = pos 1 s;
+  ones = pos 2 s;
+  first = pos 3 s;
+  second = pos 4 s;
+  mode = pos 5 s;
+  unit = pos 6 s;
+  sign = pos 7 s;
+  letters = dataIn wide s;
+  end = getD s (7 + width wide) 0;
+}
+
+-- the rules in order, and the first that fails gives its fault
+abbrev pub rules : Bool → Bool → Bool → Bool → Bool → Bool → OneWord → OneWord
+rules index info sign letters end value r =
+    unless index Index (unless info Information (unless sign Sign (unless letters Characters (unless end Separator (unless value Value r)))))
+
+-- what the places count, by the index that they say
+abbrev pub valueBy : ℕ → Places → Valued
+valueBy i p = valueAt (kindOf i) i (p .unit) (signOf (p .sign)) (figuresIn (kindOf i) (p .letters))
+
+abbrev pub recordBy : ℕ → Places → Count → Word
+recordBy i p c = recordOf i (p .first ∷ p .second ∷ p .mode ∷ p .unit ∷ []) c (textOf (kindOf i) (p .letters))
+
+abbrev pub wordAt : ℕ → Places → OneWord
+wordAt i p =
+    rules (isDigit (p .tens) && (isDigit (p .ones) && isListed (kindOf i)))
+    (infoRight (kindOf i) (p .first) (p .second) (p .mode) (p .unit))
+    (signRight (kindOf i) (p .sign))
+    (dataRight (kindOf i) (p .letters))
+    (eqb (p .end) 32)
+    (isCounted (valueBy i p))
+    (rightWord (recordBy i p (countOr (valueBy i p))))
+
+abbrev pub wordBy : Places → OneWord
+wordBy p = wordAt (indexBy p) p
+
+long-word : (wide : Bool) (s : List ℕ) → wordSize wide ≤ length s → wordOf wide s ≡ wordBy (placesIn wide s)
+long-word wide s h = rw (le-leb (wordSize wide) (length s) h)
+
+-- a list that is long enough is its places, and then the rest
+pub spread-places : (wide : Bool) (s : List ℕ) → wordSize wide ≤ length s → s ≡ spread (placesIn wide s) (drop (wordSize wide) s)
+spread-places wide s h =
+    let next : suc (7 + width wide) ≡ wordSize wide = omega arith in
+    let tail : drop 7 s ≡ dataIn wide s ++ (getD s (7 + width wide) 0 ∷ drop (wordSize wide) s) =
+    sym (take-append-drop (width wide) (drop 7 s)) ∙ rw (drop-drop (width wide) 7 s, drop-cons s (7 + width wide) 0 (omega arith), next) in
+    drop-cons s 0 0 (omega arith)
+    ∙ rw (drop-cons s 1 0 (omega arith), drop-cons s 2 0 (omega arith), drop-cons s 3 0 (omega arith), drop-cons s 4 0 (omega arith), drop-cons s 5 0 (omega arith), drop-cons s 6 0 (omega arith)) (cc)
+
+pub spread-on : (p : Places) (more rest : List ℕ) → spread p more ++ rest ≡ spread p (more ++ rest)
+spread-on p more rest = rw (append-assoc (p .letters) (p .end ∷ more) rest)
+
+module _ (wide : Bool) (p : Places) (l : length (p .letters) ≡ width wide) where
+  spread-length : (rest : List ℕ) → length (spread p rest) ≡ wordSize wide + length rest
+  spread-length rest = omega (arith, length-append (p .letters) (p .end ∷ rest))
+
+  pub word-spread : (rest : List ℕ) → wordOf wide (spread p rest) ≡ wordBy p
+  word-spread rest =
+      let letters-are : dataIn wide (spread p rest) ≡ p .letters = take-at (p .letters) (p .end ∷ rest) (width wide) l in
+      let end-is : getD (spread p rest) (7 + width wide) 0 ≡ p .end =
+      sym (getD-drop 7 (spread p rest) (width wide) 0) ∙ getD-at (p .letters) (p .end) rest 0 (width wide) l in
+      long-word wide (spread p rest) (omega (arith, spread-length rest)) ∙ rw (letters-are, end-is)
+
+  pub size-spread : length (spread p []) ≡ wordSize wide
+  size-spread = spread-length [] ∙ omega arith
+
+  pub take-spread : (rest : List ℕ) → take (wordSize wide) (spread p rest) ≡ spread p []
+  take-spread rest = rw (← spread-on p [] rest) (take-at (spread p []) rest (wordSize wide) size-spread)
+
+-- a word looks at no byte past its own
+pub never-past : (wide : Bool) (s rest : List ℕ) → wordSize wide ≤ length s → wordOf wide (s ++ rest) ≡ wordOf wide s
+never-past wide s rest h =
+    let p = placesIn wide s in
+    let more = drop (wordSize wide) s in
+    let is : s ++ rest ≡ spread p (more ++ rest) = ap (λ r. r ++ rest) (spread-places wide s h) ∙ spread-on p more rest in
+    ap (wordOf wide) is ∙ word-spread wide p (data-length wide s h) (more ++ rest) ∙ sym (long-word wide s h)
+
+pub never-short : (wide : Bool) (s : List ℕ) → wordSize wide ≤ length s → wordOf wide (take (wordSize wide) s) ≡ wordOf wide s
+never-short wide s h =
+    let own = take (wordSize wide) s in
+    let long = length-take-le (wordSize wide) s h in
+    sym (never-past wide own (drop (wordSize wide) s) (omega arith)) ∙ ap (wordOf wide) (take-append-drop (wordSize wide) s)

@@ -1,0 +1,194 @@
+-- Laws of a word's bytes as they are written, part by part, and of the size that they have to hold.
+use Prim.Native.Nat.{ℕ, _+_, _-_, _^_, _≤_, _<_}
+use mathlib.Core.Path.{_≡_, refl, ap, _∙_}
+use mathlib.Core.Bool.{Bool, true, false, cond, not, _&&_, false≢true, and-eq-true-iff}
+use mathlib.Core.List.{List, [], _∷_, _++_, append-assoc, append-nil}
+use native.Mathlib.Numerals.{add-one}
+use native.Mathlib.Omega.{arith}
+use borrow.Author.Tests.{ltb-true, eqb-true}
+use borrow.Rule.Slice.PartMut.{putMid, midOf, same-len-mid}
+use lib.Dec.{eqb, leb, ltb}
+use lib.ListN.{length, getD, set, drop, replicate, length-append, length-set, drop-of-length-le}
+use lib.Seq.{take-all, drop-cons, set-at, append-snoc}
+use Rattle.figures.specs.Decimal.{digitsOf}
+use Rattle.figures.specs.Bytes.{laid}
+use Rattle.figures.proofs.Bytes.{length-on, length-mid, laid-cut, fill-on}
+use Rattle.figures.proofs.Decimal.{digits-on, digits-length}
+use Rattle.words.specs.Counts.{whole, minusZero, angleOf, lengthOf, constantOf, firstOf, secondOf, figuresOf}
+use Rattle.words.specs.Information.{infoRight, signByte}
+use Rattle.words.specs.Records.{width, kindIn, unitIn, countBy, countOf, tenTo, wholeRight, countRight, textRight, sameWhole, isRight}
+use Rattle.words.specs.Reading.{wordSize}
+use Rattle.words.specs.Writing.{dataOf, bytesIn}
+use Rattle.words.specs.declared.kinds.Kind.{Kind}
+use Rattle.words.specs.declared.counts.Whole.{Whole}
+use Rattle.words.specs.declared.counts.Count.{Count}
+use Rattle.words.specs.declared.records.Word.{Word}
+use Rattle.words.specs.declared.kinds.Kind.the-variants as kind
+use Rattle.words.specs.declared.counts.Count.the-variants as count
+
+-- one byte after done
+pub byte-on : (done room₀ room : List ℕ) (a b : ℕ) → a ≡ length done → length done < length room₀ → room ≡ done ++ drop (length done) room₀
+    → set room a b ≡ (done ++ (b ∷ [])) ++ drop (length (done ++ (b ∷ []))) room₀
+byte-on done room₀ room a b ea h e =
+    rw (ea, e, drop-cons room₀ (length done) 0 h, set-at done _ _ b (length done) refl, length-append done (b ∷ []), add-one, append-snoc)
+
+-- a pair's room once its ppm stands in it, and then the sign
+abbrev pub signedIn : List ℕ → List ℕ → ℕ → List ℕ
+signedIn out ppm sign = set (putMid 0 (length out - 4 - 0) out ppm) (length out - 4) sign
+
+pub signed-length : (out ppm : List ℕ) (sign : ℕ) → length ppm ≡ length (midOf 0 (length out - 4 - 0) out) → length (signedIn out ppm sign) ≡ length out
+signed-length out ppm sign h =
+    length-set (putMid 0 (length out - 4 - 0) out ppm) (length out - 4) sign ∙ same-len-mid 0 (length out - 4 - 0) out ppm h
+
+three-parts : (out ppm mm : List ℕ) (at k j p sign q : ℕ) → k ≡ at → j ≡ 3 → at + 4 ≡ length out → ppm ≡ digitsOf (length (midOf 0 k out)) p
+    → let room = set (putMid 0 k out ppm) at sign in
+    mm ≡ digitsOf (length (midOf (at + 1) j room)) q → putMid (at + 1) j room mm ≡ digitsOf at p ++ (sign ∷ digitsOf 3 q)
+three-parts out ppm mm at k j p sign q ek ej h ep eq =
+    let front = digitsOf k p in
+    let done = front ++ (sign ∷ []) in
+    let wide = digits-length k p in
+    let wider : length done ≡ at + 1 = omega (arith, length-append front (sign ∷ [])) in
+    let all = done ++ digitsOf j q in
+    let full : length out ≤ length all = omega (arith, length-append done (digitsOf j q), digits-length j q) in
+    let first = digits-on [] out out ppm 0 k p refl (omega arith) refl ep in
+    let second = byte-on front out (putMid 0 k out ppm) at sign (omega arith) (omega arith) first in
+    let room = set (putMid 0 k out ppm) at sign in
+    digits-on done out room mm (at + 1) j q (omega arith) (omega arith) second eq
+    ∙ rw (drop-of-length-le out {i = length all} full, append-nil, append-snoc front sign (digitsOf j q), ek, ej)
+
+pub pair-on : (out ppm mm : List ℕ) (p sign q : ℕ) → 4 ≤ length out → ppm ≡ digitsOf (length (midOf 0 (length out - 4 - 0) out)) p
+    → let room = signedIn out ppm sign in
+    let a = length out - 4 + 1 in
+    mm ≡ digitsOf (length (midOf a (length room - a) room)) q → putMid a (length room - a) room mm ≡ digitsOf (length out - 4) p ++ (sign ∷ digitsOf 3 q)
+pair-on out ppm mm p sign q h ep eq =
+    let room = signedIn out ppm sign in
+    let long : length ppm ≡ length (midOf 0 (length out - 4 - 0) out) = ap length ep ∙ digits-length (length (midOf 0 (length out - 4 - 0) out)) p in
+    let same = signed-length out ppm sign long in
+    three-parts out ppm mm (length out - 4) (length out - 4 - 0) (length room - (length out - 4 + 1)) p sign q (omega arith) (omega arith) (omega arith) ep eq
+
+-- a word's room once its index, its information and its sign stand in it
+abbrev pub headedIn : List ℕ → List ℕ → List ℕ → ℕ → List ℕ
+headedIn room index info sign = set (putMid 2 4 (putMid 0 2 room index) info) 6 sign
+
+pub headed-length : (room index info : List ℕ) (sign : ℕ) → length index ≡ length (midOf 0 2 room)
+    → length info ≡ length (midOf 2 4 (putMid 0 2 room index)) → length (headedIn room index info sign) ≡ length room
+headed-length room index info sign h g =
+    length-set (putMid 2 4 (putMid 0 2 room index) info) 6 sign ∙ same-len-mid 2 4 (putMid 0 2 room index) info g ∙ same-len-mid 0 2 room index h
+
+-- the room of the data
+pub data-room : (room : List ℕ) (n : ℕ) → 7 + n ≤ length room → length (midOf 7 (7 + n - 7) room) ≡ n
+data-room room n h = length-mid 7 (7 + n - 7) room (omega arith) ∙ omega arith
+
+abbrev headOf : ℕ → List ℕ → ℕ → List ℕ
+headOf i info sign = (digitsOf 2 i ++ info) ++ (sign ∷ [])
+
+head-length : (i : ℕ) (info : List ℕ) (sign : ℕ) → length info ≡ 4 → length (headOf i info sign) ≡ 7
+head-length i info sign h =
+    omega (arith, length-append (digitsOf 2 i ++ info) (sign ∷ []), length-append (digitsOf 2 i) info, digits-length 2 i)
+
+head-on : (room index laidInfo info : List ℕ) (i sign : ℕ) → 7 ≤ length room → length info ≡ 4 → index ≡ digitsOf (length (midOf 0 2 room)) i
+    → laidInfo ≡ laid info (midOf 2 4 (putMid 0 2 room index))
+    → headedIn room index laidInfo sign ≡ headOf i info sign ++ drop (length (headOf i info sign)) room
+head-on room index laidInfo info i sign h hi ei el =
+    let r₁ = putMid 0 2 room index in
+    let first = digits-on [] room room index 0 2 i refl (omega arith) refl ei in
+    let two = digits-length 2 i in
+    let kept = length-on (digitsOf 2 i) room r₁ (omega arith) first in
+    let four = length-mid 2 4 r₁ (omega arith) in
+    let is : laidInfo ≡ info = el ∙ laid-cut info (midOf 2 4 r₁) (omega arith) ∙ take-all (length (midOf 2 4 r₁)) info (omega arith) in
+    let second = fill-on (digitsOf 2 i) room r₁ info 2 4 (omega arith) first hi in
+    let six = length-append (digitsOf 2 i) info in
+    rw is (byte-on (digitsOf 2 i ++ info) room (putMid 2 4 r₁ info) 6 sign (omega arith) (omega arith) second)
+
+pub word-on : (room index laidInfo info figures : List ℕ) (i sign n : ℕ) → 8 + n ≤ length room → length info ≡ 4
+    → index ≡ digitsOf (length (midOf 0 2 room)) i → laidInfo ≡ laid info (midOf 2 4 (putMid 0 2 room index)) → length figures ≡ n
+    → set (putMid 7 (7 + n - 7) (headedIn room index laidInfo sign) figures) (7 + n) 32
+    ≡ (digitsOf 2 i ++ (info ++ (sign ∷ (figures ++ (32 ∷ []))))) ++ drop (n + 8) room
+word-on room index laidInfo info figures i sign n h hi ei el hf =
+    let head = headOf i info sign in
+    let seven = head-length i info sign hi in
+    let third = head-on room index laidInfo info i sign (omega arith) hi ei el in
+    let fourth = fill-on head room (headedIn room index laidInfo sign) figures 7 (7 + n - 7) (omega arith) third (omega arith) in
+    let long = length-append head figures in
+    let all = length-append (head ++ figures) (32 ∷ []) in
+    let end : length ((head ++ figures) ++ (32 ∷ [])) ≡ n + 8 = omega arith in
+    byte-on (head ++ figures) room (putMid 7 (7 + n - 7) (headedIn room index laidInfo sign) figures) (7 + n) 32 (omega arith) (omega arith) fourth
+    ∙ rw end (simp append-assoc)
+
+-- the bytes that are not a word's are left 0
+rest-zero : (wide : Bool) → drop {A = ℕ} (width wide + 8) (replicate 24 0) ≡ replicate (24 - wordSize wide) 0
+rest-zero true = refl
+rest-zero false = refl
+
+pub word-is : (wide : Bool) (w : Word) (i sign n : ℕ) (figures : List ℕ) → i ≡ w .index → sign ≡ signByte (w .minus) → n ≡ width wide
+    → figures ≡ dataOf n (figuresOf (countOf w)) (w .text)
+    → (digitsOf 2 i ++ (w .info ++ (sign ∷ (figures ++ (32 ∷ []))))) ++ drop (n + 8) (replicate 24 0) ≡ bytesIn wide w
+word-is wide w i sign n figures ei es en ef = rw (ef, ei, es, en, rest-zero wide)
+
+-- the size of a count is a record's, where the count has one
+either : (b : Bool) (x : Whole) (c d : Count) → firstOf c ≡ x → firstOf d ≡ x → firstOf (cond b c d) ≡ x
+either true x c d p q = p
+either false x c d p q = q
+
+first-angle : (u : ℕ) (x : Whole) → firstOf (angleOf u x) ≡ x
+first-angle u x = either (eqb u 50) x _ _ refl (either (eqb u 51) x _ _ refl (either (eqb u 52) x _ _ refl refl))
+
+first-length : (u : ℕ) (x : Whole) → firstOf (lengthOf u x) ≡ x
+first-length u x =
+    either (eqb u 48) x _ _ refl (either (eqb u 49) x _ _ refl (either (eqb u 54) x _ _ refl (either (eqb u 55) x _ _ refl refl)))
+
+first-constant : (i : ℕ) (x : Whole) → firstOf (constantOf i x) ≡ x
+first-constant i x = either (eqb i 58) x _ _ refl refl
+
+pub first-size : (k : Kind) (w : Word) → firstOf (countBy k w) .size ≤ w .size
+first-size kind.Missing w = omega arith
+first-size kind.Numbered w = omega arith
+first-size kind.Text w = omega arith
+first-size kind.Angle w = rw (first-angle (unitIn w) (whole (w .minus) (w .size))) (omega arith)
+first-size kind.Length w = rw (first-length (unitIn w) (whole (w .minus) (w .size))) (omega arith)
+first-size kind.Constant w = rw (first-constant (w .index) (whole (w .minus) (w .size))) (omega arith)
+first-size kind.Pair w = omega arith
+
+-- what a right record has in its word: no more than 16 digits
+whole-below : (x : Whole) (limit : ℕ) → limit ≤ 10 ^ 16 → wholeRight x limit ≡ true → x .size < 10 ^ 16
+whole-below x limit h e =
+    let rest = and-eq-true-iff (leb (x .minus) 1) (not (minusZero (x .minus) (x .size)) && ltb (x .size) limit) .0 e .1 in
+    let last = and-eq-true-iff (not (minusZero (x .minus) (x .size))) (ltb (x .size) limit) .0 rest .1 in
+    omega (arith, ltb-true (x .size) limit last)
+
+ten-below : (wide pair : Bool) → tenTo wide pair ≤ 10 ^ 16
+ten-below true true = omega arith
+ten-below true false = omega arith
+ten-below false true = omega arith
+ten-below false false = omega arith
+
+count-below : (wide : Bool) (c : Count) → countRight wide c ≡ true → firstOf c .size < 10 ^ 16
+count-below wide count.Nothing e = omega arith
+count-below wide count.Text e = omega arith
+count-below wide (count.Gon c) e = whole-below (c .0) 40000000 (omega arith) e
+count-below wide (count.Degree c) e = whole-below (c .0) 36000000 (omega arith) e
+count-below wide (count.Tenth c) e = whole-below (c .0) 12960000 (omega arith) e
+count-below wide (count.Mil c) e = whole-below (c .0) 64000000 (omega arith) e
+count-below wide (count.Metre c) e = whole-below (c .0) (tenTo wide false) (ten-below wide false) e
+count-below wide (count.Feet c) e = whole-below (c .0) (tenTo wide false) (ten-below wide false) e
+count-below wide (count.Ppm c) e = whole-below (c .0) (tenTo wide false) (ten-below wide false) e
+count-below wide (count.Pair p q) e =
+    whole-below p (tenTo wide true) (ten-below wide true) (and-eq-true-iff (wholeRight p (tenTo wide true)) (wholeRight q 1000) .0 e .0)
+
+third-and-fourth : (a b c d r : Bool) → a && (b && (c && (d && r))) ≡ true → (c ≡ true) × (d ≡ true)
+third-and-fourth true true true true r e = (refl, refl)
+third-and-fourth true true true false r e = absurd (false≢true e)
+third-and-fourth true true false d r e = absurd (false≢true e)
+third-and-fourth true false c d r e = absurd (false≢true e)
+third-and-fourth false b c d r e = absurd (false≢true e)
+
+pub right-size : (wide : Bool) (w : Word) → isRight wide w ≡ true → w .size < 10 ^ 16
+right-size wide w e =
+    let long = eqb (length (w .info)) 4 && eqb (length (w .text)) 16 in
+    let informed = infoRight (kindIn w) (getD (w .info) 0 0) (getD (w .info) 1 0) (getD (w .info) 2 0) (unitIn w) in
+    let first = firstOf (countOf w) in
+    let same = sameWhole first (w .minus) (w .size) in
+    let rest = sameWhole (secondOf (countOf w)) (w .mmminus) (w .mm) && textRight wide (kindIn w) (w .text) in
+    let both = third-and-fourth long informed (countRight wide (countOf w)) same rest e in
+    let size = and-eq-true-iff (eqb (first .minus) (w .minus)) (eqb (first .size) (w .size)) .0 (both .1) .1 in
+    omega (arith, eqb-true (first .size) (w .size) size, count-below wide (countOf w) (both .0))

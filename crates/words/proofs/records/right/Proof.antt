@@ -1,0 +1,167 @@
+-- `right` meets its contract: each return is what the checks passed so far, and the one that fails, leave of `isRight`.
+use mathlib.Core.Path.{_≡_}
+use mathlib.Core.Bool.{Bool, true, false, cond, _&&_}
+use borrow.Author.Tests.{eq-eqb}
+use borrow.Author.Needs.{needs}
+use lib.Dec.{eqb}
+use lib.ListN.{length, getD}
+use Rattle.words.specs.declared.records.Word.{Word}
+use Rattle.words.specs.Information.{infoRight}
+use Rattle.words.specs.declared.information.Informed.the-variants.{Not, Right}
+use Rattle.words.specs.Records.{kindIn, unitIn, countOf, countRight, sameWhole}
+use Rattle.words.specs.Counts.{firstOf, secondOf}
+use Rattle.words.proofs.Checks.{failed, passed, informed-not, informed-right}
+use Rattle.words.proofs.records.right.Statement.{statement}
+use Rattle.words.proofs.records.right.Tie as tie
+
+-- positions 3-6 as `right` reads them
+abbrev infoIs : Word → Bool
+infoIs w = infoRight (kindIn w) (getD (w .info) 0 0) (getD (w .info) 1 0) (getD (w .info) 2 0) (unitIn w)
+
+kind-of-requires : tie.Need-kind-of-requires
+kind-of-requires c κs = search needs
+
+array-read-informed-by : tie.Need-array-read-informed-by
+array-read-informed-by c = search needs
+
+array-read-informed-by-2 : tie.Need-array-read-informed-by-2
+array-read-informed-by-2 c = search needs
+
+array-read-informed-by-3 : tie.Need-array-read-informed-by-3
+array-read-informed-by-3 c = search needs
+
+array-read-informed-by-4 : tie.Need-array-read-informed-by-4
+array-read-informed-by-4 c = search needs
+
+informed-by-requires : tie.Need-informed-by-requires
+informed-by-requires c κs = search needs
+
+enum-told : tie.Need-enum-told
+enum-told c = search needs
+
+enum-told-2 : tie.Need-enum-told-2
+enum-told-2 c = search needs
+
+-- a record's two arrays are as long as its type says
+long : (c : tie.Start) → eqb (length (c .args .w .info)) 4 && eqb (length (c .args .w .text)) 16 ≡ true
+long c = rw (eq-eqb (length (c .args .w .info)) 4 (search needs), eq-eqb (length (c .args .w .text)) 16 (search needs))
+
+-- the places where a check is passed, each by the next
+abbrev by-info : tie.After-enum-told → tie.Start
+by-info c = c .before .before .before .before .before .before
+
+abbrev by-count : tie.Else1 → tie.After-enum-told
+by-count c = c .before .before .before
+
+abbrev by-first : tie.Else2 → tie.Else1
+by-first c = c .before .before .before
+
+-- what each check answers
+informs : (c : tie.After-informed-by) → let w = c .before .before .before .before .args .w in c .informed-by .result ≡ cond (infoIs w) Right Not
+informs c = rw (← c .before .before .before .kind-of .ensures) (c .informed-by .ensures)
+
+counts : (c : tie.After-count-right) →
+    let a = by-info (c .before .before) .args in
+    c .count-right .result ≡ countRight (a .wide) (countOf (a .w))
+counts c = rw (← c .before .count-of .ensures) (c .count-right .ensures)
+
+firsts : (c : tie.After-same-whole) →
+    let w = by-info (by-count (c .before .before)) .args .w in
+    c .same-whole .result ≡ sameWhole (firstOf (countOf w)) (w .minus) (w .size)
+firsts c = rw (← c .before .before .before .before .count-of .ensures, ← c .before .first-of .ensures) (c .same-whole .ensures)
+
+seconds : (c : tie.After-same-whole2) →
+    let w = by-info (by-count (by-first (c .before .before))) .args .w in
+    c .same-whole2 .result ≡ sameWhole (secondOf (countOf w)) (w .mmminus) (w .mm)
+seconds c =
+    rw (← by-first (c .before .before) .before .before .count-of .ensures, ← c .before .second-of .ensures) (c .same-whole2 .ensures)
+
+-- and what one that is passed says
+informed : (c : tie.After-enum-told) → infoIs (by-info c .args .w) ≡ true
+informed c = informed-right (informs (c .before .before)) (c .enum-told .given .1)
+
+counted : (c : tie.Else1) → let a = by-info (by-count c) .args in countRight (a .wide) (countOf (a .w)) ≡ true
+counted c = passed (counts (c .before)) (c .if1 .left)
+
+same-first : (c : tie.Else2) →
+    let w = by-info (by-count (by-first c)) .args .w in
+    sameWhole (firstOf (countOf w)) (w .minus) (w .size) ≡ true
+same-first c = passed (firsts (c .before)) (c .if2 .left)
+
+returns : tie.Need-returns
+returns c =
+    let start = c .before .before .before .before .before .before in
+    let bad : infoIs (start .args .w) ≡ false = informed-not (informs (c .before .before)) (c .enum-told2 .given .1) in
+    rw (long start, bad)
+
+count-of-requires : tie.Need-count-of-requires
+count-of-requires c κs = search needs
+
+count-right-requires : tie.Need-count-right-requires
+count-right-requires c κs = search needs
+
+returns-2 : tie.Need-returns-2
+returns-2 c =
+    let info = c .before .before .before in
+    rw (long (by-info info), informed info, failed (counts (c .before)) (c .if1 .taken))
+
+first-of-requires : tie.Need-first-of-requires
+first-of-requires c κs = search needs
+
+same-whole-requires : tie.Need-same-whole-requires
+same-whole-requires c κs = search needs
+
+returns-3 : tie.Need-returns-3
+returns-3 c =
+    let count = c .before .before .before in
+    let info = by-count count in
+    rw (long (by-info info), informed info, counted count, failed (firsts (c .before)) (c .if2 .taken))
+
+second-of-requires : tie.Need-second-of-requires
+second-of-requires c κs = search needs
+
+same-whole-requires-2 : tie.Need-same-whole-requires-2
+same-whole-requires-2 c κs = search needs
+
+returns-4 : tie.Need-returns-4
+returns-4 c =
+    let first = c .before .before .before in
+    let count = by-first first in
+    let info = by-count count in
+    rw (long (by-info info), informed info, counted count, same-first first, failed (seconds (c .before)) (c .if3 .taken))
+
+text-right-requires : tie.Need-text-right-requires
+text-right-requires c κs = search needs
+
+returns-5 : tie.Need-returns-5
+returns-5 c =
+    let first = c .before .before .before .before in
+    let count = by-first first in
+    let info = by-count count in
+    rw (long (by-info info), informed info, counted count, same-first first, passed (seconds (c .before .before)) (c .before .if3 .left), ← info .before .before .before .before .before .kind-of .ensures)
+    (c .text-right .ensures)
+
+pub right-spec : {M : Type 1} → statement M
+right-spec =
+    tie.close
+    (tie.spec
+    kind-of-requires
+    array-read-informed-by
+    array-read-informed-by-2
+    array-read-informed-by-3
+    array-read-informed-by-4
+    informed-by-requires
+    enum-told
+    enum-told-2
+    returns
+    count-of-requires
+    count-right-requires
+    returns-2
+    first-of-requires
+    same-whole-requires
+    returns-3
+    second-of-requires
+    same-whole-requires-2
+    returns-4
+    text-right-requires
+    returns-5)

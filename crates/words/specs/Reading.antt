@@ -1,0 +1,152 @@
+-- One word: "positions 1-2 index; 3-6 information; 7 sign; 8-15 (or 8-23) data; one blank, also after the last word."
+use Prim.Native.Nat.{ℕ, _+_, _-_}
+use mathlib.Core.Bool.{Bool, true, false, cond, not, _&&_, _||_}
+use mathlib.Core.List.{List, [], _∷_}
+use lib.Dec.{eqb, leb}
+use lib.ListN.{length, getD, take, drop, replicate}
+use Rattle.figures.specs.Bytes.{every, laid}
+use Rattle.figures.specs.Decimal.{isDigit, numberOf}
+use Rattle.words.specs.Kinds.{kindOf, indexOf, indexRight, isTextual}
+use Rattle.words.specs.Information.{infoRight, isSign, signOf, signRight}
+use Rattle.words.specs.Counts.{valueAt}
+use Rattle.words.specs.Records.{width, blank, recordOf, isGraphic}
+use Rattle.words.specs.declared.kinds.Kind.{Kind}
+use Rattle.words.specs.declared.kinds.Kind.the-variants as kind
+use Rattle.words.specs.declared.counts.Count.{Count}
+use Rattle.words.specs.declared.counts.Count.the-variants as count
+use Rattle.words.specs.declared.counts.Figures.{Figures}
+use Rattle.words.specs.declared.counts.Figures.the-variants as figures
+use Rattle.words.specs.declared.counts.Valued.{Valued}
+use Rattle.words.specs.declared.counts.Valued.the-variants as valued
+use Rattle.words.specs.declared.records.Word.{Word}
+use Rattle.words.specs.declared.reading.Fault.{Fault}
+use Rattle.words.specs.declared.reading.Fault.the-variants.{Short, Index, Information, Sign, Characters, Separator, Value}
+use Rattle.words.specs.declared.reading.Judged.{Judged}
+use Rattle.words.specs.declared.reading.Judged.the-variants.{Right, Wrong}
+use Rattle.words.specs.declared.reading.OneWord.{OneWord}
+use Rattle.words.specs.declared.reading.Spelled.{Spelled}
+use Rattle.words.specs.declared.reading.Spelled.the-variants as spelled
+use Rattle.words.specs.declared.reading.Parted.{Parted}
+use Rattle.words.specs.declared.reading.Parted.the-variants as parted
+
+-- "Refusing a block or a list": the numbers that one word's bytes can bring
+abbrev pub faultNumber : Fault → ℕ
+faultNumber Short = 2
+faultNumber Index = 5
+faultNumber Information = 6
+faultNumber Sign = 7
+faultNumber Characters = 8
+faultNumber Separator = 9
+faultNumber Value = 10
+
+-- "A word with its blank takes 16 or 24 bytes."
+abbrev pub wordSize : Bool → ℕ
+wordSize wide = width wide + 8
+
+-- position p, counted from 1
+abbrev pub pos : ℕ → List ℕ → ℕ
+pos p s = getD s (p - 1) 0
+
+-- positions 8-15 or 8-23
+abbrev pub dataIn : Bool → List ℕ → List ℕ
+dataIn wide s = take (width wide) (drop 7 s)
+
+abbrev pub indexIn : List ℕ → ℕ
+indexIn s = indexOf (pos 1 s) (pos 2 s)
+
+abbrev pub kindAt : List ℕ → Kind
+kindAt s = kindOf (indexIn s)
+
+abbrev pub infoIn : List ℕ → List ℕ
+infoIn s = pos 3 s ∷ pos 4 s ∷ pos 5 s ∷ pos 6 s ∷ []
+
+-- "A pair is 4 digits (12 when wide), a sign, 3 digits: ppm, then mm"
+abbrev pub ppmIn : List ℕ → List ℕ
+ppmIn d = take (length d - 4) d
+
+abbrev pub underIn : List ℕ → ℕ
+underIn d = getD d (length d - 4) 0
+
+abbrev pub mmIn : List ℕ → List ℕ
+mmIn d = drop (length d - 3) d
+
+-- "Text is bytes 33 to 126 .. Digits are all 0-9. A pair is .."
+abbrev pub dataRight : Kind → List ℕ → Bool
+dataRight kind.Missing d = false
+dataRight kind.Numbered d = every isGraphic d
+dataRight kind.Text d = every isGraphic d
+dataRight kind.Angle d = every isDigit d
+dataRight kind.Length d = every isDigit d
+dataRight kind.Constant d = every isDigit d
+dataRight kind.Pair d = every isDigit (ppmIn d) && (isSign (underIn d) && every isDigit (mmIn d))
+
+-- what right data say
+abbrev pub figuresIn : Kind → List ℕ → Figures
+figuresIn kind.Missing d = figures.Text
+figuresIn kind.Numbered d = figures.Text
+figuresIn kind.Text d = figures.Text
+figuresIn kind.Angle d = figures.Number (numberOf d)
+figuresIn kind.Length d = figures.Number (numberOf d)
+figuresIn kind.Constant d = figures.Number (numberOf d)
+figuresIn kind.Pair d = figures.Pair (numberOf (ppmIn d)) (signOf (underIn d)) (numberOf (mmIn d))
+
+-- the text of a word that has text, from the start of 16 bytes
+abbrev pub textOf : Kind → List ℕ → List ℕ
+textOf k d = cond (isTextual k) (laid d (replicate 16 0)) (replicate 16 0)
+
+-- the count of a word whose positions 1-7 and data are right, or that it is refused by 10
+abbrev pub valueIn : Bool → List ℕ → Valued
+valueIn wide s = valueAt (kindAt s) (indexIn s) (pos 6 s) (signOf (pos 7 s)) (figuresIn (kindAt s) (dataIn wide s))
+
+abbrev pub isCounted : Valued → Bool
+isCounted valued.Not = false
+isCounted (valued.Counted c) = true
+
+abbrev pub countOr : Valued → Count
+countOr valued.Not = count.Nothing
+countOr (valued.Counted c) = c
+
+abbrev pub recordIn : Bool → List ℕ → Word
+recordIn wide s = recordOf (indexIn s) (infoIn s) (countOr (valueIn wide s)) (textOf (kindAt s) (dataIn wide s))
+
+abbrev pub faulty : Fault → OneWord
+faulty f = record { answer = Wrong f; word = blank }
+
+abbrev pub rightWord : Word → OneWord
+rightWord w = record { answer = Right; word = w }
+
+-- the first rule that fails gives its fault
+abbrev pub unless : Bool → Fault → OneWord → OneWord
+unless holds f r = cond holds r (faulty f)
+
+-- "then 5 to 10 in order"
+abbrev pub wordOf : Bool → List ℕ → OneWord
+wordOf wide s =
+    unless (leb (wordSize wide) (length s)) Short
+    (unless (indexRight (pos 1 s) (pos 2 s)) Index
+    (unless (infoRight (kindAt s) (pos 3 s) (pos 4 s) (pos 5 s) (pos 6 s)) Information
+    (unless (signRight (kindAt s) (pos 7 s)) Sign
+    (unless (dataRight (kindAt s) (dataIn wide s)) Characters
+    (unless (eqb (getD s (7 + width wide) 0) 32) Separator
+    (unless (isCounted (valueIn wide s)) Value
+    (rightWord (recordIn wide s))))))))
+
+-- the answers of the checks on data and separator
+abbrev pub digitsAt : List ℕ → Spelled
+digitsAt d = cond (leb (length d) 16 && every isDigit d) (spelled.Says (figures.Number (numberOf d))) spelled.Not
+
+abbrev pub pairAt : List ℕ → Spelled
+pairAt d =
+    cond (leb 4 (length d) && leb (length d) 20 && dataRight kind.Pair d) (spelled.Says (figuresIn kind.Pair d)) spelled.Not
+
+abbrev pub spelledAt : Kind → List ℕ → Spelled
+spelledAt kind.Missing d = spelled.Not
+spelledAt kind.Numbered d = cond (every isGraphic d) (spelled.Says figures.Text) spelled.Not
+spelledAt kind.Text d = cond (every isGraphic d) (spelled.Says figures.Text) spelled.Not
+spelledAt kind.Angle d = digitsAt d
+spelledAt kind.Length d = digitsAt d
+spelledAt kind.Constant d = digitsAt d
+spelledAt kind.Pair d = pairAt d
+
+abbrev pub partedAt : ℕ → Parted
+partedAt b = cond (eqb b 32) parted.Blank parted.Not

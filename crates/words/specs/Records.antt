@@ -1,0 +1,92 @@
+-- "A record holds index, information and value, and text where there is text; a value, mm or text byte its word doesn't use is 0."
+use Prim.Native.Nat.{ℕ, _-_, _^_}
+use mathlib.Core.Bool.{Bool, true, false, cond, not, _&&_, _||_}
+use mathlib.Core.List.{List}
+use lib.Dec.{eqb, leb, ltb}
+use lib.ListN.{length, getD, take, drop, replicate}
+use Rattle.figures.specs.Bytes.{within, every}
+use Rattle.words.specs.Kinds.{kindOf, isTextual}
+use Rattle.words.specs.Information.{infoRight}
+use Rattle.words.specs.Counts.{whole, minusZero, angleOf, lengthOf, constantOf, firstOf, secondOf}
+use Rattle.words.specs.declared.kinds.Kind.{Kind}
+use Rattle.words.specs.declared.kinds.Kind.the-variants as kind
+use Rattle.words.specs.declared.counts.Whole.{Whole}
+use Rattle.words.specs.declared.counts.Count.{Count}
+use Rattle.words.specs.declared.counts.Count.the-variants.{Nothing, Text, Gon, Degree, Tenth, Mil, Metre, Feet, Ppm, Pair}
+use Rattle.words.specs.declared.records.Word.{Word}
+
+-- "With `*` the words are 16 wide, otherwise 8 wide."
+abbrev pub width : Bool → ℕ
+width wide = cond wide 16 8
+
+abbrev pub blank : Word
+blank = record { index = 0; info = replicate 4 0; minus = 0; mmminus = 0; size = 0; mm = 0; text = replicate 16 0 }
+
+abbrev pub recordOf : ℕ → List ℕ → Count → List ℕ → Word
+recordOf i info c t = record { index = i; info = info; minus = firstOf c .minus; mmminus = secondOf c .minus; size = firstOf c .size; mm = secondOf c .size; text = t }
+
+abbrev pub kindIn : Word → Kind
+kindIn w = kindOf (w .index)
+
+abbrev pub unitIn : Word → ℕ
+unitIn w = getD (w .info) 3 0
+
+-- what a record counts, by its kind and unit
+abbrev pub countBy : Kind → Word → Count
+countBy kind.Missing w = Nothing
+countBy kind.Numbered w = Text
+countBy kind.Text w = Text
+countBy kind.Angle w = angleOf (unitIn w) (whole (w .minus) (w .size))
+countBy kind.Length w = lengthOf (unitIn w) (whole (w .minus) (w .size))
+countBy kind.Constant w = constantOf (w .index) (whole (w .minus) (w .size))
+countBy kind.Pair w = Pair (whole (w .minus) (w .size)) (whole (w .mmminus) (w .mm))
+
+abbrev pub countOf : Word → Count
+countOf w = countBy (kindIn w) w
+
+-- the first number with more digits than a word of the width has, or than the ppm of its pair
+abbrev pub tenTo : Bool → Bool → ℕ
+tenTo wide pair = 10 ^ cond pair (width wide - 4) (width wide)
+
+-- a sign, no minus before zero, and a size below the limit
+abbrev pub wholeRight : Whole → ℕ → Bool
+wholeRight w limit = leb (w .minus) 1 && (not (minusZero (w .minus) (w .size)) && ltb (w .size) limit)
+
+abbrev pub countRight : Bool → Count → Bool
+countRight wide Nothing = false
+countRight wide Text = true
+countRight wide (Gon c) = wholeRight (c .0) 40000000
+countRight wide (Degree c) = wholeRight (c .0) 36000000
+countRight wide (Tenth c) = wholeRight (c .0) 12960000
+countRight wide (Mil c) = wholeRight (c .0) 64000000
+countRight wide (Metre c) = wholeRight (c .0) (tenTo wide false)
+countRight wide (Feet c) = wholeRight (c .0) (tenTo wide false)
+countRight wide (Ppm c) = wholeRight (c .0) (tenTo wide false)
+countRight wide (Pair p q) = wholeRight p (tenTo wide true) && wholeRight q 1000
+
+-- "Text is bytes 33 to 126"
+abbrev pub isGraphic : ℕ → Bool
+isGraphic = within 33 126
+
+abbrev pub isZero : ℕ → Bool
+isZero = within 0 0
+
+abbrev pub textRight : Bool → Kind → List ℕ → Bool
+textRight wide k t = cond (isTextual k) (every isGraphic (take (width wide) t) && every isZero (drop (width wide) t)) (every isZero t)
+
+abbrev pub sameWhole : Whole → ℕ → ℕ → Bool
+sameWhole w m n = eqb (w .minus) m && eqb (w .size) n
+
+-- a record that some word of the width gives: `Given`, in proofs/Given.antt, shows that this is just what it says
+abbrev pub isRight : Bool → Word → Bool
+isRight wide w =
+    (eqb (length (w .info)) 4 && eqb (length (w .text)) 16)
+    && (infoRight (kindIn w) (getD (w .info) 0 0) (getD (w .info) 1 0) (getD (w .info) 2 0) (unitIn w)
+    && (countRight wide (countOf w)
+    && (sameWhole (firstOf (countOf w)) (w .minus) (w .size)
+    && (sameWhole (secondOf (countOf w)) (w .mmminus) (w .mm)
+    && textRight wide (kindIn w) (w .text)))))
+
+-- the typed count of a record that some word of either width gives
+abbrev pub typedOf : Word → Count
+typedOf w = cond (isRight false w || isRight true w) (countOf w) Nothing

@@ -1,0 +1,203 @@
+// The record that a word gives, as a host in C lends it, and the count that a record holds.
+ghost use mathlib.Core.Path.{_≡_};
+ghost use Rattle.words.specs.Records.{blank, recordOf, countOf, tenTo, wholeRight, countRight, textRight, sameWhole, isRight, typedOf};
+use crate::counts::Count;
+use crate::counts::Whole;
+use crate::counts::angle_of;
+use crate::counts::constant_of;
+use crate::counts::first_of;
+use crate::counts::length_of;
+use crate::counts::second_of;
+use crate::information::Informed;
+use crate::information::informed_by;
+use crate::kinds::Kind;
+use crate::kinds::kind_of;
+use crate::kinds::textual;
+
+// index, information, the value's sign and size, mm's sign and size, text. A sign is 0 or 1; what a word doesn't use is 0.
+#[repr(C)]
+pub struct Word {
+    pub index: u16,
+    pub info: [u8; 4],
+    pub minus: u8,
+    pub mmminus: u8,
+    pub size: u64,
+    pub mm: u64,
+    pub text: [u8; 16],
+}
+
+// The record that holds nothing.
+pub fn blank_word() -> Word
+    ensures { λ r. ⌜ r ≡ blank ⌝ }
+{
+    let info = [0; 4];
+    let text = [0; 16];
+    Word {
+        index: 0,
+        info: info,
+        minus: 0,
+        mmminus: 0,
+        size: 0,
+        mm: 0,
+        text: text,
+    }
+}
+
+// The record of a count.
+pub(crate) fn record_of(index: u16, info: [u8; 4], count: Count, text: [u8; 16]) -> Word
+    ensures { λ r. ⌜ r ≡ recordOf index info count text ⌝ }
+{
+    let first = first_of(count);
+    let second = second_of(count);
+    Word {
+        index: index,
+        info: info,
+        minus: first.minus,
+        mmminus: second.minus,
+        size: first.size,
+        mm: second.size,
+        text: text,
+    }
+}
+
+// The count that a record says, by its kind and unit.
+pub(crate) fn count_of(w: Word) -> Count
+    ensures { λ r. ⌜ r ≡ countOf w ⌝ }
+{
+    let info = w.info;
+    let unit = info[3];
+    let whole = Whole {
+        minus: w.minus,
+        size: w.size,
+    };
+    let kind = kind_of(w.index);
+    match kind {
+        Kind::Missing => Count::Nothing,
+        Kind::Numbered => Count::Text,
+        Kind::Text => Count::Text,
+        Kind::Angle => angle_of(unit, whole),
+        Kind::Length => length_of(unit, whole),
+        Kind::Constant => constant_of(w.index, whole),
+        Kind::Pair => {
+            let mm = Whole {
+                minus: w.mmminus,
+                size: w.mm,
+            };
+            Count::Pair(whole, mm)
+        }
+    }
+}
+
+// The first number that has more digits than a word of the width, or than the ppm of its pair.
+fn ten_to(wide: bool, pair: bool) -> u64
+    ensures { λ r. ⌜ r ≡ tenTo wide pair ⌝ }
+{
+    if pair {
+        if wide {
+            return 1_000_000_000_000;
+        }
+        return 10_000;
+    }
+    if wide {
+        return 10_000_000_000_000_000;
+    }
+    100_000_000
+}
+
+fn whole_right(whole: Whole, limit: u64) -> bool
+    ensures { λ r. ⌜ r ≡ wholeRight whole limit ⌝ }
+{
+    if 1 < whole.minus {
+        return false;
+    }
+    if whole.minus == 1 {
+        if whole.size == 0 {
+            return false;
+        }
+    }
+    whole.size < limit
+}
+
+// Whether a word of the width can have the count.
+fn count_right(count: Count, wide: bool) -> bool
+    ensures { λ r. ⌜ r ≡ countRight wide count ⌝ }
+{
+    match count {
+        Count::Nothing => false,
+        Count::Text => true,
+        Count::Gon(c) => whole_right(c.0, 40_000_000),
+        Count::Degree(c) => whole_right(c.0, 36_000_000),
+        Count::Tenth(c) => whole_right(c.0, 12_960_000),
+        Count::Mil(c) => whole_right(c.0, 64_000_000),
+        Count::Metre(c) => whole_right(c.0, ten_to(wide, false)),
+        Count::Feet(c) => whole_right(c.0, ten_to(wide, false)),
+        Count::Ppm(c) => whole_right(c.0, ten_to(wide, false)),
+        Count::Pair(ppm, mm) => {
+            if !whole_right(ppm, ten_to(wide, true)) {
+                return false;
+            }
+            whole_right(mm, 1_000)
+        }
+    }
+}
+
+// Whether a word of that kind and width can have the text.
+fn text_right(kind: Kind, text: [u8; 16], wide: bool) -> bool
+    ensures { λ r. ⌜ r ≡ textRight wide kind text ⌝ }
+{
+    if !textual(kind) {
+        return figures::all_within(&text, 0, 0);
+    }
+    if wide {
+        return figures::all_within(&text, 33, 126);
+    }
+    if !figures::all_within(&text[0..8], 33, 126) {
+        return false;
+    }
+    figures::all_within(&text[8..16], 0, 0)
+}
+
+fn same_whole(w: Whole, minus: u8, size: u64) -> bool
+    ensures { λ r. ⌜ r ≡ sameWhole w minus size ⌝ }
+{
+    if w.minus == minus {
+        return w.size == size;
+    }
+    false
+}
+
+// Whether some word of the width gives the record.
+pub fn right(w: Word, wide: bool) -> bool
+    ensures { λ r. ⌜ r ≡ isRight wide w ⌝ }
+{
+    let kind = kind_of(w.index);
+    let info = w.info;
+    let text = w.text;
+    let Informed::Right = informed_by(kind, info[0], info[1], info[2], info[3]) else {
+        return false;
+    };
+    let count = count_of(w);
+    if !count_right(count, wide) {
+        return false;
+    }
+    if !same_whole(first_of(count), w.minus, w.size) {
+        return false;
+    }
+    if !same_whole(second_of(count), w.mmminus, w.mm) {
+        return false;
+    }
+    text_right(kind, text, wide)
+}
+
+// The typed count of a record; Nothing where no word of either width gives the record.
+pub fn count(w: Word) -> Count
+    ensures { λ r. ⌜ r ≡ typedOf w ⌝ }
+{
+    if right(w, false) {
+        return count_of(w);
+    }
+    if right(w, true) {
+        return count_of(w);
+    }
+    Count::Nothing
+}

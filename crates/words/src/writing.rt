@@ -1,0 +1,99 @@
+// The bytes of a record, by value.
+ghost use mathlib.Core.Path.{_≡_};
+ghost use Prim.Native.Nat.{_<_, _≤_, _^_};
+ghost use mathlib.Core.Logic.{_⊎_};
+ghost use lib.ListN.{length};
+ghost use Rattle.words.specs.Counts.{firstOf};
+ghost use Rattle.words.specs.Information.{signByte};
+ghost use Rattle.words.specs.Writing.{dataOf, spellingOf, bytesIn};
+use crate::counts::Figures;
+use crate::counts::figures_of;
+use crate::reading::width_of;
+use crate::records::Word;
+use crate::records::count_of;
+use crate::records::right;
+
+// Whether a word of the width gives the record.
+pub enum Spelt {
+    Not,
+    Right,
+}
+
+// The answer, and the word's 16 or 24 bytes from the start of 24; the rest is 0, and all where no word of the width gives the record.
+pub struct Spelling {
+    pub answer: Spelt,
+    pub bytes: [u8; 24],
+}
+
+fn sign_byte(minus: u8) -> u8
+    ensures { λ r. ⌜ r ≡ signByte minus ⌝ }
+{
+    if minus == 0 { b'+' } else { b'-' }
+}
+
+// Fills a word's data: as many characters as there are bytes.
+fn put_figures(says: Figures, text: [u8; 16], out: &mut [u8])
+    requires { ⌜ (4 ≤ length (now out)) × (length (now out) ≤ 16) ⌝ }
+    ensures { λ _. ⌜ now (out .exit) ≡ dataOf (length (now (out .entry))) says text ⌝ }
+{
+    match says {
+        Figures::Text => {
+            figures::lay(&text, out);
+        }
+        Figures::Number(n) => {
+            figures::put_number(n, out);
+        }
+        Figures::Pair(ppm, under, mm) => {
+            let at = out.len() - 4;
+            let from = at + 1;
+            figures::put_number(ppm, &mut out[0..at]);
+            out[at] = sign_byte(under);
+            figures::put_number(mm, &mut out[from..]);
+        }
+    }
+}
+
+fn wide_index(index: u16) -> u64
+    ensures { λ r. ⌜ r ≡ index ⌝ }
+{
+    index as u64
+}
+
+// The bytes of a record that some word of the width gives.
+fn bytes_of(w: Word, wide: bool) -> [u8; 24]
+    requires { ⌜ w .size < 10 ^ 16 ⌝ }
+    ensures { λ r. ⌜ r ≡ bytesIn wide w ⌝ }
+{
+    let info = w.info;
+    let text = w.text;
+    let count = count_of(w);
+    let says = figures_of(count);
+    let end = 7 + width_of(wide);
+    let mut bytes = [0; 24];
+    figures::put_number(wide_index(w.index), &mut bytes[0..2]);
+    figures::lay(&info, &mut bytes[2..6]);
+    bytes[6] = sign_byte(w.minus);
+    put_figures(says, text, &mut bytes[7..end]);
+    bytes[end] = b' ';
+    bytes
+}
+
+// The word of that width that gives the record.
+pub fn spell(w: Word, wide: bool) -> Spelling
+    ensures { λ r. ⌜ r ≡ spellingOf wide w ⌝ }
+{
+    if !right(w, wide) {
+        let answer = Spelt::Not;
+        let none = [0; 24];
+        return Spelling {
+            answer: answer,
+            bytes: none,
+        };
+    }
+    let answer = Spelt::Right;
+    let bytes = bytes_of(w, wide);
+    Spelling {
+        answer: answer,
+        bytes: bytes,
+    }
+}
