@@ -1,0 +1,5 @@
+pub mod Seek
+pub mod Ranges
+pub mod Kept
+pub mod Laying
+pub mod Images

@@ -1,0 +1,134 @@
+-- Laws of the loops over a state's lists: parameters in range, values and entries that may stand, a list mapped into an array, and the
+-- entries taken back newest first.
+use Prim.Native.Nat.{ℕ, zero, suc, _+_, _-_, _<_, _≤_}
+use mathlib.Core.Path.{_≡_, sym, _∙_}
+use mathlib.Core.Bool.{Bool, true, false, not, _&&_}
+use mathlib.Core.List.{List, map}
+use native.Mathlib.Numerals.{add-one}
+use native.Mathlib.Omega.{arith}
+use borrow.Author.Tests.{not-true, not-false, le-leb, lt-leb, le-ltb, lt-ltb}
+use lib.ListN.{length, getD, set, take, drop, drop-of-length-le, length-map, List·getD-map}
+use lib.Seq.{drop-cons, take-suc, take-suc-set, take-all}
+use Rattle.state.specs.declared.settings.Row.{Row}
+use Rattle.state.specs.declared.values.Value.{Value}
+use Rattle.state.specs.declared.entries.Entry.{Entry}
+use Rattle.state.specs.Settings.{inRanges}
+use Rattle.state.specs.Values.{keptRight}
+use Rattle.state.specs.Entries.{blankEntry, entryRight, isBlank, entriesRight, valuesRight, backRight, putsBack, sound}
+
+and-on : {t r : Bool} → t ≡ true → t && r ≡ r
+and-on e = rw e
+
+and-off : {t : Bool} (r : Bool) → t ≡ false → t && r ≡ false
+and-off r e = rw e
+
+-- of a call that ensures that its result r is t, where `if !r` was left, and where it was taken
+
+pub held : {r t : Bool} → r ≡ t → not r ≡ false → t ≡ true
+held {r} e n = sym e ∙ not-false r n
+
+pub failed : {r t : Bool} → r ≡ t → not r ≡ true → t ≡ false
+failed {r} e n = sym e ∙ not-true r n
+
+-- parameters
+
+pub ranges-more : (rs : List Row) (ps : List ℕ) (d : Row) (i : ℕ) → i < length rs → i < length ps → getD ps i 0 ≤ getD rs i d .highest
+    → inRanges (drop i rs) (drop i ps) ≡ inRanges (drop (i + 1) rs) (drop (i + 1) ps)
+unfolding inRanges
+ranges-more rs ps d i hr hp h = rw (drop-cons rs i d hr, drop-cons ps i 0 hp, le-leb (getD ps i 0) (getD rs i d .highest) h, add-one i)
+
+pub ranges-not : (rs : List Row) (ps : List ℕ) (d : Row) (i : ℕ) → i < length rs → i < length ps → getD rs i d .highest < getD ps i 0
+    → inRanges (drop i rs) (drop i ps) ≡ false
+unfolding inRanges
+ranges-not rs ps d i hr hp h = rw (drop-cons rs i d hr, drop-cons ps i 0 hp, lt-leb (getD ps i 0) (getD rs i d .highest) h)
+
+pub ranges-all : (rs : List Row) (ps : List ℕ) (i : ℕ) → length rs ≤ i → length ps ≤ i → inRanges (drop i rs) (drop i ps) ≡ true
+unfolding inRanges
+ranges-all rs ps i hr hp = rw (drop-of-length-le rs hr, drop-of-length-le ps hp)
+
+-- a list mapped into an array
+
+module _ {A B : Type 0} (f : A → B) where
+  pub map-more : (l : List A) (out : List B) (d : A) (i : ℕ) → i < length l → i < length out → take i out ≡ take i (map f l)
+      → take (i + 1) (set out i (f (getD l i d))) ≡ take (i + 1) (map f l)
+  map-more l out d i hl ho e =
+      rw (add-one i, take-suc-set out i (f (getD l i d)) ho, take-suc (map f l) i (f d) (rw (length-map l f) hl), e, List·getD-map f l i d)
+
+  pub map-all : (l : List A) (out : List B) (i : ℕ) → length l ≤ i → length out ≤ i → take i out ≡ take i (map f l) → out ≡ map f l
+  map-all l out i hl ho e = sym (take-all i out ho) ∙ e ∙ take-all i (map f l) (rw (length-map l f) hl)
+
+-- what `search` lacks to find the length of an array of structs that a struct holds
+pub unmapped : (A B : Type 0) (f : A → B) (l : List A) (n : ℕ) → length (map f l) ≡ n → length l ≡ n
+unmapped A B f l n e = sym (length-map l f) ∙ e
+
+-- values
+
+values-turn : (vs : List Value) (d : Value) (i : ℕ) → i < length vs
+    → valuesRight i (drop i vs) ≡ keptRight i (getD vs i d .kept) && valuesRight (i + 1) (drop (i + 1) vs)
+unfolding valuesRight
+values-turn vs d i h = rw (drop-cons vs i d h, add-one i)
+
+pub values-more : (vs : List Value) (d : Value) (i : ℕ) → i < length vs → keptRight i (getD vs i d .kept) ≡ true
+    → valuesRight i (drop i vs) ≡ valuesRight (i + 1) (drop (i + 1) vs)
+values-more vs d i h e = values-turn vs d i h ∙ and-on e
+
+pub values-not : (vs : List Value) (d : Value) (i : ℕ) → i < length vs → keptRight i (getD vs i d .kept) ≡ false → valuesRight i (drop i vs) ≡ false
+values-not vs d i h e = values-turn vs d i h ∙ and-off _ e
+
+pub values-all : (vs : List Value) (i : ℕ) → length vs ≤ i → valuesRight i (drop i vs) ≡ true
+unfolding valuesRight
+values-all vs i h = rw (drop-of-length-le vs h)
+
+-- entries: at a place below the count, and past it
+
+module _ (u : List Entry) (d : Entry) (i n : ℕ) (h : i < length u) where
+  stand-turn : i < n → entriesRight (drop i u) (n - i) ≡ entryRight (getD u i d) && entriesRight (drop (i + 1) u) (n - (i + 1))
+  unfolding entriesRight
+  stand-turn hn =
+      let q : n - i - 1 ≡ n - (i + 1) = omega arith in
+      rw (drop-cons u i d h, lt-ltb 0 (n - i) (omega arith), q, add-one i)
+
+  blank-turn : n ≤ i → entriesRight (drop i u) (n - i) ≡ isBlank (getD u i d) && entriesRight (drop (i + 1) u) (n - (i + 1))
+  unfolding entriesRight
+  blank-turn hn =
+      let q : n - i - 1 ≡ n - (i + 1) = omega arith in
+      rw (drop-cons u i d h, le-ltb 0 (n - i) (omega arith), q, add-one i)
+
+  pub stand-more : i < n → entryRight (getD u i d) ≡ true → entriesRight (drop i u) (n - i) ≡ entriesRight (drop (i + 1) u) (n - (i + 1))
+  stand-more hn e = stand-turn hn ∙ and-on e
+
+  pub stand-not : i < n → entryRight (getD u i d) ≡ false → entriesRight (drop i u) (n - i) ≡ false
+  stand-not hn e = stand-turn hn ∙ and-off _ e
+
+  pub blank-more : n ≤ i → isBlank (getD u i d) ≡ true → entriesRight (drop i u) (n - i) ≡ entriesRight (drop (i + 1) u) (n - (i + 1))
+  blank-more hn e = blank-turn hn ∙ and-on e
+
+  pub blank-not : n ≤ i → isBlank (getD u i d) ≡ false → entriesRight (drop i u) (n - i) ≡ false
+  blank-not hn e = blank-turn hn ∙ and-off _ e
+
+pub entries-all : (u : List Entry) (i n : ℕ) → length u ≤ i → entriesRight (drop i u) n ≡ true
+unfolding entriesRight
+entries-all u i n h = rw (drop-of-length-le u h)
+
+-- entries taken back, the newest that stands at a time
+
+abbrev pub newest : List Entry → ℕ → Entry
+newest u n = getD u (n - 1) blankEntry
+
+sound-turn : (n : ℕ) (puts : List Bool) (u : List Entry) → 0 < n
+    → sound n puts u
+    ≡ backRight puts (newest u n .item) && sound (n - 1) (putsBack puts (newest u n .item) (newest u n .former .kept)) u
+unfolding sound
+sound-turn zero puts u h = absurd (omega arith)
+sound-turn (suc n) puts u h = let q : suc n - 1 ≡ n = omega arith in rw q
+
+pub sound-more : (n : ℕ) (puts : List Bool) (u : List Entry) → 0 < n → backRight puts (newest u n .item) ≡ true
+    → sound n puts u ≡ sound (n - 1) (putsBack puts (newest u n .item) (newest u n .former .kept)) u
+sound-more n puts u h e = sound-turn n puts u h ∙ and-on e
+
+pub sound-not : (n : ℕ) (puts : List Bool) (u : List Entry) → 0 < n → backRight puts (newest u n .item) ≡ false → sound n puts u ≡ false
+sound-not n puts u h e = sound-turn n puts u h ∙ and-off _ e
+
+pub sound-none : (n : ℕ) (puts : List Bool) (u : List Entry) → n ≤ 0 → sound n puts u ≡ true
+unfolding sound
+sound-none n puts u h = let q : n ≡ 0 = omega arith in rw q

@@ -1,0 +1,60 @@
+-- `entry_right` meets its contract.
+use borrow.Author.Needs.{needs}
+use borrow.Author.Tests.{lt-ltb, le-ltb, le-leb, lt-leb, eq-eqb, ne-eqb}
+use Rattle.state.proofs.entries.entry_right.Statement.{statement}
+use Rattle.state.proofs.entries.entry_right.Tie as tie
+
+returns : tie.Need-returns
+returns c =
+    let at = c .before in
+    simp (at .before .before .item .given .1, le-ltb _ _ (rw (at .place-of .ensures) at (c .if1 .taken)))
+
+returns-2 : tie.Need-returns-2
+returns-2 c =
+    let row = c .before .before .before in
+    let at = row .before .before in
+    let is = at .place-of .ensures in
+    simp (at .before .before .item .given .1, lt-ltb _ _ (rw is at (row .before .if1 .left)), lt-leb _ _ (rw (row .row-at .ensures, is) at (c .if2 .taken)))
+
+returns-3 : tie.Need-returns-3
+returns-3 c =
+    let at = c .before in
+    simp (at .before .before .item2 .given .1, le-ltb _ _ (rw (at .place-of2 .ensures) at (c .if3 .taken)))
+
+returns-4 : tie.Need-returns-4
+returns-4 c =
+    let at = c .before .before .before in
+    simp (at .before .before .item2 .given .1, lt-ltb _ _ (rw (at .place-of2 .ensures) at (c .before .before .if3 .left)), ne-eqb _ 0 (c .if4 .taken))
+
+returns-6 : tie.Need-returns-6
+returns-6 c =
+    let row = c .before .before .before .before in
+    let at = row .before .before in
+    let is = at .place-of .ensures in
+    simp (c .is-never .ensures, at .before .before .item .given .1, lt-ltb _ _ (rw is at (row .before .if1 .left)), le-leb _ _ (rw (row .row-at .ensures, is) at (c .before .if2 .left)))
+
+returns-7 : tie.Need-returns-7
+returns-7 c =
+    let at = c .before .before .before .before in
+    let is = at .place-of2 .ensures in
+    rw (c .kept-right .ensures, is, at .before .before .item2 .given .1, lt-ltb _ _ (rw is at (c .before .before .before .if3 .left)), eq-eqb _ 0 (c .before .if4 .left))
+
+pub entry-right-spec : {M : Type 1} → statement M
+entry-right-spec =
+    tie.close
+    (tie.spec
+    (λ c. search needs)
+    (λ c. search needs)
+    (λ c κs. search needs)
+    returns
+    (λ c κs. search needs)
+    returns-2
+    (λ c κs. search needs)
+    (λ c. search needs)
+    (λ c κs. search needs)
+    returns-3
+    returns-4
+    (λ c κs. search needs)
+    (λ c. search needs)
+    returns-6
+    returns-7)

@@ -1,0 +1,22 @@
+-- `kept_bytes` meets its contract.
+use borrow.Author.Needs.{needs}
+use Rattle.state.specs.Image.{keptBytes}
+use Rattle.state.proofs.image.kept_bytes.Statement.{statement}
+use Rattle.state.proofs.image.kept_bytes.Tie as tie
+
+enum-told : tie.Need-enum-told
+enum-told c = search needs
+
+enum-known-kept : tie.Need-enum-known-kept
+enum-known-kept c = search needs
+
+returns : tie.Need-returns
+unfolding keptBytes
+returns c = rw (c .enum-told .given .1)
+
+returns-2 : tie.Need-returns-2
+unfolding keptBytes
+returns-2 c = rw (c .before .kept .given .1)
+
+pub kept-bytes-spec : {M : Type 1} → statement M
+kept-bytes-spec = tie.close (tie.spec enum-told enum-known-kept returns returns-2)

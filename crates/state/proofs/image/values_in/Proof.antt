@@ -1,0 +1,86 @@
+-- `values_in` meets its contract. The loop's invariant: the rows before i are read.
+use Prim.Native.Nat.{ℕ, _≤_, _-_, _*_}
+use mathlib.Core.Path.{_≡_, sym, ap, _∙_}
+use native.Mathlib.Omega.{arith}
+use borrow.Author.Needs.{needs}
+use lib.ListN.{length, take, length-set}
+use lib.Seq.{take-all}
+use Rattle.state.specs.Entries.{valuesN, valueOf}
+use Rattle.state.specs.Image.{rowsIn}
+use Rattle.state.proofs.Laying.{rows-none, read-more, row-long, valueIn}
+use Rattle.state.proofs.image.values_in.Statement.{statement}
+use Rattle.state.proofs.image.values_in.Tie as tie
+
+abbrev Inv-loop : tie.InvT-loop
+Inv-loop s values₀ i₀ values i = (length values ≡ valuesN) × ((i ≤ valuesN) × (take i values ≡ rowsIn valueIn 11 i s))
+
+abbrev μ-loop : tie.MeasureT-loop
+μ-loop s values₀ i₀ values i = valuesN - i
+
+loop-holds : tie.Need-loop-holds Inv-loop μ-loop
+loop-holds c = (search needs, (omega arith, sym (rows-none valueIn 11 _)))
+
+mul-a : tie.Need-mul-a Inv-loop μ-loop
+mul-a c = omega arith
+
+add-z : tie.Need-add-z Inv-loop μ-loop
+add-z c = omega arith
+
+sub-kept-in : tie.Need-sub-kept-in Inv-loop μ-loop
+sub-kept-in c = omega arith
+
+part-kept-in-start : tie.Need-part-kept-in-start Inv-loop μ-loop
+part-kept-in-start c = omega arith
+
+part-kept-in-end : tie.Need-part-kept-in-end Inv-loop μ-loop
+part-kept-in-end c = omega arith
+
+kept-in-requires : tie.Need-kept-in-requires Inv-loop μ-loop
+kept-in-requires c κs =
+    let i = c .before .before .loop .i in
+    row-long 11 (i * 11) (c .before .before .before .before .args .s .now) (omega arith)
+
+mul-values : tie.Need-mul-values Inv-loop μ-loop
+mul-values c = omega arith
+
+array-set-from-values : tie.Need-array-set-from-values Inv-loop μ-loop
+array-set-from-values c = omega arith
+
+add-i : tie.Need-add-i Inv-loop μ-loop
+add-i c = omega arith
+
+loop-less : tie.Need-loop-less Inv-loop μ-loop
+loop-less c = omega arith
+
+loop-again : tie.Need-loop-again Inv-loop μ-loop
+loop-again c =
+    let at = c .before .before .before .loop in
+    let s = c .before .before .before .before .before .args .s .now in
+    let more = read-more valueIn 11 (at .i) s (at .values) (valueOf (c .kept-in .result)) (omega arith) (ap valueOf (c .kept-in .ensures)) (at .inv .1 .1) in
+    (simp length-set (at .inv .0), (omega arith, more))
+
+returns : tie.Need-returns Inv-loop μ-loop
+returns c =
+    let at = c .before .loop in
+    let end : at .i ≡ valuesN = omega arith in
+    sym (take-all (at .i) (at .values) (omega arith)) ∙ at .inv .1 .1 ∙ ap (λ (n : ℕ). rowsIn valueIn 11 n (c .before .before .before .args .s .now)) end
+
+pub values-in-spec : {M : Type 1} → statement M
+values-in-spec =
+    tie.close
+    (tie.spec
+    Inv-loop
+    μ-loop
+    loop-holds
+    mul-a
+    add-z
+    sub-kept-in
+    part-kept-in-start
+    part-kept-in-end
+    kept-in-requires
+    mul-values
+    array-set-from-values
+    add-i
+    loop-less
+    loop-again
+    returns)

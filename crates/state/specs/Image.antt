@@ -1,0 +1,99 @@
+-- The image of a state, and the state whose image some bytes are. docs/IMAGE.md has the layout byte by byte.
+use Prim.Native.Nat.{ℕ, zero, suc, _+_, _*_, _/_, _%_}
+use mathlib.Core.Bool.{Bool, cond, _&&_}
+use mathlib.Core.List.{List, [], _∷_, _++_}
+use lib.Dec.{eqb}
+use lib.ListN.{length, getD, take, drop}
+use Rattle.figures.specs.Bytes.{sameBytes}
+use Rattle.state.specs.Values.{eightBytes, eightOf}
+use Rattle.state.specs.Entries.{settingsN, valuesN, entriesN, valueOf, entryOf, blankState, isState}
+use Rattle.state.specs.declared.values.Kept.{Kept}
+use Rattle.state.specs.declared.values.Kept.the-variants.{Never, Put}
+use Rattle.state.specs.declared.values.Value.{Value}
+use Rattle.state.specs.declared.entries.Item.{Item}
+use Rattle.state.specs.declared.entries.Item.the-variants.{Free, Setting, Stored}
+use Rattle.state.specs.declared.entries.Entry.{Entry}
+use Rattle.state.specs.declared.entries.State.{State}
+use Rattle.state.specs.declared.image.Known.the-variants.{Not, Is}
+use Rattle.state.specs.declared.image.Decoded.{Decoded}
+
+-- the offsets of the parts
+abbrev pub valuesAt : ℕ
+valuesAt = 1 + settingsN
+
+abbrev pub countAt : ℕ
+countAt = valuesAt + valuesN * 11
+
+abbrev pub entriesAt : ℕ
+entriesAt = countAt + 2
+
+abbrev pub imageN : ℕ
+imageN = entriesAt + entriesN * 14
+
+-- "never put, or unit, sign and eight characters"
+unfoldable pub keptBytes : Kept → List ℕ
+keptBytes Never = 0 ∷ 0 ∷ 0 ∷ 0 ∷ 0 ∷ 0 ∷ 0 ∷ 0 ∷ 0 ∷ 0 ∷ 0 ∷ []
+keptBytes (Put u m d) = 1 ∷ u ∷ m ∷ eightBytes d
+
+abbrev pub itemBytes : Item → List ℕ
+itemBytes Free = 0 ∷ 0 ∷ []
+itemBytes (Setting i) = 1 ∷ i ∷ []
+itemBytes (Stored i) = 2 ∷ i ∷ []
+
+abbrev pub entryBytes : Entry → List ℕ
+entryBytes e = itemBytes (e .item) ++ (e .former .parameter ∷ keptBytes (e .former .kept))
+
+-- one after the other
+unfoldable pub flat : {A : Type 0} → (A → List ℕ) → List A → List ℕ
+flat f [] = []
+flat f (x ∷ xs) = f x ++ flat f xs
+
+abbrev pub valuesBytes : List Value → List ℕ
+valuesBytes = flat (λ (v : Value). keptBytes (v .kept))
+
+abbrev pub entriesBytes : List Entry → List ℕ
+entriesBytes = flat entryBytes
+
+-- series and form, settings, values, count, entries
+unfoldable pub imageOf : State → List ℕ
+imageOf s =
+    1 ∷ (s .settings ++ (valuesBytes (s .values) ++ ((s .count / 256 % 256) ∷ (s .count % 256) ∷ entriesBytes (s .undo))))
+
+abbrev pub encodedIn : State → List ℕ → List ℕ
+encodedIn s image = cond (eqb (length image) imageN) (imageOf s) image
+
+abbrev pub keptIn : List ℕ → Kept
+keptIn l = cond (eqb (getD l 0 0) 1) (Put (getD l 1 0) (getD l 2 0) (eightOf (drop 3 l))) Never
+
+abbrev pub itemIn : List ℕ → Item
+itemIn l = cond (eqb (getD l 0 0) 1) (Setting (getD l 1 0)) (cond (eqb (getD l 0 0) 2) (Stored (getD l 1 0)) Free)
+
+abbrev pub entryIn : List ℕ → Entry
+entryIn l = entryOf (itemIn l) (getD l 2 0) (keptIn (take 11 (drop 3 l)))
+
+-- n rows of w bytes each
+unfoldable pub rowsIn : {A : Type 0} → (List ℕ → A) → ℕ → ℕ → List ℕ → List A
+rowsIn g w zero l = []
+rowsIn g w (suc n) l = g (take w l) ∷ rowsIn g w n (drop w l)
+
+abbrev pub valuesIn : List ℕ → List Value
+valuesIn = rowsIn (λ (l : List ℕ). valueOf (keptIn l)) 11 valuesN
+
+abbrev pub entriesIn : List ℕ → List Entry
+entriesIn = rowsIn entryIn 14 entriesN
+
+-- the state that the bytes would be the image of
+unfoldable pub stateIn : List ℕ → State
+stateIn l = record {
+  settings = take settingsN (drop 1 l);
+  values = valuesIn (take (valuesN * 11) (drop valuesAt l));
+  undo = entriesIn (take (entriesN * 14) (drop entriesAt l));
+  count = getD l countAt 0 * 256 + getD l (countAt + 1) 0;
+}
+
+-- the bytes are a state's image
+abbrev pub isImage : List ℕ → Bool
+isImage l = eqb (length l) imageN && (sameBytes l (imageOf (stateIn l)) && isState (stateIn l))
+
+abbrev pub decodeOf : List ℕ → Decoded
+decodeOf l = cond (isImage l) (record { answer = Is; state = stateIn l }) (record { answer = Not; state = blankState })

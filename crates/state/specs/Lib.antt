@@ -1,0 +1,5 @@
+pub mod Rows
+pub mod Settings
+pub mod Values
+pub mod Entries
+pub mod Image

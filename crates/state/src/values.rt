@@ -1,0 +1,255 @@
+// The stored values: constant rows of index and units, what a PUT leaves, and the word that GET answers.
+ghost use mathlib.Core.Path.{_≡_};
+ghost use Prim.Native.Nat.{_+_, _%_};
+ghost use Rattle.words.specs.Information.{signByte};
+ghost use Rattle.state.specs.Values.{storedAt, valueAt, putRight, putKept, valueWord, keptRight, getWord, isPut};
+use crate::settings::Found;
+use words::reading::Judged;
+use words::reading::read_word;
+
+pub const VALUES: usize = 11;
+
+// The units of an index, from the first to the last, as they stand at position 6.
+pub struct Stored {
+    pub index: u16,
+    pub first: u8,
+    pub last: u8,
+}
+
+// A value's eight characters.
+pub struct Eight(
+    pub u8,
+    pub u8,
+    pub u8,
+    pub u8,
+    pub u8,
+    pub u8,
+    pub u8,
+    pub u8,
+);
+
+// What is stored: nothing ever, or unit, sign (0 or 1) and characters.
+pub enum Kept {
+    Never,
+    Put(u8, u8, Eight),
+}
+
+pub struct Value {
+    pub kept: Kept,
+}
+
+// Text, angles of unit 2-4, lengths of unit 0 or 1.
+const STORED: [Stored; VALUES] = [
+    Stored {
+        index: 11,
+        first: b'.',
+        last: b'.',
+    },
+    Stored {
+        index: 16,
+        first: b'.',
+        last: b'.',
+    },
+    Stored {
+        index: 21,
+        first: b'2',
+        last: b'4',
+    },
+    Stored {
+        index: 24,
+        first: b'2',
+        last: b'4',
+    },
+    Stored {
+        index: 34,
+        first: b'0',
+        last: b'1',
+    },
+    Stored {
+        index: 83,
+        first: b'0',
+        last: b'1',
+    },
+    Stored {
+        index: 84,
+        first: b'0',
+        last: b'1',
+    },
+    Stored {
+        index: 85,
+        first: b'0',
+        last: b'1',
+    },
+    Stored {
+        index: 86,
+        first: b'0',
+        last: b'1',
+    },
+    Stored {
+        index: 87,
+        first: b'0',
+        last: b'1',
+    },
+    Stored {
+        index: 88,
+        first: b'0',
+        last: b'1',
+    },
+];
+
+// The row at a place; one of noughts past the last.
+pub fn stored_at(place: usize) -> Stored
+    ensures { λ r. ⌜ r ≡ storedAt place ⌝ }
+{
+    if VALUES <= place {
+        return Stored {
+            index: 0,
+            first: 0,
+            last: 0,
+        };
+    }
+    STORED[place]
+}
+
+// The place of the stored value of that index.
+pub fn value_at(index: u16) -> Found
+    ensures { λ r. ⌜ r ≡ valueAt index ⌝ }
+{
+    let mut i = 0;
+    while i < VALUES {
+        let row = stored_at(i);
+        if row.index == index {
+            return Found::At(i);
+        }
+        i += 1;
+    }
+    Found::Nothing
+}
+
+pub fn is_put(kept: Kept) -> bool
+    ensures { λ r. ⌜ r ≡ isPut kept ⌝ }
+{
+    match kept {
+        Kept::Never => false,
+        _ => true,
+    }
+}
+
+// Whether the word may be put there: dots at 3-5, a unit of the place, and otherwise the block rules.
+pub fn put_right(place: usize, word: [u8; 16]) -> bool
+    ensures { λ r. ⌜ r ≡ putRight place word ⌝ }
+{
+    let row = stored_at(place);
+    if word[2] != b'.' {
+        return false;
+    }
+    if word[3] != b'.' {
+        return false;
+    }
+    if word[4] != b'.' {
+        return false;
+    }
+    if word[5] < row.first {
+        return false;
+    }
+    if row.last < word[5] {
+        return false;
+    }
+    let one = read_word(&word, false);
+    let answer = one.answer;
+    match answer {
+        Judged::Right => true,
+        _ => false,
+    }
+}
+
+// What the word leaves when it is put.
+pub fn put_kept(word: [u8; 16]) -> Kept
+    ensures { λ r. ⌜ r ≡ putKept word ⌝ }
+{
+    let eight = Eight(
+        word[7],
+        word[8],
+        word[9],
+        word[10],
+        word[11],
+        word[12],
+        word[13],
+        word[14],
+    );
+    if word[6] == b'+' {
+        return Kept::Put(word[5], 0, eight);
+    }
+    Kept::Put(word[5], 1, eight)
+}
+
+fn figure(n: u16) -> u8
+    ensures { λ r. ⌜ r ≡ 48 + n % 10 ⌝ }
+{
+    b'0' + (n % 10) as u8
+}
+
+fn sign_byte(minus: u8) -> u8
+    ensures { λ r. ⌜ r ≡ signByte minus ⌝ }
+{
+    if minus == 0 { b'+' } else { b'-' }
+}
+
+// The word of a value that was put, with that byte at position 5.
+fn value_word(mark: u8, place: usize, unit: u8, minus: u8, d: Eight) -> [u8; 16]
+    ensures { λ r. ⌜ r ≡ valueWord mark place unit minus d ⌝ }
+{
+    let row = stored_at(place);
+    let tens = figure(row.index / 10);
+    let ones = figure(row.index);
+    let sign = sign_byte(minus);
+    [
+        tens,
+        ones,
+        b'.',
+        b'.',
+        mark,
+        unit,
+        sign,
+        d.0,
+        d.1,
+        d.2,
+        d.3,
+        d.4,
+        d.5,
+        d.6,
+        d.7,
+        b' ',
+    ]
+}
+
+// Whether the place may hold it: never put, or as a PUT can leave it.
+pub fn kept_right(place: usize, kept: Kept) -> bool
+    ensures { λ r. ⌜ r ≡ keptRight place kept ⌝ }
+{
+    match kept {
+        Kept::Never => true,
+        Kept::Put(unit, minus, d) => {
+            if 1 < minus {
+                return false;
+            }
+            put_right(place, value_word(b'.', place, unit, minus, d))
+        }
+    }
+}
+
+// The word that GET answers; blanks where nothing was ever put.
+pub fn get_word(place: usize, kept: Kept) -> [u8; 16]
+    ensures { λ r. ⌜ r ≡ getWord place kept ⌝ }
+{
+    match kept {
+        Kept::Never => [b' '; 16],
+        Kept::Put(unit, minus, d) => {
+            let row = stored_at(place);
+            if row.first == b'.' {
+                return value_word(b'.', place, unit, minus, d);
+            }
+            value_word(b'1', place, unit, minus, d)
+        }
+    }
+}
