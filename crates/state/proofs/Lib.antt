@@ -3,3 +3,4 @@ pub mod Ranges
 pub mod Kept
 pub mod Laying
 pub mod Images
+pub mod Determined

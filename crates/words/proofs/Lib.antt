@@ -8,3 +8,4 @@ pub mod Places
 pub mod RoundTrip
 pub mod Given
 pub mod Writes
+pub mod Determined

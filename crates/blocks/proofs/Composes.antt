@@ -1,0 +1,161 @@
+-- Laws of a list composed: what is kept of it, and what writing it into a room comes to then.
+use Prim.Native.Nat.{ℕ, zero, suc, _+_, _<_, _≤_}
+use mathlib.Core.Path.{_≡_, refl, sym, ap, _∙_}
+use mathlib.Core.Bool.{Bool, true, false}
+use mathlib.Core.List.{List, [], _∷_, _++_, append-assoc}
+use mathlib.Core.Option.{Option, none, some}
+use native.Mathlib.Omega.{arith}
+use borrow.Author.Tests.{lt-ltb, le-ltb, lt-leb, le-leb, eq-eqb, ne-eqb}
+use lib.ListN.{length, set, take, drop, replicate, length-append}
+use lib.Seq.{take-at}
+use Rattle.figures.specs.Bytes.{laid}
+use Rattle.figures.proofs.Bytes.{laid-fits}
+use Rattle.words.specs.Records.{blank}
+use Rattle.words.specs.declared.records.Word.{Word}
+use Rattle.blocks.specs.declared.answers.Refusal.{Refusal}
+use Rattle.blocks.specs.declared.answers.Refusal.the-variants.{Count, Record, Room}
+use Rattle.blocks.specs.declared.answers.Wrote.{Wrote}
+use Rattle.blocks.specs.declared.answers.Wrote.the-variants.{Refused, Written}
+use Rattle.blocks.specs.declared.judging.Block.{Block}
+use Rattle.blocks.specs.declared.composing.Composed.{Composed}
+use Rattle.blocks.specs.Composing.{starBytes, endBytes, wordsBytes, blockBytes, unlessWrong, Written·room, refusedRoom, fitted, written, refusedList, wroteList, composedOf, listOf, Writes}
+use Rattle.blocks.proofs.Steps.{apart}
+use Rattle.blocks.proofs.Rooms.{firstWrong, unless-right, unless-wrong, words-fit, star-small, set-laid, wrote-as}
+
+-- the refusal by the first wrong record, or the bytes
+abbrev pub putIn : List ℕ → Bool → List Word → List ℕ → Composed
+putIn room wide ws done =
+    unlessWrong wide 0 ws (λ i. record { answer = Refused (Record i); bytes = room }) (record { answer = Written (length done); bytes = laid done room })
+
+module _ (room : List ℕ) (wide : Bool) (ws : List Word) (done : List ℕ) (put : Composed) (e : put ≡ putIn room wide ws done) where
+  pub put-written : (at : ℕ) → put .answer ≡ Written at → (firstWrong wide 0 ws ≡ none) × (at ≡ length done) × (put .bytes ≡ laid done room)
+  put-written at ea = go (firstWrong wide 0 ws) refl
+    where
+      go : (o : Option ℕ) → firstWrong wide 0 ws ≡ o → (firstWrong wide 0 ws ≡ none) × (at ≡ length done) × (put .bytes ≡ laid done room)
+      go none eo =
+          let is = e ∙ unless-right wide ws _ _ eo in
+          let answer : put .answer ≡ Written (length done) = ap (λ (p : Composed). p .answer) is in
+          (eo, cc, ap (λ (p : Composed). p .bytes) is)
+      go (some i) eo =
+          let answer : put .answer ≡ Refused (Record i) = ap (λ (p : Composed). p .answer) (e ∙ unless-wrong wide ws _ _ i eo) in
+          apart cc
+
+  pub put-refused : (r : Refusal) → put .answer ≡ Refused r → (i : ℕ) × (firstWrong wide 0 ws ≡ some i) × (r ≡ Record i) × (put .bytes ≡ room)
+  put-refused r er = go (firstWrong wide 0 ws) refl
+    where
+      go : (o : Option ℕ) → firstWrong wide 0 ws ≡ o → (i : ℕ) × (firstWrong wide 0 ws ≡ some i) × (r ≡ Record i) × (put .bytes ≡ room)
+      go none eo =
+          let answer : put .answer ≡ Written (length done) = ap (λ (p : Composed). p .answer) (e ∙ unless-right wide ws _ _ eo) in
+          apart cc
+      go (some i) eo =
+          let is = e ∙ unless-wrong wide ws _ _ i eo in
+          let answer : put .answer ≡ Refused (Record i) = ap (λ (p : Composed). p .answer) is in
+          (i, eo, cc, ap (λ (p : Composed). p .bytes) is)
+
+  -- a refusal is the same whatever the bytes would be
+  pub put-same : (r : Refusal) → put .answer ≡ Refused r → (done′ : List ℕ) → put ≡ putIn room wide ws done′
+  put-same r er done′ =
+      let told = put-refused r er in
+      e ∙ (unless-wrong wide ws _ _ (told .0) (told .1) ∙ sym (unless-wrong wide ws _ _ (told .0) (told .1)))
+
+-- at most 32 right records leave room for the terminator
+pub words-end : (wide : Bool) (ws : List Word) → length ws ≤ 32 → firstWrong wide 0 ws ≡ none → length (starBytes wide ++ wordsBytes wide ws) + 2 ≤ 771
+words-end wide ws h e = omega (arith, length-append (starBytes wide) (wordsBytes wide ws), star-small wide, words-fit wide 0 ws e)
+
+module _ (wide crlf : Bool) (ws : List Word) where
+  pub composed-none : length ws ≡ 0 → composedOf wide crlf ws ≡ refusedList Count
+  composed-none e = rw (eq-eqb (length ws) 0 e)
+
+  pub composed-some : (length ws ≡ 0 → ⊥) → composedOf wide crlf ws ≡ putIn (replicate 771 0) wide ws (blockBytes wide crlf ws)
+  composed-some e = rw (ne-eqb (length ws) 0 e)
+
+  pub composed-right : (length ws ≡ 0 → ⊥) → firstWrong wide 0 ws ≡ none → composedOf wide crlf ws ≡ wroteList (blockBytes wide crlf ws)
+  composed-right some-words e = composed-some some-words ∙ unless-right wide ws _ _ e
+
+-- the terminator after what is laid in the room
+module _ (star words room bytes : List ℕ) (at : ℕ) (crlf : Bool) (ea : at ≡ length (star ++ words)) (fits : at + 2 ≤ length room) (e : bytes ≡ laid (star ++ words) room) where
+  first : set bytes at 13 ≡ laid ((star ++ words) ++ (13 ∷ [])) room
+  first = set-laid (star ++ words) room bytes at 13 ea (omega arith) e
+
+  past : at + 1 ≡ length ((star ++ words) ++ (13 ∷ []))
+  past = omega (arith, length-append (star ++ words) (13 ∷ []))
+
+  pub ends-cr : crlf ≡ false
+      → _≡_ {A = Composed} (record { answer = Written (at + 1); bytes = set bytes at 13 }) (record { answer = Written (length (star ++ (words ++ endBytes crlf))); bytes = laid (star ++ (words ++ endBytes crlf)) room })
+  ends-cr ec = rw (ec, ← append-assoc star words (13 ∷ [])) (wrote-as (at + 1) (set bytes at 13) ((star ++ words) ++ (13 ∷ [])) room past first)
+
+  pub ends-crlf : crlf ≡ true
+      → _≡_ {A = Composed} (record { answer = Written (at + 1 + 1); bytes = set (set bytes at 13) (at + 1) 10 }) (record { answer = Written (length (star ++ (words ++ endBytes crlf))); bytes = laid (star ++ (words ++ endBytes crlf)) room })
+  ends-crlf ec =
+      let cr = (star ++ words) ++ (13 ∷ []) in
+      let all : cr ++ (10 ∷ []) ≡ star ++ (words ++ (13 ∷ 10 ∷ [])) = append-assoc (star ++ words) (13 ∷ []) (10 ∷ []) ∙ append-assoc star words (13 ∷ 10 ∷ []) in
+      let both = set-laid cr room (set bytes at 13) (at + 1) 10 past (omega arith) first in
+      rw (ec, ← all) (wrote-as (at + 1 + 1) (set (set bytes at 13) (at + 1) 10) (cr ++ (10 ∷ [])) room (omega (arith, past, length-append cr (10 ∷ []))) both)
+
+end-small : (crlf : Bool) → length (endBytes crlf) ≤ 2
+end-small true = omega arith
+end-small false = omega arith
+
+-- what writing into a room comes to, by what is composed
+module _ (wide crlf : Bool) (ws : List Word) (few : length ws ≤ 32) (out : List ℕ) where
+  written-none : length ws ≡ 0 → written ws wide crlf out ≡ refusedRoom out Count
+  written-none e = rw (eq-eqb (length ws) 0 e)
+
+  written-some : (length ws ≡ 0 → ⊥)
+      → written ws wide crlf out ≡ unlessWrong wide 0 ws (λ i. refusedRoom out (Record i)) (fitted (blockBytes wide crlf ws) out)
+  written-some e = rw (ne-eqb (length ws) 0 e, le-ltb 32 (length ws) few)
+
+  module _ (put : Composed) (e : put ≡ composedOf wide crlf ws) where
+    pub composed-refused : (r : Refusal) → put .answer ≡ Refused r → written ws wide crlf out ≡ refusedRoom out r
+    composed-refused r er = go (length ws) refl
+      where
+        go : (n : ℕ) → length ws ≡ n → written ws wide crlf out ≡ refusedRoom out r
+        go zero en =
+            let answer : put .answer ≡ Refused Count = ap (λ (p : Composed). p .answer) (e ∙ composed-none wide crlf ws en) in
+            let same : r ≡ Count = cc in
+            written-none en ∙ ap (refusedRoom out) (sym same)
+        go (suc n) en =
+            let some-words : length ws ≡ 0 → ⊥ = λ z. omega arith in
+            let told = put-refused (replicate 771 0) wide ws (blockBytes wide crlf ws) put (e ∙ composed-some wide crlf ws some-words) r er in
+            written-some some-words ∙ (unless-wrong wide ws _ _ (told .0) (told .1) ∙ ap (refusedRoom out) (sym (told .2)))
+
+    pub composed-written : (n : ℕ) → put .answer ≡ Written n
+        → (n ≡ length (blockBytes wide crlf ws)) × (put .bytes ≡ laid (blockBytes wide crlf ws) (replicate 771 0)) × (n ≤ 771) × (written ws wide crlf out ≡ fitted (blockBytes wide crlf ws) out)
+    composed-written n ea = go (length ws) refl
+      where
+        go : (m : ℕ) → length ws ≡ m
+            → (n ≡ length (blockBytes wide crlf ws)) × (put .bytes ≡ laid (blockBytes wide crlf ws) (replicate 771 0)) × (n ≤ 771) × (written ws wide crlf out ≡ fitted (blockBytes wide crlf ws) out)
+        go zero em =
+            let answer : put .answer ≡ Refused Count = ap (λ (p : Composed). p .answer) (e ∙ composed-none wide crlf ws em) in
+            apart cc
+        go (suc m) em =
+            let some-words : length ws ≡ 0 → ⊥ = λ z. omega arith in
+            let told = put-written (replicate 771 0) wide ws (blockBytes wide crlf ws) put (e ∙ composed-some wide crlf ws some-words) n ea in
+            let star = starBytes wide in
+            let words = wordsBytes wide ws in
+            let small : n ≤ 771 = omega (arith, told .1, words-end wide ws few (told .0), length-append star words, length-append star (words ++ endBytes crlf), length-append words (endBytes crlf), end-small crlf) in
+            (told .1, told .2, small, written-some some-words ∙ unless-right wide ws _ _ (told .0))
+
+-- the bytes fit the room, or not
+module _ (bytes out : List ℕ) (n : ℕ) (en : n ≡ length bytes) where
+  pub fitted-not : length out < n → fitted bytes out ≡ refusedRoom out (Room n)
+  fitted-not h = rw (en, lt-ltb (length out) (length bytes) (omega arith))
+
+  pub fitted-laid : (room all last : List ℕ) (k : ℕ) → k ≡ n → n ≤ length room → n ≤ length out → all ≡ laid bytes room → last ≡ laid (take k all) out
+      → fitted bytes out ≡ record { answer = Written n; room = last }
+  fitted-laid room all last k ek fits h e el =
+      let whole : take k all ≡ bytes = rw (ek, e, laid-fits bytes room (omega arith)) (take-at bytes (drop (length bytes) room) n (sym en)) in
+      rw (el, whole, en, le-ltb (length out) (length bytes) (omega arith))
+
+-- the list that a block holds
+pub listed-many : (b : Block) → 32 < b .n → listOf b ≡ replicate 33 blank
+listed-many b h = rw (lt-leb (b .n) 32 h)
+
+pub listed-few : (b : Block) → b .n ≤ 32 → listOf b ≡ take (b .n) (b .words)
+listed-few b h = rw (le-leb (b .n) 32 h)
+
+pub writes-as : (l ws : List Word) (wide crlf : Bool) (room room′ : List ℕ) (r : Wrote) → l ≡ ws → written ws wide crlf room ≡ record { answer = r; room = room′ }
+    → Writes l wide crlf room r room′
+writes-as l ws wide crlf room room′ r el e =
+    let is = ap (λ (x : List Word). written x wide crlf room) el ∙ e in
+    (sym (ap (λ (w : Written·room). w .answer) is), sym (ap (λ (w : Written·room). w .room) is))

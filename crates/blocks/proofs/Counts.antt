@@ -1,0 +1,109 @@
+-- What the walks over a lent list know of the records that they store or copy: how many they are, and what the list or the block then is.
+use mathlib.Core.Path.{_≡_, refl}
+use mathlib.Core.Bool.{Bool, true, false, cond, _||_}
+use mathlib.Core.List.{List, [], _∷_, _++_}
+use Prim.Native.Nat.{ℕ, zero, suc, _+_, _*_, _≤_, zero-le}
+use native.Mathlib.Nat.{le-refl}
+use native.Mathlib.Omega.{arith}
+use lib.Dec.{eqb, ltb, leb}
+use lib.ListN.{length, drop, length-append}
+use lib.Seq.{take-length, take-append-seam}
+use borrow.Author.Tests.{ltb-false, le-leb, leb-false}
+use Rattle.words.specs.Reading.{wordSize, wordOf}
+use Rattle.words.specs.declared.records.Word.{Word}
+use Rattle.words.specs.declared.reading.Judged as one
+use Rattle.words.specs.declared.reading.Fault.the-variants.{Short}
+use Rattle.blocks.specs.declared.answers.Refusal.{Refusal}
+use Rattle.blocks.specs.declared.answers.Refusal.the-variants.{Empty, Wrong, NoWord, NoEnd, NoPlace}
+use Rattle.blocks.specs.Answers.{refusalTells}
+use Rattle.blocks.specs.declared.judging.Block.{Block}
+use Rattle.blocks.specs.Judging.{Judgement, isAt, isWide, startOf, refusedBy, endedAt, afterWord, blockFrom, judged, filled, noBlock, blockOf}
+use Rattle.blocks.specs.Composing.{written, listOf}
+use Rattle.blocks.specs.Lists.{begunOf, gathered}
+use Rattle.blocks.proofs.Row.{mix}
+
+-- so many records go into a block, and into a list of so many places
+abbrev pub Few : ℕ → ℕ → Type 0
+Few n places = (n ≤ 32) × (n ≤ places)
+
+none-few : (places : ℕ) → Few 0 places
+none-few places = (zero-le, zero-le)
+
+pub size-le : (wide : Bool) → wordSize wide ≤ 24
+size-le true = omega arith
+size-le false = omega arith
+
+start-le : (wide : Bool) → startOf wide ≤ 1
+start-le true = omega arith
+start-le false = omega arith
+
+-- what holds of each refusal that tells no place past the last word's end, and of each block that ends there or before, holds of what is judged
+module _ (places : ℕ) (P : Judgement → Type 0) (refuses : (r : Refusal) → refusalTells r ≤ 769 → P (refusedBy r))
+    (ends : (wide : Bool) (at : ℕ) (rest : List ℕ) (ws : List Word) → at ≤ 769 → Few (length ws) places → P (record { answer = endedAt wide at rest (length ws); words = ws })) where
+  cond-by : (t : Bool) (j k : Judgement) → P j → (t ≡ false → P k) → P (cond t j k)
+  cond-by true j k h h′ = h
+  cond-by false j k h h′ = h′ refl
+
+  after-by : (at : ℕ) (a : one.Judged) (j : Judgement) → at ≤ 769 → P j → P (afterWord at a j)
+  after-by at one.Judged.Right j h p = p
+  after-by at (one.Judged.Wrong fault) j h p = refuses (Wrong fault at) h
+
+  from-by : (more : ℕ) (wide : Bool) (at : ℕ) (rest : List ℕ) (ws : List Word) → at + more * 24 ≤ 769 → length ws + more ≤ 32 → length ws ≤ places → P (blockFrom more wide places at rest ws)
+  unfolding blockFrom
+  from-by zero wide at rest ws a h k = cond-by (isAt 13 rest) _ _ (ends wide at rest ws (omega arith) (omega arith, k)) (λ _. refuses (NoEnd at) (omega arith))
+  from-by (suc more) wide at rest ws a h k =
+      cond-by (isAt 13 rest) _ _ (ends wide at rest ws (omega arith) (omega arith, k)) (λ _. cond-by (ltb (length rest) (wordSize wide)) _ _ (refuses (Wrong Short at) (omega arith)) (λ _.
+      cond-by (leb places (length ws)) _ _ (refuses (NoPlace at) (omega arith)) (λ e.
+      let w = wordOf wide rest .word in
+      let one-more : length (ws ++ (w ∷ [])) ≡ length ws + 1 = length-append ws (w ∷ []) in
+      after-by at (wordOf wide rest .answer) (blockFrom more wide places (at + wordSize wide) (drop (wordSize wide) rest) (ws ++ (w ∷ []))) (omega arith)
+      (from-by more wide (at + wordSize wide) (drop (wordSize wide) rest) (ws ++ (w ∷ [])) (omega (arith, size-le wide)) (omega arith) (omega (arith, leb-false places (length ws) e))))))
+
+  pub judged-by : (s : List ℕ) → P (judged s places)
+  judged-by s =
+      cond-by (eqb (length s) 0) _ _ (refuses Empty (omega arith)) (λ _. cond-by (isAt 13 (drop (startOf (isWide s)) s)) _ _ (refuses NoWord (omega arith)) (λ _.
+      from-by 32 (isWide s) (startOf (isWide s)) (drop (startOf (isWide s)) s) [] (omega (arith, start-le (isWide s))) (omega arith) (omega arith)))
+
+pub judged-few : (places : ℕ) (s : List ℕ) → Few (length (judged s places .words)) places
+judged-few places s = judged-by places (λ j. Few (length (j .words)) places) (λ r h. none-few places) (λ wide at rest ws h few. few) s
+
+-- the list l once a block's records are stored in it
+abbrev pub stored : Block → List Word → List Word
+stored b l = mix (b .words) l (b .n)
+
+pub stored-all : (ws l : List Word) → stored (blockOf ws) l ≡ filled ws l
+stored-all ws l = rw take-append-seam
+
+-- what `gather` makes of the list l and the block that it starts from
+abbrev pub taken : List Word → Block → Block
+taken l b = record { words = mix l (b .words) (b .n); n = b .n }
+
+abbrev begunBy : Bool → ℕ → Block
+begunBy many n = cond many noBlock (record { words = noBlock .words; n = n })
+
+few-by : (many : Bool) (n : ℕ) → ltb 32 n ≡ many → Few (begunBy many n .n) n
+few-by true n e = none-few n
+few-by false n e = (ltb-false 32 n e, le-refl n)
+
+pub begun-few : (n : ℕ) → Few (begunOf n .n) n
+begun-few n = few-by (ltb 32 n) n refl
+
+taken-by : (many : Bool) (l : List Word) → taken l (begunBy many (length l)) ≡ cond many noBlock (blockOf l)
+taken-by true l = refl
+taken-by false l = rw take-length
+
+pub taken-all : (l : List Word) → taken l (begunOf (length l)) ≡ gathered l
+taken-all l = taken-by (ltb 32 (length l)) l
+
+or-true : (t : Bool) → t || true ≡ true
+or-true true = refl
+or-true false = refl
+
+module _ (l : List Word) (wide crlf : Bool) (room : List ℕ) where
+  written-by : (many : Bool) → ltb 32 (length l) ≡ many → written (listOf (cond many noBlock (blockOf l))) wide crlf room ≡ written l wide crlf room
+  written-by true e = rw (e, or-true)
+  written-by false e = rw (le-leb (length l) 32 (ltb-false 32 (length l) e), take-append-seam)
+
+  -- a list and the block that is gathered from it are written alike
+  pub gathered-written : written (listOf (gathered l)) wide crlf room ≡ written l wide crlf room
+  gathered-written = written-by (ltb 32 (length l)) refl

@@ -1,0 +1,46 @@
+-- The promises of this crate's public functions determine what comes out.
+use mathlib.Core.Path.{_≡_}
+use mathlib.Core.Bool.{Bool}
+use mathlib.Core.List.{List}
+use Prim.Native.Nat.{ℕ}
+use lib.ListN.{length}
+use Rattle.figures.specs.Promises.{Determined}
+use Rattle.figures.proofs.Determined.{by-equation, by-two}
+use Rattle.words.specs.declared.records.Word.{Word}
+use Rattle.blocks.specs.Answers.{refusalNumber, refusalTells}
+use Rattle.blocks.specs.Judging.{judged, filled, noBlock, keptOf}
+use Rattle.blocks.specs.Composing.{written, listOf, Writes}
+use Rattle.blocks.specs.Lists.{Reads, gathered}
+use Rattle.blocks.specs.declared.answers.Refusal.{Refusal}
+use Rattle.blocks.specs.declared.answers.Answer.{Answer}
+use Rattle.blocks.specs.declared.answers.Wrote.{Wrote}
+use Rattle.blocks.specs.declared.judging.Block.{Block}
+use Rattle.blocks.specs.declared.judging.Judgement.{Judgement}
+
+pub refusal-number-determined : Determined Refusal ℕ (λ i r. r ≡ refusalNumber i)
+refusal-number-determined = by-equation Refusal ℕ refusalNumber
+
+pub refusal-tells-determined : Determined Refusal ℕ (λ i r. r ≡ refusalTells i)
+refusal-tells-determined = by-equation Refusal ℕ refusalTells
+
+pub no-block-determined : Determined (Unit {0}) Block (λ i r. r ≡ noBlock)
+no-block-determined = by-equation (Unit {0}) Block (λ i. noBlock)
+
+pub judge-determined : Determined (List ℕ × ℕ) Judgement (λ i r. r ≡ keptOf (judged (i .0) (i .1)))
+judge-determined = by-equation (List ℕ × ℕ) Judgement (λ i. keptOf (judged (i .0) (i .1)))
+
+pub emit-determined : Determined (Block × Bool × Bool × List ℕ) (Wrote × List ℕ) (λ i o. Writes (listOf (i .0)) (i .1) (i .2) (i .3) (o .0) (o .1))
+emit-determined =
+    by-two (Block × Bool × Bool × List ℕ) Wrote (List ℕ) (λ i. written (listOf (i .0)) (i .1) (i .2) (i .3) .answer)
+    (λ i. written (listOf (i .0)) (i .1) (i .2) (i .3) .room)
+
+pub gather-determined : Determined (List Word) Block (λ i r. r ≡ gathered i)
+gather-determined = by-equation (List Word) Block gathered
+
+pub read-determined : Determined (List ℕ × List Word) (Answer × List Word) (λ i o. Reads (i .0) (i .1) (o .0) (o .1))
+read-determined =
+    by-two (List ℕ × List Word) Answer (List Word) (λ i. judged (i .0) (length (i .1)) .answer) (λ i. filled (judged (i .0) (length (i .1)) .words) (i .1))
+
+pub write-determined : Determined (List Word × Bool × Bool × List ℕ) (Wrote × List ℕ) (λ i o. Writes (i .0) (i .1) (i .2) (i .3) (o .0) (o .1))
+write-determined =
+    by-two (List Word × Bool × Bool × List ℕ) Wrote (List ℕ) (λ i. written (i .0) (i .1) (i .2) (i .3) .answer) (λ i. written (i .0) (i .1) (i .2) (i .3) .room)

@@ -1,0 +1,9 @@
+pub mod Row
+pub mod Counts
+pub mod Written
+pub mod Accepted
+pub mod Exactly
+pub mod Determined
+pub mod Steps
+pub mod Rooms
+pub mod Composes

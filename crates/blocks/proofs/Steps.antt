@@ -1,0 +1,205 @@
+-- Laws of the walk through a block: whether a byte stands at a place, what one step finds, and what the block is after it.
+use Prim.Native.Nat.{ℕ, zero, suc, _+_, _-_, _<_, _≤_}
+use mathlib.Core.Path.{_≡_, refl, sym, ap, _∙_}
+use mathlib.Core.Bool.{Bool, true, false, cond}
+use mathlib.Core.List.{List, [], _∷_, _++_}
+use native.Mathlib.Nat.{add-zero}
+use native.Mathlib.Numerals.{add-one}
+use native.Mathlib.Omega.{arith}
+use borrow.Author.Tests.{lt-ltb, le-ltb, le-leb, lt-leb, eq-eqb, ne-eqb, ltb-true, ltb-false, leb-false}
+use lib.Dec.{eqb, leb, ltb}
+use lib.ListN.{length, getD, set, take, drop, length-drop, drop-of-length-le, take-append-drop}
+use lib.Seq.{getD-drop, drop-drop, drop-set-lt, take-suc-set, length-take-le}
+use Rattle.words.specs.Records.{width, blank}
+use Rattle.words.specs.Reading.{wordSize, wordOf}
+use Rattle.words.specs.declared.records.Word.{Word}
+use Rattle.words.specs.declared.reading.Fault.the-variants.{Short}
+use Rattle.words.specs.declared.reading.Judged as one
+use Rattle.words.specs.declared.reading.OneWord.{OneWord}
+use Rattle.blocks.specs.declared.answers.Refusal.{Refusal}
+use Rattle.blocks.specs.declared.answers.Refusal.the-variants.{Empty, Wrong, NoWord, NoEnd, NoPlace}
+use Rattle.blocks.specs.declared.answers.Answer.the-variants.{Read}
+use Rattle.blocks.specs.declared.judging.Next.{Next}
+use Rattle.blocks.specs.declared.judging.Next.the-variants.{Ends, Stops, Goes}
+use Rattle.blocks.specs.declared.judging.Stepped.{Stepped}
+use Rattle.blocks.specs.declared.judging.Judgement as kept
+use Rattle.blocks.specs.Judging.{Judgement, isAt, isWide, startOf, endedAt, refusedBy, afterWord, blockFrom, stopsBy, stepOf, nextOf, judged, noBlock, blockOf, keptOf}
+
+-- no two constructors are equal, so nothing is left to show
+pub apart : {A : Type 0} → _≡_ {A = ℕ} 0 1 → A
+apart z = absurd (omega arith)
+
+pub width-small : (wide : Bool) → width wide ≤ 16
+width-small true = omega arith
+width-small false = omega arith
+
+-- a byte at a place
+
+pub is-in : (b : ℕ) (s : List ℕ) (at : ℕ) → at < length s → isAt b (drop at s) ≡ eqb (getD s at 0) b
+is-in b s at h = rw (lt-ltb 0 (length (drop at s)) (omega (arith, length-drop at s)), getD-drop at s 0 0, add-zero at)
+
+pub is-past : (b : ℕ) (s : List ℕ) (at : ℕ) → length s ≤ at → isAt b (drop at s) ≡ false
+is-past b s at h = rw (drop-of-length-le s h)
+
+pub is-inside : (b : ℕ) (s : List ℕ) (at : ℕ) → isAt b (drop at s) ≡ true → at < length s
+is-inside b s at e = omega (arith, ltb-true 0 (length (drop at s)) (both (ltb 0 (length (drop at s))) (eqb (getD (drop at s) 0 0) b) e), length-drop at s)
+  where
+    both : (t u : Bool) → cond t u false ≡ true → t ≡ true
+    both true u e = refl
+    both false u e = e
+
+-- whether LF follows the CR at a place
+pub ended-by : (wide : Bool) (at : ℕ) (s : List ℕ) (n : ℕ) (t : Bool) → isAt 10 (drop (at + 1) s) ≡ t
+    → endedAt wide at (drop at s) n ≡ Read (record { wide = wide; crlf = t; words = n; used = cond t (at + 2) (at + 1) })
+ended-by wide at s n t e = rw (drop-drop 1 at s, e)
+
+-- what a step finds
+
+module _ (wide : Bool) (places n at : ℕ) (rest : List ℕ) where
+  pub next-ends : isAt 13 rest ≡ true → nextOf wide places n at rest ≡ record { next = Ends; word = blank }
+  next-ends e = rw e
+
+  module _ (e : isAt 13 rest ≡ false) where
+    pub next-full : 32 ≤ n → nextOf wide places n at rest ≡ stopsBy (NoEnd at)
+    next-full h = rw (e, le-leb 32 n h)
+
+    pub next-short : n < 32 → length rest < wordSize wide → nextOf wide places n at rest ≡ stopsBy (Wrong Short at)
+    next-short h hl = rw (e, lt-leb 32 n h, lt-ltb (length rest) (wordSize wide) hl)
+
+    pub next-no-place : n < 32 → wordSize wide ≤ length rest → places ≤ n → nextOf wide places n at rest ≡ stopsBy (NoPlace at)
+    next-no-place h hl hp = rw (e, lt-leb 32 n h, le-ltb (length rest) (wordSize wide) hl, le-leb places n hp)
+
+    pub next-word : n < 32 → wordSize wide ≤ length rest → n < places → nextOf wide places n at rest ≡ stepOf at (wordOf wide rest) (wordOf wide rest .answer)
+    next-word h hl hp = rw (e, lt-leb 32 n h, le-ltb (length rest) (wordSize wide) hl, lt-leb places n hp)
+
+-- what the block is after a step
+
+abbrev wentBy : Judgement → (Word → Judgement) → Next → Word → Judgement
+wentBy ended more Ends w = ended
+wentBy ended more (Stops r) w = refusedBy r
+wentBy ended more Goes w = more w
+
+abbrev went : Judgement → (Word → Judgement) → Stepped → Judgement
+went ended more s = wentBy ended more (s .next) (s .word)
+
+went-last : (t : Bool) (ended : Judgement) (more : Word → Judgement) (r : Refusal)
+    → cond t ended (refusedBy r) ≡ went ended more (cond t (record { next = Ends; word = blank }) (stopsBy r))
+went-last true ended more r = refl
+went-last false ended more r = refl
+
+went-more : (t u v : Bool) (ended : Judgement) (more : Word → Judgement) (r s : Refusal) (at : ℕ) (o : OneWord) (a : one.Judged)
+    → cond t ended (cond u (refusedBy r) (cond v (refusedBy s) (afterWord at a (more (o .word)))))
+    ≡ went ended more (cond t (record { next = Ends; word = blank }) (cond u (stopsBy r) (cond v (stopsBy s) (stepOf at o a))))
+went-more true u v ended more r s at o a = refl
+went-more false true v ended more r s at o a = refl
+went-more false false true ended more r s at o a = refl
+went-more false false false ended more r s at o one.Judged.Right = refl
+went-more false false false ended more r s at o (one.Judged.Wrong fault) = refl
+
+module _ (wide : Bool) (places n at : ℕ) (rest : List ℕ) (ws : List Word) (h : n ≤ 32) (hn : length ws ≡ n) where
+  abbrev done : Judgement
+  done = record { answer = endedAt wide at rest n; words = ws }
+
+  abbrev further : Word → Judgement
+  further w = blockFrom (32 - (n + 1)) wide places (at + wordSize wide) (drop (wordSize wide) rest) (ws ++ (w ∷ []))
+
+  block-walk : blockFrom (32 - n) wide places at rest ws ≡ went done further (nextOf wide places n at rest)
+  unfolding blockFrom
+  block-walk = go (32 - n) refl
+    where
+      go : (m : ℕ) → 32 - n ≡ m → blockFrom m wide places at rest ws ≡ went done further (nextOf wide places n at rest)
+      go zero e = rw (hn, le-leb 32 n (omega arith)) (went-last (isAt 13 rest) done further (NoEnd at))
+      go (suc m) e =
+          let left : 32 - (n + 1) ≡ m = omega arith in
+          rw (hn, lt-leb 32 n (omega arith), ← left)
+          (went-more (isAt 13 rest) (ltb (length rest) (wordSize wide)) (leb places n) done further (Wrong Short at) (NoPlace at) at (wordOf wide rest) (wordOf wide rest .answer))
+
+  module _ (r : Stepped) (found : r ≡ nextOf wide places n at rest) where
+    walked : blockFrom (32 - n) wide places at rest ws ≡ went done further r
+    walked = block-walk ∙ sym (ap (went done further) found)
+
+    pub walk-ends : r .next ≡ Ends → blockFrom (32 - n) wide places at rest ws ≡ record { answer = endedAt wide at rest n; words = ws }
+    walk-ends e = walked ∙ rw e
+
+    pub walk-stops : (refusal : Refusal) → r .next ≡ Stops refusal → blockFrom (32 - n) wide places at rest ws ≡ refusedBy refusal
+    walk-stops refusal e = walked ∙ rw e
+
+    pub walk-goes : r .next ≡ Goes
+        → blockFrom (32 - n) wide places at rest ws
+        ≡ blockFrom (32 - (n + 1)) wide places (at + wordSize wide) (drop (wordSize wide) rest) (ws ++ (r .word ∷ []))
+    walk-goes e = walked ∙ rw e
+
+-- the same as the walk goes: a list of which n records are kept, and a place that moves by size
+pub walk-on : (m n at size : ℕ) (wide : Bool) (places : ℕ) (s : List ℕ) (words : List Word) (w : Word) → n < length words → size ≡ wordSize wide
+    → blockFrom m wide places (at + wordSize wide) (drop (wordSize wide) (drop at s)) (take n words ++ (w ∷ []))
+    ≡ blockFrom m wide places (at + size) (drop (at + size) s) (take (n + 1) (set words n w))
+walk-on m n at size wide places s words w h e = rw (e, drop-drop (wordSize wide) at s, add-one n, take-suc-set words n w h)
+
+-- what a step that found the end, or a word, tells of its place
+
+abbrev steppedBy : Bool → Bool → Bool → Bool → ℕ → OneWord → one.Judged → Stepped
+steppedBy t u v x at o a =
+    cond t (record { next = Ends; word = blank }) (cond u (stopsBy (NoEnd at)) (cond v (stopsBy (Wrong Short at)) (cond x (stopsBy (NoPlace at)) (stepOf at o a))))
+
+ended-told : (t u v x : Bool) (at : ℕ) (o : OneWord) (a : one.Judged) → steppedBy t u v x at o a .next ≡ Ends → t ≡ true
+ended-told true u v x at o a e = refl
+ended-told false true v x at o a e = apart cc
+ended-told false false true x at o a e = apart cc
+ended-told false false false true at o a e = apart cc
+ended-told false false false false at o one.Judged.Right e = apart cc
+ended-told false false false false at o (one.Judged.Wrong fault) e = apart cc
+
+gone-told : (t u v x : Bool) (at : ℕ) (o : OneWord) (a : one.Judged) → steppedBy t u v x at o a .next ≡ Goes → (u ≡ false) × (v ≡ false)
+gone-told true u v x at o a e = apart cc
+gone-told false true v x at o a e = apart cc
+gone-told false false true x at o a e = apart cc
+gone-told false false false x at o a e = (refl, refl)
+
+module _ (wide : Bool) (places n at : ℕ) (s : List ℕ) (r : Stepped) (found : r ≡ nextOf wide places n at (drop at s)) where
+  pub ends-inside : r .next ≡ Ends → at < length s
+  ends-inside e =
+      let rest = drop at s in
+      let next : nextOf wide places n at rest .next ≡ Ends = rw found at e in
+      is-inside 13 s at (ended-told (isAt 13 rest) (leb 32 n) (ltb (length rest) (wordSize wide)) (leb places n) at (wordOf wide rest) (wordOf wide rest .answer) next)
+
+  pub goes-inside : at ≤ length s → r .next ≡ Goes → (n < 32) × (at + wordSize wide ≤ length s)
+  goes-inside h e =
+      let rest = drop at s in
+      let next : nextOf wide places n at rest .next ≡ Goes = rw found at e in
+      let told = gone-told (isAt 13 rest) (leb 32 n) (ltb (length rest) (wordSize wide)) (leb places n) at (wordOf wide rest) (wordOf wide rest .answer) next in
+      (leb-false 32 n (told .0), omega (arith, ltb-false (length rest) (wordSize wide) (told .1), length-drop at s))
+
+-- the records kept: those of a list up to n, and then those that were there first
+
+module _ {A : Type 0} (words first : List A) (n : ℕ) where
+  pub kept-all : n ≤ length words → drop n words ≡ drop n first → take n words ++ drop (length (take n words)) first ≡ words
+  kept-all h e = rw (length-take-le n words h, ← e) (take-append-drop n words)
+
+  pub kept-more : (w : A) → drop n words ≡ drop n first → drop (n + 1) (set words n w) ≡ drop (n + 1) first
+  kept-more w e = drop-set-lt (n + 1) words n w (omega arith) ∙ (sym (drop-drop 1 n words) ∙ (ap (drop 1) e ∙ drop-drop 1 n first))
+
+-- a judgement that keeps them is the block's
+pub kept-judged : (j : kept.Judgement) (words : List Word) (n : ℕ) → n ≤ length words → drop n words ≡ drop n (noBlock .words)
+    → j .block ≡ record { words = words; n = n } → j ≡ keptOf (record { answer = j .answer; words = take n words })
+kept-judged j words n h e eb =
+    let all = kept-all words (noBlock .words) n h e in
+    let size = length-take-le n words h in
+    let block : j .block ≡ blockOf (take n words) = eb ∙ (λ i. record { words = sym all i; n = sym size i }) in
+    λ i. record { answer = j .answer; block = block i }
+
+-- the block's start
+
+pub start-small : (wide : Bool) → startOf wide ≤ 1
+start-small true = omega arith
+start-small false = omega arith
+
+module _ (s : List ℕ) (places : ℕ) where
+  pub judged-empty : length s ≡ 0 → judged s places ≡ refusedBy Empty
+  judged-empty e = rw (eq-eqb (length s) 0 e)
+
+  module _ (start : ℕ) (some : length s ≡ 0 → ⊥) (e : start ≡ startOf (isWide s)) where
+    pub judged-no-word : isAt 13 (drop start s) ≡ true → judged s places ≡ refusedBy NoWord
+    judged-no-word h = rw (ne-eqb (length s) 0 some, ← e, h)
+
+    pub judged-words : isAt 13 (drop start s) ≡ false → judged s places ≡ blockFrom 32 (isWide s) places start (drop start s) []
+    judged-words h = rw (ne-eqb (length s) 0 some, ← e, h)

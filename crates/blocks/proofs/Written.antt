@@ -1,0 +1,192 @@
+-- Each list that the writer takes reads back to that list.
+use Prim.Native.Nat.{ℕ, zero, suc, _+_, _≤_, _<_}
+use mathlib.Core.Path.{_≡_, refl, sym, ap, _∙_}
+use mathlib.Core.Bool.{Bool, true, false, cond, _&&_, _||_, false≢true, and-eq-true-iff}
+use mathlib.Core.List.{List, [], _∷_, _++_, append-assoc, append-nil}
+use native.Mathlib.Omega.{arith}
+use borrow.Author.Tests.{eqb-false, eq-eqb, ne-eqb, lt-ltb, le-ltb, lt-leb, ltb-false}
+use lib.Dec.{eqb, ltb}
+use lib.ListN.{length, getD, take, drop, length-append}
+use lib.Seq.{drop-at, take-at}
+use Rattle.figures.specs.Bytes.{laid}
+use Rattle.figures.specs.Decimal.{isDigit}
+use Rattle.figures.proofs.Bytes.{within-bounds, laid-fits}
+use Rattle.words.specs.Records.{isRight}
+use Rattle.words.specs.Reading.{wordSize, wordOf, rightWord}
+use Rattle.words.specs.Writing.{bytesOf}
+use Rattle.words.specs.declared.records.Word.{Word}
+use Rattle.words.specs.declared.reading.OneWord.{OneWord}
+use Rattle.words.proofs.RoundTrip.{write-read, bytes-length, first-written}
+use Rattle.blocks.specs.Judging.{isAt, isWide, startOf, blockFrom, judged}
+use Rattle.blocks.specs.Composing.{starBytes, endBytes, wordsBytes, blockBytes, unlessWrong, Written·room, refusedRoom, fitted, written}
+use Rattle.blocks.specs.declared.answers.Refusal.{Refusal}
+use Rattle.blocks.specs.declared.answers.Refusal.the-variants.{Count, Record, Room}
+use Rattle.blocks.specs.declared.answers.Wrote.the-variants.{Refused, Written}
+use Rattle.blocks.specs.Rules.{rightAll, Lawful, readAs, readingOf}
+
+at-first : (b : ℕ) (rest : List ℕ) → isAt b (b ∷ rest) ≡ true
+at-first b rest = rw (lt-ltb 0 (suc (length rest)) (omega arith)) (eq-eqb b b refl)
+
+-- what begins with a digit is not empty, and begins with neither CR nor `*`
+
+digit-some : (s : List ℕ) → isDigit (getD s 0 0) ≡ true → 0 < length s
+digit-some [] e = absurd (false≢true e)
+digit-some (x ∷ s) e = omega arith
+
+digit-not : (s : List ℕ) (b : ℕ) → isDigit (getD s 0 0) ≡ true → b < 48 → eqb (getD s 0 0) b ≡ false
+digit-not s b e h = let d = within-bounds 48 57 (getD s 0 0) e in ne-eqb (getD s 0 0) b (λ q. omega arith)
+
+no-end : (s : List ℕ) → isDigit (getD s 0 0) ≡ true → isAt 13 s ≡ false
+no-end s e = rw (lt-ltb 0 (length s) (digit-some s e), digit-not s 13 e (omega arith))
+
+-- a step of the walk through a block, at a word
+goes : (more : ℕ) (wide : Bool) (places at : ℕ) (s rest : List ℕ) (done : List Word) (w : Word) → isAt 13 s ≡ false → wordSize wide ≤ length s → length done < places
+    → wordOf wide s ≡ rightWord w → drop (wordSize wide) s ≡ rest
+    → blockFrom (suc more) wide places at s done ≡ blockFrom more wide places (at + wordSize wide) rest (done ++ (w ∷ []))
+unfolding blockFrom
+goes more wide places at s rest done w first long free e d =
+    rw (first, le-ltb (length s) (wordSize wide) long, lt-leb places (length done) free, ap (λ (o : OneWord). o .answer) e, ap (λ (o : OneWord). o .word) e, d)
+
+-- and at the end
+ends : (more : ℕ) (wide crlf : Bool) (places at : ℕ) (rest : List ℕ) (done : List Word) → (crlf ≡ false → isAt 10 rest ≡ false)
+    → blockFrom more wide places at (endBytes crlf ++ rest) done
+    ≡ readAs (record { wide = wide; crlf = crlf; words = length done; used = at + length (endBytes crlf) }) done
+unfolding blockFrom
+ends zero wide true places at rest done h = rw (at-first 13 (10 ∷ rest), at-first 10 rest)
+ends (suc more) wide true places at rest done h = rw (at-first 13 (10 ∷ rest), at-first 10 rest)
+ends zero wide false places at rest done h = rw (at-first 13 rest, h refl)
+ends (suc more) wide false places at rest done h = rw (at-first 13 rest, h refl)
+
+-- the walk through the bytes of the words that are still to come
+from-written : (more : ℕ) (wide crlf : Bool) (places at : ℕ) (rest : List ℕ) (done ws : List Word) → length ws ≤ more → length done + length ws ≤ places
+    → rightAll wide ws ≡ true → (crlf ≡ false → isAt 10 rest ≡ false)
+    → blockFrom more wide places at (wordsBytes wide ws ++ (endBytes crlf ++ rest)) done
+    ≡ readAs (record { wide = wide; crlf = crlf; words = length (done ++ ws); used = at + length (wordsBytes wide ws ++ endBytes crlf) }) (done ++ ws)
+unfolding rightAll wordsBytes
+from-written more wide crlf places at rest done [] most placed right h = rw append-nil (ends more wide crlf places at rest done h)
+from-written zero wide crlf places at rest done (w ∷ ws) most placed right h = absurd (omega arith)
+from-written (suc more) wide crlf places at rest done (w ∷ ws) most placed right h =
+    let k = wordSize wide in
+    let parts = and-eq-true-iff (isRight wide w) (rightAll wide ws) .0 right in
+    let size = bytes-length wide w (parts .0) in
+    let tail = wordsBytes wide ws ++ (endBytes crlf ++ rest) in
+    let is : (bytesOf wide w ++ wordsBytes wide ws) ++ (endBytes crlf ++ rest) ≡ bytesOf wide w ++ tail = append-assoc (bytesOf wide w) (wordsBytes wide ws) (endBytes crlf ++ rest) in
+    let whole : at + k + length (wordsBytes wide ws ++ endBytes crlf) ≡ at + length ((bytesOf wide w ++ wordsBytes wide ws) ++ endBytes crlf) =
+    omega (arith, length-append (bytesOf wide w ++ wordsBytes wide ws) (endBytes crlf), length-append (bytesOf wide w) (wordsBytes wide ws), length-append (wordsBytes wide ws) (endBytes crlf)) in
+    let list : (done ++ (w ∷ [])) ++ ws ≡ done ++ (w ∷ ws) = append-assoc done (w ∷ []) ws in
+    ap (λ s. blockFrom (suc more) wide places at s done) is
+    ∙ goes more wide places at (bytesOf wide w ++ tail) tail done w (no-end (bytesOf wide w ++ tail) (first-written wide w tail (parts .0))) (omega (arith, length-append (bytesOf wide w) tail)) (omega arith) (write-read wide w tail (parts .0)) (drop-at (bytesOf wide w) tail k size)
+    ∙ from-written more wide crlf places (at + k) rest (done ++ (w ∷ [])) ws (omega arith) (omega (arith, length-append done (w ∷ []))) (parts .1) h
+    ∙ rw (whole, list)
+
+words-digit : (wide : Bool) (ws : List Word) (rest : List ℕ) → Lawful wide ws → isDigit (getD (wordsBytes wide ws ++ rest) 0 0) ≡ true
+unfolding wordsBytes rightAll
+words-digit wide [] rest l = absurd (omega arith)
+words-digit wide (w ∷ ws) rest l =
+    rw (append-assoc (bytesOf wide w) (wordsBytes wide ws) rest)
+    (first-written wide w (wordsBytes wide ws ++ rest) (and-eq-true-iff (isRight wide w) (rightAll wide ws) .0 (l .right) .0))
+
+star-wide : (wide : Bool) (t : List ℕ) → isDigit (getD t 0 0) ≡ true → isWide (starBytes wide ++ t) ≡ wide
+star-wide true t e = refl
+star-wide false t e = digit-not t 42 e (omega arith)
+
+star-length : (wide : Bool) → length (starBytes wide) ≡ startOf wide
+star-length true = refl
+star-length false = refl
+
+-- past `*`, where the words begin
+opens : (wide : Bool) (t : List ℕ) (places : ℕ) → isDigit (getD t 0 0) ≡ true → judged (starBytes wide ++ t) places ≡ blockFrom 32 wide places (startOf wide) t []
+opens wide t places e =
+    let s = starBytes wide ++ t in
+    let some : eqb (length s) 0 ≡ false = ne-eqb (length s) 0 (λ q. omega (arith, length-append (starBytes wide) t, digit-some t e)) in
+    let from : drop (startOf wide) s ≡ t = drop-at (starBytes wide) t (startOf wide) (star-length wide) in
+    rw (some, star-wide wide t e, from, no-end t e)
+
+-- a block reads back to its records, whatever comes after it; but an LF after a lone CR would be the block's own
+pub block-read : (wide crlf : Bool) (ws : List Word) (rest : List ℕ) (places : ℕ) → Lawful wide ws → length ws ≤ places → (crlf ≡ false → isAt 10 rest ≡ false)
+    → judged (blockBytes wide crlf ws ++ rest) places ≡ readAs (readingOf wide crlf ws) ws
+block-read wide crlf ws rest places l placed h =
+    let t = wordsBytes wide ws ++ (endBytes crlf ++ rest) in
+    let is : blockBytes wide crlf ws ++ rest ≡ starBytes wide ++ t = simp append-assoc in
+    let used : startOf wide + length (wordsBytes wide ws ++ endBytes crlf) ≡ length (blockBytes wide crlf ws) =
+    omega (arith, star-length wide, length-append (starBytes wide) (wordsBytes wide ws ++ endBytes crlf)) in
+    ap (λ s. judged s places) is
+    ∙ opens wide t places (words-digit wide ws (endBytes crlf ++ rest) l)
+    ∙ from-written 32 wide crlf places (startOf wide) rest [] ws (l .most) (omega arith) (l .right) h
+    ∙ rw used
+
+-- what the writer takes
+
+not-written : (f : Refusal) (n : ℕ) (room room′ : List ℕ) → refusedRoom room f ≡ record { answer = Written n; room = room′ } → ⊥
+not-written f n room room′ e =
+    let q : Refused f ≡ Written n = ap (λ (v : Written·room). v .answer) e in
+    let z : _≡_ {A = ℕ} 0 1 = cc in
+    omega arith
+
+take-written : (b : Bool) (f : Refusal) (n : ℕ) (v : Written·room) (room room′ : List ℕ) → cond b (refusedRoom room f) v ≡ record { answer = Written n; room = room′ }
+    → (b ≡ false) × (v ≡ record { answer = Written n; room = room′ })
+take-written true f n v room room′ e = absurd (not-written f n room room′ e)
+take-written false f n v room room′ e = (refl, e)
+
+right-written : {A : Type 0} (wide : Bool) (i : ℕ) (ws : List Word) (wrong : ℕ → A) (next v : A) → ((j : ℕ) → wrong j ≡ v → ⊥) → unlessWrong wide i ws wrong next ≡ v
+    → (rightAll wide ws ≡ true) × (next ≡ v)
+unfolding unlessWrong rightAll
+right-written wide i [] wrong next v h e = (refl, e)
+right-written wide i (w ∷ ws) wrong next v h e = go (isRight wide w) refl (right-written wide (i + 1) ws wrong next v h) e
+  where
+    go : (b : Bool) → isRight wide w ≡ b → (unlessWrong wide (i + 1) ws wrong next ≡ v → (rightAll wide ws ≡ true) × (next ≡ v))
+        → cond b (unlessWrong wide (i + 1) ws wrong next) (wrong i) ≡ v → (isRight wide w && rightAll wide ws ≡ true) × (next ≡ v)
+    go true q ih d = (rw q (ih d .0), ih d .1)
+    go false q ih d = absurd (h i d)
+
+unless-right : {A : Type 0} (wide : Bool) (i : ℕ) (ws : List Word) (wrong : ℕ → A) (next : A) → rightAll wide ws ≡ true → unlessWrong wide i ws wrong next ≡ next
+unfolding unlessWrong rightAll
+unless-right wide i [] wrong next e = refl
+unless-right wide i (w ∷ ws) wrong next e =
+    let parts = and-eq-true-iff (isRight wide w) (rightAll wide ws) .0 e in
+    rw (parts .0) (unless-right wide (i + 1) ws wrong next (parts .1))
+
+-- what it says of a list that it is written
+pub record Taken (ws : List Word) (wide crlf : Bool) (room : List ℕ) (n : ℕ) (room′ : List ℕ) : Type 0 where
+  pub lawful : Lawful wide ws
+  pub size : n ≡ length (blockBytes wide crlf ws)
+  pub fits : length (blockBytes wide crlf ws) ≤ length room
+  pub laid-down : room′ ≡ laid (blockBytes wide crlf ws) room
+
+neither : (a b : Bool) → a || b ≡ false → (a ≡ false) × (b ≡ false)
+neither true b e = absurd (false≢true (sym e))
+neither false b e = (refl, e)
+
+pub written-lawful : (ws : List Word) (wide crlf : Bool) (room : List ℕ) (n : ℕ) (room′ : List ℕ) → written ws wide crlf room ≡ record { answer = Written n; room = room′ }
+    → Taken ws wide crlf room n room′
+written-lawful ws wide crlf room n room′ e =
+    let bytes = blockBytes wide crlf ws in
+    let v : Written·room = record { answer = Written n; room = room′ } in
+    let count = take-written (eqb (length ws) 0 || ltb 32 (length ws)) Count n _ room room′ e in
+    let right = right-written wide 0 ws (λ i. refusedRoom room (Record i)) (fitted bytes room) v (λ i. not-written (Record i) n room room′) (count .1) in
+    let fits = take-written (ltb (length room) (length bytes)) (Room (length bytes)) n _ room room′ (right .1) in
+    let (some, most) = neither (eqb (length ws) 0) (ltb 32 (length ws)) (count .0) in
+    let size : Written (length bytes) ≡ Written n = ap (λ (x : Written·room). x .answer) (fits .1) in
+    record {
+      lawful = record { some = omega (arith, eqb-false (length ws) 0 some); most = ltb-false 32 (length ws) most; right = right .0 };
+      size = cc;
+      fits = ltb-false (length room) (length bytes) (fits .0);
+      laid-down = sym (ap (λ (x : Written·room). x .room) (fits .1));
+    }
+
+-- a list that a block can hold is written where there is room for it
+pub lawful-written : (ws : List Word) (wide crlf : Bool) (room : List ℕ) → Lawful wide ws → length (blockBytes wide crlf ws) ≤ length room
+    → written ws wide crlf room ≡ record { answer = Written (length (blockBytes wide crlf ws)); room = laid (blockBytes wide crlf ws) room }
+lawful-written ws wide crlf room l fits =
+    rw (ne-eqb (length ws) 0 (λ e. omega arith), le-ltb 32 (length ws) (l .most))
+    (unless-right wide 0 ws (λ i. refusedRoom room (Record i)) (fitted (blockBytes wide crlf ws) room) (l .right)
+    ∙ rw (le-ltb (length room) (length (blockBytes wide crlf ws)) fits))
+
+pub written-read : (ws : List Word) (wide crlf : Bool) (room : List ℕ) (n : ℕ) (room′ : List ℕ) (places : ℕ) → written ws wide crlf room ≡ record { answer = Written n; room = room′ }
+    → length ws ≤ places → judged (take n room′) places ≡ readAs (record { wide = wide; crlf = crlf; words = length ws; used = n }) ws
+written-read ws wide crlf room n room′ places e placed =
+    let bytes = blockBytes wide crlf ws in
+    let t = written-lawful ws wide crlf room n room′ e in
+    let is : take n room′ ≡ bytes ++ [] =
+    ap (take n) (t .laid-down ∙ laid-fits bytes room (t .fits)) ∙ take-at bytes (drop (length bytes) room) n (sym (t .size)) ∙ sym (append-nil bytes) in
+    ap (λ s. judged s places) is ∙ block-read wide crlf ws [] places (t .lawful) placed (λ h. refl) ∙ rw (t .size)

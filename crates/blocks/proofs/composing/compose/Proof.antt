@@ -1,0 +1,116 @@
+-- `composing::compose` meets its contract: the words are put, and the terminator after them.
+use Prim.Native.Nat.{ℕ, _+_, _≤_}
+use mathlib.Core.Path.{_≡_, sym, _∙_}
+use mathlib.Core.List.{_++_}
+use mathlib.Core.Option.{none}
+use native.Mathlib.Omega.{arith}
+use borrow.Author.Needs.{needs}
+use lib.ListN.{length, take, replicate}
+use Rattle.figures.specs.Bytes.{laid}
+use Rattle.blocks.specs.Composing.{starBytes, wordsBytes, blockBytes}
+use Rattle.blocks.proofs.Rooms.{listed, firstWrong, room-size}
+use Rattle.blocks.proofs.Composes.{put-written, put-same, words-end, composed-none, composed-some, composed-right, ends-cr, ends-crlf}
+use Rattle.blocks.proofs.composing.compose.Statement.{statement}
+use Rattle.blocks.proofs.composing.compose.Tie as tie
+
+refuse-list-requires : tie.Need-refuse-list-requires
+refuse-list-requires c κs = search needs
+
+returns : tie.Need-returns
+returns c =
+    let start = c .before .before .before in
+    let a = start .args in
+    let count = listed (a .b) _ (start .good .0) (start .pre) in
+    c .refuse-list .ensures ∙ sym (composed-none (a .wide) (a .crlf) (take (a .b .n) (a .b .words)) (count ∙ c .before .if1 .taken))
+
+some-words : (c : tie.Else1) → let b = c .before .before .args .b in length (take (b .n) (b .words)) ≡ 0 → ⊥
+some-words c e =
+    let start = c .before .before in
+    c .if1 .left (sym (listed (start .args .b) _ (start .good .0) (start .pre)) ∙ e)
+
+put-words-requires : tie.Need-put-words-requires
+put-words-requires c κs = search needs
+
+enum-known-answer : tie.Need-enum-known-answer
+enum-known-answer c = search needs
+
+enum-told : tie.Need-enum-told
+enum-told c = search needs
+
+returns-2 : tie.Need-returns-2
+returns-2 c =
+    let a = c .before .before .before .before .before .args in
+    let ws = take (a .b .n) (a .b .words) in
+    let put = c .before .before .put-words in
+    put-same (replicate 771 0) (a .wide) ws (starBytes (a .wide) ++ wordsBytes (a .wide) ws) (put .result) (put .ensures) (c .enum-told .given .0 .0) (c .enum-told .given .1) (blockBytes (a .wide) (a .crlf) ws)
+    ∙ sym (composed-some (a .wide) (a .crlf) ws (some-words (c .before .before .before)))
+
+-- the words are right, and end before the terminator's place
+abbrev Put : tie.After-answer → Type 0
+Put c =
+    let a = c .before .before .before .before .before .args in
+    let ws = take (a .b .n) (a .b .words) in
+    let done = starBytes (a .wide) ++ wordsBytes (a .wide) ws in
+    let at = c .answer .given .0 .0 in
+    (firstWrong (a .wide) 0 ws ≡ none)
+    × (at ≡ length done)
+    × (c .before .before .put-words .result .bytes ≡ laid done (replicate 771 0))
+    × (at + 2 ≤ length (replicate {A = ℕ} 771 0))
+
+words-put : (c : tie.After-answer) → Put c
+words-put c =
+    let start = c .before .before .before .before .before in
+    let a = start .args in
+    let ws = take (a .b .n) (a .b .words) in
+    let put = c .before .before .put-words in
+    let count = listed (a .b) _ (start .good .0) (start .pre) in
+    let told = put-written (replicate 771 0) (a .wide) ws (starBytes (a .wide) ++ wordsBytes (a .wide) ws) (put .result) (put .ensures) (c .answer .given .0 .0) (c .answer .given .1) in
+    let fits = words-end (a .wide) ws (omega (arith, start .pre)) (told .0) in
+    (told .0, told .1, told .2, omega (arith, told .1, room-size))
+
+array-write-bytes : tie.Need-array-write-bytes
+array-write-bytes c = omega (arith, words-put (c .before .before) .3, room-size)
+
+add-past : tie.Need-add-past
+add-past c = omega (arith, words-put (c .before .before) .3, room-size)
+
+array-write-bytes-2 : tie.Need-array-write-bytes-2
+array-write-bytes-2 c = omega (arith, words-put (c .before .before .before) .3, room-size)
+
+add-t17 : tie.Need-add-t17
+add-t17 c = omega (arith, words-put (c .before .before .before) .3, room-size)
+
+returns-3 : tie.Need-returns-3
+returns-3 c =
+    let here = c .before .before .before in
+    let a = here .before .before .before .before .before .args in
+    let ws = take (a .b .n) (a .b .words) in
+    let put = words-put here in
+    ends-crlf (starBytes (a .wide)) (wordsBytes (a .wide) ws) (replicate 771 0) (here .before .before .put-words .result .bytes) (here .answer .given .0 .0) (a .crlf) (put .1) (put .3) (put .2) (c .if2 .taken)
+    ∙ sym (composed-right (a .wide) (a .crlf) ws (some-words (here .before .before .before)) (put .0))
+
+returns-4 : tie.Need-returns-4
+returns-4 c =
+    let here = c .before .before .before in
+    let a = here .before .before .before .before .before .args in
+    let ws = take (a .b .n) (a .b .words) in
+    let put = words-put here in
+    ends-cr (starBytes (a .wide)) (wordsBytes (a .wide) ws) (replicate 771 0) (here .before .before .put-words .result .bytes) (here .answer .given .0 .0) (a .crlf) (put .1) (put .3) (put .2) (c .if2 .left)
+    ∙ sym (composed-right (a .wide) (a .crlf) ws (some-words (here .before .before .before)) (put .0))
+
+pub compose-spec : {M : Type 1} → statement M
+compose-spec =
+    tie.close
+    (tie.spec
+    refuse-list-requires
+    returns
+    put-words-requires
+    enum-known-answer
+    enum-told
+    returns-2
+    array-write-bytes
+    add-past
+    array-write-bytes-2
+    add-t17
+    returns-3
+    returns-4)

@@ -1,0 +1,120 @@
+-- `composing::emit` meets its contract: the list is refused by its count or by a record, or its bytes fit the room or not.
+use Prim.Native.Nat.{_-_, _≤_}
+use mathlib.Core.Path.{_≡_, refl, ap, _∙_}
+use native.Mathlib.Omega.{arith}
+use borrow.Author.Needs.{needs}
+use lib.ListN.{length, take, replicate}
+use Rattle.figures.specs.Bytes.{laid}
+use Rattle.words.specs.Records.{blank}
+use Rattle.blocks.specs.declared.answers.Refusal.the-variants.{Count, Room}
+use Rattle.blocks.specs.declared.answers.Wrote.the-variants.{Refused, Written}
+use Rattle.blocks.specs.Composing.{blockBytes, listOf, written, fitted}
+use Rattle.blocks.proofs.Rooms.{listed, room-size, room-length}
+use Rattle.blocks.proofs.Composes.{composed-refused, composed-written, fitted-not, fitted-laid, listed-many, listed-few, writes-as}
+use Rattle.blocks.proofs.composing.emit.Statement.{statement}
+use Rattle.blocks.proofs.composing.emit.Tie as tie
+
+returns : tie.Need-returns
+returns c =
+    let a = c .before .before .before .args in
+    writes-as (listOf (a .b)) (replicate 33 blank) (a .wide) (a .crlf) (a .out .now) (a .out .now) (Refused Count) (listed-many (a .b) (c .if1 .taken)) refl
+
+compose-requires : tie.Need-compose-requires
+compose-requires c κs = search needs
+
+enum-known-answer : tie.Need-enum-known-answer
+enum-known-answer c = search needs
+
+enum-told : tie.Need-enum-told
+enum-told c = search needs
+
+few : (c : tie.Else1) → let b = c .before .before .before .args .b in length (take (b .n) (b .words)) ≤ 32
+few c =
+    let start = c .before .before .before in
+    let count = listed (start .args .b) _ (start .good .0) (c .if1 .left) in
+    omega (arith, c .if1 .left)
+
+returns-2 : tie.Need-returns-2
+returns-2 c =
+    let here = c .before .before .before in
+    let a = here .before .before .before .args in
+    let out = a .out .now in
+    let ws = take (a .b .n) (a .b .words) in
+    let composed = c .before .before .compose in
+    let refused = composed-refused (a .wide) (a .crlf) ws (few here) out (composed .result) (composed .ensures) (c .enum-told .given .0 .0) (c .enum-told .given .1) in
+    writes-as (listOf (a .b)) ws (a .wide) (a .crlf) out out (composed .result .answer) (listed-few (a .b) (here .if1 .left)) (rw (c .enum-told .given .1) refused)
+
+-- the bytes composed, and that writing is then by whether they fit
+abbrev Ready : tie.After-answer → Type 0
+Ready c =
+    let a = c .before .before .before .before .before .before .args in
+    let ws = take (a .b .n) (a .b .words) in
+    let n = c .answer .given .0 .0 in
+    let bytes = blockBytes (a .wide) (a .crlf) ws in
+    (n ≡ length bytes)
+    × (c .before .before .compose .result .bytes ≡ laid bytes (replicate 771 0))
+    × (n ≤ 771)
+    × (written ws (a .wide) (a .crlf) (a .out .now) ≡ fitted bytes (a .out .now))
+
+ready : (c : tie.After-answer) → Ready c
+ready c =
+    let a = c .before .before .before .before .before .before .args in
+    let composed = c .before .before .compose in
+    composed-written (a .wide) (a .crlf) (take (a .b .n) (a .b .words)) (few (c .before .before .before)) (a .out .now) (composed .result) (composed .ensures) (c .answer .given .0 .0) (c .answer .given .1)
+
+returns-3 : tie.Need-returns-3
+returns-3 c =
+    let here = c .before .before in
+    let a = here .before .before .before .before .before .before .args in
+    let out = a .out .now in
+    let ws = take (a .b .n) (a .b .words) in
+    let n = here .answer .given .0 .0 in
+    let there = ready here in
+    writes-as (listOf (a .b)) ws (a .wide) (a .crlf) out out (Refused (Room n)) (listed-few (a .b) (here .before .before .before .if1 .left)) (there .3 ∙ fitted-not (blockBytes (a .wide) (a .crlf) ws) out n (there .0) (c .if2 .taken))
+
+sub-lay : tie.Need-sub-lay
+sub-lay c = search needs
+
+part-lay-start : tie.Need-part-lay-start
+part-lay-start c = search needs
+
+part-lay-end : tie.Need-part-lay-end
+part-lay-end c =
+    let a = c .before .before .before .before .before .before .before .before .before .before .args in
+    let there = ready (c .before .before .before .before) in
+    omega (arith, there .2, ap length (there .1), room-length (blockBytes (a .wide) (a .crlf) (take (a .b .n) (a .b .words))))
+
+lay-requires : tie.Need-lay-requires
+lay-requires c κs = search needs
+
+same-length : tie.Need-same-length
+same-length c = search needs
+
+returns-4 : tie.Need-returns-4
+returns-4 c =
+    let lay = c .before .before .lay in
+    let here = c .before .before .before .before .before .before .before .before .before in
+    let a = here .before .before .before .before .before .before .args in
+    let out = a .out .now in
+    let ws = take (a .b .n) (a .b .words) in
+    let n = here .answer .given .0 .0 in
+    let there = ready here in
+    let all = fitted-laid (blockBytes (a .wide) (a .crlf) ws) out n (there .0) (replicate 771 0) (here .before .before .compose .result .bytes) (lay .last .1 .0) (n - 0) (omega arith) (omega (arith, there .2, room-size)) (c .before .before .before .before .before .before .before .if2 .left) (there .1) (lay .ensures) in
+    writes-as (listOf (a .b)) ws (a .wide) (a .crlf) out (lay .last .1 .0) (Written n) (listed-few (a .b) (here .before .before .before .if1 .left)) (there .3 ∙ all)
+
+pub emit-spec : {M : Type 1} → statement M
+emit-spec =
+    tie.close
+    (tie.spec
+    returns
+    compose-requires
+    enum-known-answer
+    enum-told
+    returns-2
+    returns-3
+    sub-lay
+    part-lay-start
+    part-lay-end
+    lay-requires
+    same-length
+    returns-4)

@@ -1,0 +1,22 @@
+-- `judging::is_at` meets its contract.
+use mathlib.Core.Path.{sym}
+use borrow.Author.Needs.{needs}
+use Rattle.blocks.proofs.Steps.{is-in, is-past}
+use Rattle.blocks.proofs.judging.is_at.Statement.{statement}
+use Rattle.blocks.proofs.judging.is_at.Tie as tie
+
+shared-slice-read-result : tie.Need-shared-slice-read-result
+shared-slice-read-result c = search needs
+
+returns : tie.Need-returns
+returns c =
+    let a = c .before .before .args in
+    sym (is-in (a .b) (a .s .now) (a .at) (c .before .if1 .taken))
+
+returns-2 : tie.Need-returns-2
+returns-2 c =
+    let a = c .before .args in
+    sym (is-past (a .b) (a .s .now) (a .at) (c .if1 .left))
+
+pub is-at-spec : {M : Type 1} → statement M
+is-at-spec = tie.close (tie.spec shared-slice-read-result returns returns-2)

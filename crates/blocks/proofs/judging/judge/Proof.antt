@@ -1,0 +1,63 @@
+-- `judging::judge` meets its contract: each return is a law of the block's start.
+use mathlib.Core.Path.{sym, ap, _∙_}
+use native.Mathlib.Omega.{arith}
+use borrow.Author.Needs.{needs}
+use Rattle.blocks.specs.Judging.{isWide, keptOf}
+use Rattle.blocks.proofs.Steps.{start-small, judged-empty, judged-no-word, judged-words}
+use Rattle.blocks.proofs.judging.judge.Statement.{statement}
+use Rattle.blocks.proofs.judging.judge.Tie as tie
+
+refuse-requires : tie.Need-refuse-requires
+refuse-requires c κs = search needs
+
+returns : tie.Need-returns
+returns c =
+    let a = c .before .before .before .args in
+    c .refuse .ensures ∙ sym (ap keptOf (judged-empty (a .s .now) (a .places) (c .before .if1 .taken)))
+
+shared-slice-read-wide : tie.Need-shared-slice-read-wide
+shared-slice-read-wide c = search needs
+
+start-of-requires : tie.Need-start-of-requires
+start-of-requires c κs = search needs
+
+is-at-requires : tie.Need-is-at-requires
+is-at-requires c κs = search needs
+
+refuse-requires-2 : tie.Need-refuse-requires-2
+refuse-requires-2 c κs = search needs
+
+returns-2 : tie.Need-returns-2
+returns-2 c =
+    let here = c .before .before in
+    let start = here .before .start-of in
+    let a = here .before .before .before .before .before .args in
+    let byte = sym (here .is-at .ensures) ∙ c .before .if2 .taken in
+    c .refuse2 .ensures ∙ sym (ap keptOf (judged-no-word (a .s .now) (a .places) (start .result) (here .before .before .before .if1 .left) (start .ensures) byte))
+
+words-from-requires : tie.Need-words-from-requires
+words-from-requires c κs =
+    let start = c .before .before in
+    omega (arith, start-small (isWide (start .before .before .before .before .args .s .now)), start .start-of .ensures, start .before .before .if1 .left)
+
+returns-3 : tie.Need-returns-3
+returns-3 c =
+    let here = c .before .before in
+    let start = here .before .start-of in
+    let a = here .before .before .before .before .before .args in
+    let byte = sym (here .is-at .ensures) ∙ c .before .if2 .left in
+    c .words-from .ensures ∙ sym (ap keptOf (judged-words (a .s .now) (a .places) (start .result) (here .before .before .before .if1 .left) (start .ensures) byte))
+
+pub judge-spec : {M : Type 1} → statement M
+judge-spec =
+    tie.close
+    (tie.spec
+    refuse-requires
+    returns
+    shared-slice-read-wide
+    start-of-requires
+    is-at-requires
+    refuse-requires-2
+    returns-2
+    words-from-requires
+    returns-3)

@@ -1,0 +1,132 @@
+-- `judging::step` meets its contract: each return is a law of what a step finds.
+use Prim.Native.Nat.{_-_}
+use mathlib.Core.Path.{_≡_, sym, ap, _∙_}
+use mathlib.Core.Bool.{false}
+use native.Mathlib.Omega.{arith}
+use borrow.Author.Needs.{needs}
+use lib.ListN.{length, take, drop, length-drop}
+use lib.Seq.{take-all}
+use Rattle.words.specs.Reading.{wordOf}
+use Rattle.words.specs.declared.reading.OneWord.{OneWord}
+use Rattle.blocks.specs.declared.judging.Stepped.{Stepped}
+use Rattle.blocks.specs.Judging.{isAt, nextOf, stepOf}
+use Rattle.blocks.proofs.Steps.{width-small, next-ends, next-full, next-short, next-no-place, next-word}
+use Rattle.blocks.proofs.judging.step.Statement.{statement}
+use Rattle.blocks.proofs.judging.step.Tie as tie
+
+is-at-requires : tie.Need-is-at-requires
+is-at-requires c κs = search needs
+
+blank-word-requires : tie.Need-blank-word-requires
+blank-word-requires c κs = search needs
+
+-- what the step is to find
+abbrev next : tie.After-is-at → Stepped
+next c =
+    let a = c .before .before .args in
+    nextOf (a .wide) (a .places) (a .count) (a .at) (drop (a .at) (a .s .now))
+
+returns : tie.Need-returns
+returns c =
+    let a = c .before .before .before .before .args in
+    let ended = sym (c .before .before .is-at .ensures) ∙ c .before .if1 .taken in
+    rw (c .blank-word .ensures) (sym (next-ends (a .wide) (a .places) (a .count) (a .at) (drop (a .at) (a .s .now)) ended))
+
+no-end : (c : tie.Else1) → isAt 13 (drop (c .before .before .before .args .at) (c .before .before .before .args .s .now)) ≡ false
+no-end c = sym (c .before .is-at .ensures) ∙ c .if1 .left
+
+stops-requires : tie.Need-stops-requires
+stops-requires c κs = search needs
+
+returns-2 : tie.Need-returns-2
+returns-2 c =
+    let a = c .before .before .before .before .before .args in
+    c .stops .ensures ∙ sym (next-full (a .wide) (a .places) (a .count) (a .at) (drop (a .at) (a .s .now)) (no-end (c .before .before)) (c .before .if2 .taken))
+
+sub-rest : tie.Need-sub-rest
+sub-rest c = search needs
+
+part-rest-start : tie.Need-part-rest-start
+part-rest-start c = search needs
+
+part-rest-end : tie.Need-part-rest-end
+part-rest-end c = search needs
+
+width-of-requires : tie.Need-width-of-requires
+width-of-requires c κs = search needs
+
+add-if3 : tie.Need-add-if3
+add-if3 c = omega (arith, width-small (c .before .before .before .before .before .before .args .wide))
+
+stops-requires-2 : tie.Need-stops-requires-2
+stops-requires-2 c κs = search needs
+
+returns-3 : tie.Need-returns-3
+returns-3 c =
+    let a = c .before .before .before .before .before .before .before .before .args in
+    let left = length-drop (a .at) (a .s .now) in
+    c .stops2 .ensures ∙ sym (next-short (a .wide) (a .places) (a .count) (a .at) (drop (a .at) (a .s .now)) (no-end (c .before .before .before .before .before)) (omega arith) (omega arith))
+
+stops-requires-3 : tie.Need-stops-requires-3
+stops-requires-3 c κs = search needs
+
+returns-4 : tie.Need-returns-4
+returns-4 c =
+    let a = c .before .before .before .before .before .before .before .before .before .args in
+    let left = length-drop (a .at) (a .s .now) in
+    c .stops3 .ensures ∙ sym (next-no-place (a .wide) (a .places) (a .count) (a .at) (drop (a .at) (a .s .now)) (no-end (c .before .before .before .before .before .before)) (omega arith) (omega arith) (omega arith))
+
+read-word-requires : tie.Need-read-word-requires
+read-word-requires c κs = search needs
+
+enum-known-answer : tie.Need-enum-known-answer
+enum-known-answer c = search needs
+
+stops-requires-4 : tie.Need-stops-requires-4
+stops-requires-4 c κs = search needs
+
+enum-told : tie.Need-enum-told
+enum-told c = search needs
+
+-- where a word was read the step is by what the word is
+found : (c : tie.After-read-word) → next (c .before .before .before .before .before .before .before) ≡ stepOf (c .before .before .before .before .before .before .before .before .before .args .at) (c .read-word .result) (c .read-word .result .answer)
+found c =
+    let a = c .before .before .before .before .before .before .before .before .before .args in
+    let s = a .s .now in
+    let rest = drop (a .at) s in
+    let left = length-drop (a .at) s in
+    let all : take (length s - a .at) rest ≡ rest = take-all (length s - a .at) rest (omega arith) in
+    let read : c .read-word .result ≡ wordOf (a .wide) rest = c .read-word .ensures ∙ ap (wordOf (a .wide)) all in
+    next-word (a .wide) (a .places) (a .count) (a .at) rest (no-end (c .before .before .before .before .before .before)) (omega arith) (omega arith) (omega arith)
+    ∙ ap (λ (o : OneWord). stepOf (a .at) o (o .answer)) (sym read)
+
+returns-5 : tie.Need-returns-5
+returns-5 c = c .stops4 .ensures ∙ sym (found (c .before .before .before .before .before) ∙ rw (c .before .before .answer .given .1))
+
+returns-6 : tie.Need-returns-6
+returns-6 c = sym (found (c .before .before .before) ∙ rw (c .enum-told .given .1))
+
+pub step-spec : {M : Type 1} → statement M
+step-spec =
+    tie.close
+    (tie.spec
+    is-at-requires
+    blank-word-requires
+    returns
+    stops-requires
+    returns-2
+    sub-rest
+    part-rest-start
+    part-rest-end
+    width-of-requires
+    add-if3
+    stops-requires-2
+    returns-3
+    stops-requires-3
+    returns-4
+    read-word-requires
+    enum-known-answer
+    stops-requires-4
+    enum-told
+    returns-5
+    returns-6)

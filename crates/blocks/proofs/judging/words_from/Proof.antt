@@ -1,0 +1,144 @@
+-- `judging::words_from` meets its contract. The invariant: the whole block is what comes from the place on after the n records kept.
+use Prim.Native.Nat.{_+_, _-_, _<_, _≤_}
+use mathlib.Core.Path.{_≡_, refl, sym, ap, _∙_}
+use mathlib.Core.List.{[]}
+use native.Mathlib.Omega.{arith}
+use borrow.Author.Needs.{needs}
+use lib.ListN.{length, take, drop, length-set}
+use lib.Seq.{length-take-le}
+use Rattle.words.specs.Reading.{wordSize}
+use Rattle.blocks.specs.declared.judging.Block.{Block}
+use Rattle.blocks.specs.Judging.{blockFrom, keptOf}
+use Rattle.blocks.proofs.Steps.{width-small, walk-ends, walk-stops, walk-goes, walk-on, ends-inside, goes-inside, kept-more, kept-judged}
+use Rattle.blocks.proofs.judging.words_from.Statement.{statement}
+use Rattle.blocks.proofs.judging.words_from.Tie as tie
+
+abbrev Inv-loop : tie.InvT-loop
+Inv-loop s wide start places size words₀ n₀ at₀ words n at =
+    (n ≤ 32)
+    × (at ≤ length s)
+    × (length words ≡ 32)
+    × (drop n words ≡ drop n words₀)
+    × (blockFrom 32 wide places start (drop start s) [] ≡ blockFrom (32 - n) wide places at (drop at s) (take n words))
+
+abbrev μ-loop : tie.MeasureT-loop
+μ-loop s wide start places size words₀ n₀ at₀ words n at = 32 - n
+
+width-of-requires : tie.Need-width-of-requires Inv-loop μ-loop
+width-of-requires c κs = search needs
+
+add-size : tie.Need-add-size Inv-loop μ-loop
+add-size c = omega (arith, width-small (c .before .before .args .wide))
+
+no-block-requires : tie.Need-no-block-requires Inv-loop μ-loop
+no-block-requires c κs = search needs
+
+loop-holds : tie.Need-loop-holds Inv-loop μ-loop
+loop-holds c = (omega arith, c .before .before .before .before .pre, ap (λ (b : Block). length (b .words)) (c .before .no-block .ensures), refl, refl)
+
+step-requires : tie.Need-step-requires Inv-loop μ-loop
+step-requires c κs = c .loop .inv .1
+
+enum-told : tie.Need-enum-told Inv-loop μ-loop
+enum-told c = search needs
+
+ended-requires : tie.Need-ended-requires Inv-loop μ-loop
+ended-requires c κs =
+    let here = c .before .before in
+    let l = here .before .loop in
+    let a = here .before .before .before .before .before .before .args in
+    ends-inside (a .wide) (a .places) (l .n) (l .at) (a .s .now) (here .step .result) (here .step .ensures) (c .enum-told .given .1)
+
+-- the n records kept are as many
+kept : (c : tie.At-loop Inv-loop μ-loop) → length (take (c .loop .n) (c .loop .words)) ≡ c .loop .n
+kept c = length-take-le (c .loop .n) (c .loop .words) (omega arith)
+
+returns : tie.Need-returns Inv-loop μ-loop
+returns c =
+    let here = c .before .before .before in
+    let l = here .before .loop in
+    let a = here .before .before .before .before .before .before .args in
+    let none = l .inv .3 ∙ ap (λ (b : Block). drop (l .n) (b .words)) (here .before .before .before .no-block .ensures) in
+    let judged = kept-judged (c .ended .result) (l .words) (l .n) (omega arith) none (c .ended .ensures .0) in
+    let block = l .inv .4 ∙ walk-ends (a .wide) (a .places) (l .n) (l .at) (drop (l .at) (a .s .now)) (take (l .n) (l .words)) (l .inv .0) (kept (here .before)) (here .step .result) (here .step .ensures) (c .before .enum-told .given .1) in
+    rw block (judged ∙ rw (c .ended .ensures .1))
+
+enum-known-next : tie.Need-enum-known-next Inv-loop μ-loop
+enum-known-next c = search needs
+
+refuse-requires : tie.Need-refuse-requires Inv-loop μ-loop
+refuse-requires c κs = search needs
+
+returns-2 : tie.Need-returns-2 Inv-loop μ-loop
+returns-2 c =
+    let here = c .before .before .before .before in
+    let l = here .before .loop in
+    let a = here .before .before .before .before .before .before .args in
+    let block = l .inv .4 ∙ walk-stops (a .wide) (a .places) (l .n) (l .at) (drop (l .at) (a .s .now)) (take (l .n) (l .words)) (l .inv .0) (kept (here .before)) (here .step .result) (here .step .ensures) _ (c .before .before .next .given .1) in
+    c .refuse .ensures ∙ sym (ap keptOf block)
+
+enum-told-2 : tie.Need-enum-told-2 Inv-loop μ-loop
+enum-told-2 c = search needs
+
+-- where a word stands there is a place for its record, and the word's bytes
+goes : (c : tie.After-word Inv-loop μ-loop)
+    → let l = c .before .before .before .before .loop in let a = c .before .before .before .before .before .before .before .before .before .args in (l .n < 32) × (l .at + wordSize (a .wide) ≤ length (a .s .now))
+goes c =
+    let here = c .before .before .before in
+    let l = here .before .loop in
+    let a = here .before .before .before .before .before .before .args in
+    goes-inside (a .wide) (a .places) (l .n) (l .at) (a .s .now) (here .step .result) (here .step .ensures) (l .inv .1) (c .before .enum-told2 .given .1)
+
+mul-words : tie.Need-mul-words Inv-loop μ-loop
+mul-words c = omega arith
+
+array-set-from-words : tie.Need-array-set-from-words Inv-loop μ-loop
+array-set-from-words c = goes c .0
+
+add-n : tie.Need-add-n Inv-loop μ-loop
+add-n c = omega arith
+
+add-at : tie.Need-add-at Inv-loop μ-loop
+add-at c = omega (arith, goes c .1, c .before .before .before .before .before .before .before .width-of .ensures, c .before .before .before .before .before .before .before .before .before .good .0)
+
+loop-less : tie.Need-loop-less Inv-loop μ-loop
+loop-less c = omega (arith, goes c .0)
+
+loop-again : tie.Need-loop-again Inv-loop μ-loop
+loop-again c =
+    let here = c .before .before .before in
+    let l = here .before .loop in
+    let first = here .before .before .before .no-block .result .words in
+    let width = here .before .before .before .before .width-of in
+    let a = here .before .before .before .before .before .before .args in
+    let w = here .step .result .word in
+    let room : l .n < length (l .words) = omega (arith, goes c .0) in
+    let size : width .result + 8 ≡ wordSize (a .wide) = omega (arith, width .ensures) in
+    let block = l .inv .4 ∙ walk-goes (a .wide) (a .places) (l .n) (l .at) (drop (l .at) (a .s .now)) (take (l .n) (l .words)) (l .inv .0) (kept (here .before)) (here .step .result) (here .step .ensures) (c .before .enum-told2 .given .1) in
+    let on = walk-on (32 - (l .n + 1)) (l .n) (l .at) (width .result + 8) (a .wide) (a .places) (a .s .now) (l .words) w room size in
+    (omega (arith, goes c .0), omega (arith, goes c .1, size), length-set (l .words) (l .n) w ∙ l .inv .2, kept-more (l .words) first (l .n) w (l .inv .3), block ∙ on)
+
+pub words-from-spec : {M : Type 1} → statement M
+words-from-spec =
+    tie.close
+    (tie.spec
+    Inv-loop
+    μ-loop
+    width-of-requires
+    add-size
+    no-block-requires
+    loop-holds
+    step-requires
+    enum-told
+    ended-requires
+    returns
+    enum-known-next
+    refuse-requires
+    returns-2
+    enum-told-2
+    mul-words
+    array-set-from-words
+    add-n
+    add-at
+    loop-less
+    loop-again)

@@ -1,0 +1,5 @@
+pub mod Answers
+pub mod Judging
+pub mod Composing
+pub mod Lists
+pub mod Rules

@@ -1,0 +1,203 @@
+// A block judged, with its records kept by value.
+ghost use mathlib.Core.Path.{_≡_};
+ghost use Prim.Native.Nat.{_≤_, _<_};
+ghost use mathlib.Core.List.{[]};
+ghost use lib.ListN.{length, drop};
+ghost use Rattle.blocks.specs.Judging.{isAt, startOf, nextOf, stopsBy, noBlock, refusedBy, endedAt, blockFrom, judged, keptOf};
+use crate::answers::Answer;
+use crate::answers::Reading;
+use crate::answers::Refusal;
+use words::reading::Fault;
+use words::reading::Judged;
+use words::reading::read_word;
+use words::reading::width_of;
+use words::records::Word;
+use words::records::blank_word;
+
+// A block's records, and how many they are; those past the count are blank.
+pub struct Block {
+    pub words: [Word; 32],
+    pub n: usize,
+}
+
+// The answer, and the block: no record of it where it is refused.
+pub struct Judgement {
+    pub answer: Answer,
+    pub block: Block,
+}
+
+// What stands where a word would start: the block's end, a refusal, or a word.
+pub enum Next {
+    Ends,
+    Stops(Refusal),
+    Goes,
+}
+
+pub struct Stepped {
+    pub next: Next,
+    pub word: Word,
+}
+
+// The block of no records.
+pub fn no_block() -> Block
+    ensures { λ r. ⌜ r ≡ noBlock ⌝ }
+{
+    let w = blank_word();
+    let words = [w; 32];
+    Block { words: words, n: 0 }
+}
+
+fn refuse(refusal: Refusal) -> Judgement
+    ensures { λ r. ⌜ r ≡ keptOf (refusedBy refusal) ⌝ }
+{
+    let answer = Answer::Refused(refusal);
+    let block = no_block();
+    Judgement {
+        answer: answer,
+        block: block,
+    }
+}
+
+fn stops(refusal: Refusal) -> Stepped
+    ensures { λ r. ⌜ r ≡ stopsBy refusal ⌝ }
+{
+    let next = Next::Stops(refusal);
+    let word = blank_word();
+    Stepped {
+        next: next,
+        word: word,
+    }
+}
+
+// Whether the byte at a place is b.
+fn is_at(s: &[u8], at: usize, b: u8) -> bool
+    ensures { λ r. ⌜ r ≡ isAt b (drop at (now (s .entry))) ⌝ }
+{
+    if at < s.len() {
+        return s[at] == b;
+    }
+    false
+}
+
+// Where a word would start the order is CR, 4, 2, 11, then the word's own.
+fn step(s: &[u8], wide: bool, at: usize, count: usize, places: usize) -> Stepped
+    requires { ⌜ at ≤ length (now s) ⌝ }
+    ensures { λ r. ⌜ r ≡ nextOf wide places count at (drop at (now (s .entry))) ⌝ }
+{
+    if is_at(s, at, 13) {
+        let next = Next::Ends;
+        let word = blank_word();
+        return Stepped {
+            next: next,
+            word: word,
+        };
+    }
+    if 32 <= count {
+        return stops(Refusal::NoEnd(at));
+    }
+    let rest = &s[at..];
+    if rest.len() < width_of(wide) + 8 {
+        return stops(Refusal::Wrong(Fault::Short, at));
+    }
+    if places <= count {
+        return stops(Refusal::NoPlace(at));
+    }
+    let one = read_word(rest, wide);
+    let answer = one.answer;
+    let word = one.word;
+    match answer {
+        Judged::Wrong(fault) => stops(Refusal::Wrong(fault, at)),
+        Judged::Right => {
+            let next = Next::Goes;
+            Stepped {
+                next: next,
+                word: word,
+            }
+        }
+    }
+}
+
+pub(crate) fn start_of(wide: bool) -> usize
+    ensures { λ r. ⌜ r ≡ startOf wide ⌝ }
+{
+    if wide { 1 } else { 0 }
+}
+
+// An accepted block whose CR stands at a place.
+fn ended(s: &[u8], wide: bool, at: usize, block: Block) -> Judgement
+    requires { ⌜ at < length (now s) ⌝ }
+    ensures { λ r. ⌜ (r .block ≡ block) × (r .answer ≡ endedAt wide at (drop at (now (s .entry))) (block .n)) ⌝ }
+{
+    let past = at + 1;
+    let words = block.n;
+    if is_at(s, past, 10) {
+        let read = Reading {
+            wide: wide,
+            crlf: true,
+            words: words,
+            used: past + 1,
+        };
+        let answer = Answer::Read(read);
+        return Judgement {
+            answer: answer,
+            block: block,
+        };
+    }
+    let read = Reading {
+        wide: wide,
+        crlf: false,
+        words: words,
+        used: past,
+    };
+    let answer = Answer::Read(read);
+    Judgement {
+        answer: answer,
+        block: block,
+    }
+}
+
+// The words from a place on.
+fn words_from(s: &[u8], wide: bool, start: usize, places: usize) -> Judgement
+    requires { ⌜ start ≤ length (now s) ⌝ }
+    ensures { λ r. ⌜ r ≡ keptOf (blockFrom 32 wide places start (drop start (now (s .entry))) []) ⌝ }
+{
+    let size = width_of(wide) + 8;
+    let none = no_block();
+    let mut words = none.words;
+    let mut n = 0;
+    let mut at = start;
+    loop {
+        let stepped = step(s, wide, at, n, places);
+        let next = stepped.next;
+        match next {
+            Next::Ends => {
+                let block = Block { words: words, n: n };
+                return ended(s, wide, at, block);
+            }
+            Next::Stops(refusal) => {
+                return refuse(refusal);
+            }
+            Next::Goes => {
+                let word = stepped.word;
+                words[n] = word;
+                n += 1;
+                at += size;
+            }
+        }
+    }
+}
+
+// The block at the start of s, with so many places for its records.
+pub fn judge(s: &[u8], places: usize) -> Judgement
+    ensures { λ r. ⌜ r ≡ keptOf (judged (now (s .entry)) places) ⌝ }
+{
+    if s.len() == 0 {
+        return refuse(Refusal::Empty);
+    }
+    let wide = s[0] == b'*';
+    let start = start_of(wide);
+    if is_at(s, start, 13) {
+        return refuse(Refusal::NoWord);
+    }
+    words_from(s, wide, start, places)
+}

@@ -1,0 +1,63 @@
+-- What the C functions answer: "number * 2^32 + told".
+use Prim.Native.Nat.{ℕ, _+_, _*_, _%_}
+use mathlib.Core.Path.{_≡_}
+use mathlib.Core.Bool.{Bool, cond, not}
+use mathlib.Core.List.{List}
+use lib.Dec.{eqb}
+use lib.ListN.{length}
+use Rattle.words.specs.declared.records.Word.{Word}
+use Rattle.blocks.specs.declared.answers.Refusal.{Refusal}
+use Rattle.blocks.specs.declared.answers.Reading.{Reading}
+use Rattle.blocks.specs.declared.answers.Answer.{Answer}
+use Rattle.blocks.specs.declared.answers.Answer.the-variants as answer
+use Rattle.blocks.specs.declared.answers.Wrote.{Wrote}
+use Rattle.blocks.specs.declared.answers.Wrote.the-variants as wrote
+use Rattle.blocks.specs.Answers.{refusalNumber, refusalTells}
+use Rattle.blocks.specs.Judging.{judged, filled}
+use Rattle.blocks.specs.Composing.{written}
+
+-- the low 32 bits of what is told, so that any answer has a number; of a block that was read or written they are all of it (proofs/Whole.antt)
+abbrev pub packed : ℕ → ℕ → ℕ
+packed number told = number * 4294967296 + told % 4294967296
+
+abbrev pub refusedTold : Refusal → ℕ
+refusedTold r = packed (refusalNumber r) (refusalTells r)
+
+abbrev pub bitOf : Bool → ℕ → ℕ
+bitOf on weight = cond on weight 0
+
+-- "told when read: bytes used + 2^16 * words + 2^24 * (1 if wide) + 2^25 * (1 if CR LF)", each in its own bits
+abbrev pub readingTold : Reading → ℕ
+readingTold k = k .used % 65536 + k .words % 256 * 65536 + bitOf (k .wide) 16777216 + bitOf (k .crlf) 33554432
+
+abbrev pub readTold : Answer → ℕ
+readTold (answer.Refused r) = refusedTold r
+readTold (answer.Read k) = readingTold k
+
+-- "told when written: the bytes"
+abbrev pub wroteTold : Wrote → ℕ
+wroteTold (wrote.Refused r) = refusedTold r
+wroteTold (wrote.Written n) = packed 0 n
+
+-- the same with nothing cut off
+abbrev pub refusedWhole : Refusal → ℕ
+refusedWhole r = refusalNumber r * 4294967296 + refusalTells r
+
+abbrev pub readWhole : Answer → ℕ
+readWhole (answer.Refused r) = refusedWhole r
+readWhole (answer.Read k) = k .used + k .words * 65536 + bitOf (k .wide) 16777216 + bitOf (k .crlf) 33554432
+
+abbrev pub wroteWhole : Wrote → ℕ
+wroteWhole (wrote.Refused r) = refusedWhole r
+wroteWhole (wrote.Written n) = n
+
+-- "wide and crlf: 0 is no, any other number is yes"
+abbrev pub isYes : ℕ → Bool
+isYes n = not (eqb n 0)
+
+abbrev pub ReadsC : List ℕ → List Word → ℕ → List Word → Type 0
+ReadsC block list r list′ = (r ≡ readTold (judged block (length list) .answer)) × (list′ ≡ filled (judged block (length list) .words) list)
+
+abbrev pub WritesC : List Word → ℕ → ℕ → List ℕ → ℕ → List ℕ → Type 0
+WritesC list wide crlf room r room′ =
+    (r ≡ wroteTold (written list (isYes wide) (isYes crlf) room .answer)) × (room′ ≡ written list (isYes wide) (isYes crlf) room .room)

@@ -1,0 +1,72 @@
+// An answer as one number: its own number in the high 32 bits, what it tells in the low ones.
+ghost use mathlib.Core.Path.{_≡_};
+ghost use Prim.Native.Nat.{_≤_};
+ghost use Rattle.blocks.specs.Composing.{listOf};
+ghost use Rattle.host.specs.Answers.{packed, bitOf, refusedTold, readingTold, readTold, wroteTold, WritesC};
+use blocks::answers::Answer;
+use blocks::answers::Reading;
+use blocks::answers::Refusal;
+use blocks::answers::Wrote;
+use blocks::answers::refusal_number;
+use blocks::answers::refusal_tells;
+use blocks::composing::emit;
+use blocks::judging::Block;
+
+// The number over the low 32 bits of what is told.
+fn pack(number: u64, told: usize) -> u64
+    requires { ⌜ number ≤ 14 ⌝ }
+    ensures { λ r. ⌜ r ≡ packed number told ⌝ }
+{
+    number * 4294967296 + told as u64 % 4294967296
+}
+
+fn refused(refusal: Refusal) -> u64
+    ensures { λ r. ⌜ r ≡ refusedTold refusal ⌝ }
+{
+    let number = refusal_number(refusal);
+    let told = refusal_tells(refusal);
+    pack(number, told)
+}
+
+fn bit(on: bool, weight: u64) -> u64
+    ensures { λ r. ⌜ r ≡ bitOf on weight ⌝ }
+{
+    if on { weight } else { 0 }
+}
+
+// What an accepted block tells, each part in its own bits.
+fn accepted(reading: Reading) -> u64
+    ensures { λ r. ⌜ r ≡ readingTold reading ⌝ }
+{
+    let used = reading.used as u64 % 65536;
+    let words = reading.words as u64 % 256;
+    used + words * 65536 + bit(reading.wide, 16777216) + bit(reading.crlf, 33554432)
+}
+
+// The answer of a reading.
+pub fn told_read(a: Answer) -> u64
+    ensures { λ r. ⌜ r ≡ readTold a ⌝ }
+{
+    match a {
+        Answer::Refused(refusal) => refused(refusal),
+        Answer::Read(reading) => accepted(reading),
+    }
+}
+
+// The answer of a writing.
+fn told_wrote(w: Wrote) -> u64
+    ensures { λ r. ⌜ r ≡ wroteTold w ⌝ }
+{
+    match w {
+        Wrote::Refused(refusal) => refused(refusal),
+        Wrote::Written(n) => pack(0, n),
+    }
+}
+
+// Writes a block's records into the room; wide and crlf: 0 is no, any other number is yes.
+pub fn put_told(b: Block, wide: u64, crlf: u64, out: &mut [u8]) -> u64
+    ensures { λ r. ⌜ WritesC (listOf b) wide crlf (now (out .entry)) r (now (out .exit)) ⌝ }
+{
+    let w = emit(b, wide != 0, crlf != 0, out);
+    told_wrote(w)
+}

@@ -1,0 +1,41 @@
+-- The promises of this crate's public functions determine what comes out.
+use mathlib.Core.Path.{_≡_}
+use mathlib.Core.Bool.{Bool}
+use mathlib.Core.List.{List}
+use Prim.Native.Nat.{ℕ}
+use Rattle.figures.specs.Promises.{Determined}
+use Rattle.figures.proofs.Determined.{by-equation}
+use Rattle.words.specs.Kinds.{kindOf}
+use Rattle.words.specs.Records.{width, blank, isRight, typedOf}
+use Rattle.words.specs.Reading.{faultNumber, wordOf}
+use Rattle.words.specs.Writing.{spellingOf}
+use Rattle.words.specs.declared.kinds.Kind.{Kind}
+use Rattle.words.specs.declared.counts.Count.{Count}
+use Rattle.words.specs.declared.records.Word.{Word}
+use Rattle.words.specs.declared.reading.Fault.{Fault}
+use Rattle.words.specs.declared.reading.OneWord.{OneWord}
+use Rattle.words.specs.declared.writing.Spelling.{Spelling}
+
+pub kind-of-determined : Determined ℕ Kind (λ i r. r ≡ kindOf i)
+kind-of-determined = by-equation ℕ Kind kindOf
+
+pub blank-word-determined : Determined (Unit {0}) Word (λ i r. r ≡ blank)
+blank-word-determined = by-equation (Unit {0}) Word (λ i. blank)
+
+pub right-determined : Determined (Word × Bool) Bool (λ i r. r ≡ isRight (i .1) (i .0))
+right-determined = by-equation (Word × Bool) Bool (λ i. isRight (i .1) (i .0))
+
+pub count-determined : Determined Word Count (λ i r. r ≡ typedOf i)
+count-determined = by-equation Word Count typedOf
+
+pub fault-number-determined : Determined Fault ℕ (λ i r. r ≡ faultNumber i)
+fault-number-determined = by-equation Fault ℕ faultNumber
+
+pub width-of-determined : Determined Bool ℕ (λ i r. r ≡ width i)
+width-of-determined = by-equation Bool ℕ width
+
+pub read-word-determined : Determined (List ℕ × Bool) OneWord (λ i r. r ≡ wordOf (i .1) (i .0))
+read-word-determined = by-equation (List ℕ × Bool) OneWord (λ i. wordOf (i .1) (i .0))
+
+pub spell-determined : Determined (Word × Bool) Spelling (λ i r. r ≡ spellingOf (i .1) (i .0))
+spell-determined = by-equation (Word × Bool) Spelling (λ i. spellingOf (i .1) (i .0))
