@@ -1,10 +1,15 @@
 -- The one claim: every reading of the table holds, by computing. Assumes nothing.
 use mathlib.Core.Path.{refl}
-use Rattle.figures.specs.Bytes.{among, every}
-use Rattle.figures.specs.Decimal.{numberFrom}
+use Rattle.figures.specs.Bytes.{among, every, startsWith}
+use Rattle.figures.specs.Decimal.{numberFrom, digitsOf}
 use Rattle.blocks.specs.Judging.{blockFrom}
+use Rattle.state.specs.Rows.{seek}
+use Rattle.state.specs.Settings.{rows}
+use Rattle.state.specs.Values.{stored}
+use Rattle.lines.specs.Shapes.{slashAt, groupsRight}
+use Rattle.lines.specs.Verdicts.{getVerdict}
 use Rattle.bench.specs.Readings.{All, table}
 
 pub readings : All table
-unfolding among every numberFrom blockFrom
-readings = ((refl, refl), ((refl, refl), ((refl, refl), ((refl, refl), ((refl, refl), ((refl, refl), ((refl, refl), ((refl, refl), ((refl, refl), ((refl, refl), tt))))))))))
+unfolding among every startsWith numberFrom digitsOf blockFrom seek rows stored slashAt groupsRight getVerdict
+readings = ((refl, refl), ((refl, refl), ((refl, refl), ((refl, refl), ((refl, refl), ((refl, refl), ((refl, refl), ((refl, refl), ((refl, refl), ((refl, refl), ((refl, refl), ((refl, refl), ((refl, refl), ((refl, refl), ((refl, refl), ((refl, refl), tt))))))))))))))))

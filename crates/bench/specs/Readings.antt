@@ -1,5 +1,5 @@
 -- "Bench readings, those with P to be proved": what is tried, and what is answered. A word shown alone is a block of that word and a CR,
--- and the list has 32 places.
+-- the list has 32 places and the reply room 306 bytes; a line is sent with a CR to a fresh stand-in.
 use Prim.Native.Nat.{ℕ}
 use mathlib.Core.Path.{_≡_}
 use mathlib.Core.Bool.{Bool, true, false}
@@ -10,16 +10,21 @@ use Rattle.words.specs.declared.counts.Count.{Count}
 use Rattle.words.specs.declared.counts.Count.the-variants.{Text, Gon, Tenth, Metre, Feet, Pair}
 use Rattle.words.specs.declared.reading.Fault.the-variants.{Value, Information}
 use Rattle.blocks.specs.Judging.{judged}
+use Rattle.state.specs.Entries.{factoryState}
+use Rattle.lines.specs.Verdicts.{verdictNumber}
+use Rattle.lines.specs.Machine.{step}
 use Rattle.blocks.specs.declared.answers.Answer.{Answer}
 use Rattle.blocks.specs.declared.answers.Answer.the-variants.{Refused, Read}
 use Rattle.blocks.specs.declared.answers.Refusal.the-variants.{Wrong, NoWord}
 
--- a block with its answer and its words' typed counts
+-- a block with its answer and its words' typed counts; a line with its number and its reply
 pub data Reading : Type 0 where
   block : List ℕ → Answer → List Count → Reading
+  line : List ℕ → ℕ → List ℕ → Reading
 
 abbrev pub Holds : Reading → Type 0
 Holds (block s answer counts) = (judged s 32 .answer ≡ answer) × (map typedOf (judged s 32 .words) ≡ counts)
+Holds (line l number reply) = (verdictNumber (step factoryState l 306 .verdict) ≡ number) × (step factoryState l 306 .reply ≡ reply)
 
 -- every reading of the list holds
 abbrev pub All : List Reading → Type 0
@@ -82,6 +87,30 @@ p6-not = block (56 ∷ 50 ∷ 46 ∷ 46 ∷ 48 ∷ 48 ∷ 45 ∷ 48 ∷ 48 ∷ 4
 abbrev pub p7 : Reading
 p7 = block (51 ∷ 51 ∷ 49 ∷ 49 ∷ 48 ∷ 54 ∷ 43 ∷ 48 ∷ 48 ∷ 48 ∷ 49 ∷ 48 ∷ 49 ∷ 57 ∷ 56 ∷ 32 ∷ 13 ∷ []) (Refused (Wrong Information 0)) ([])
 
+-- P8: SET/40/2 is accepted
+abbrev pub p8 : Reading
+p8 = line (83 ∷ 69 ∷ 84 ∷ 47 ∷ 52 ∷ 48 ∷ 47 ∷ 50 ∷ 13 ∷ []) 0 (63 ∷ 13 ∷ 10 ∷ [])
+
+-- SET/40/3 is 24
+abbrev pub p8-parameter : Reading
+p8-parameter = line (83 ∷ 69 ∷ 84 ∷ 47 ∷ 52 ∷ 48 ∷ 47 ∷ 51 ∷ 13 ∷ []) 24 (64 ∷ 87 ∷ 49 ∷ 50 ∷ 55 ∷ 13 ∷ 10 ∷ [])
+
+-- SET/33/0 is 23
+abbrev pub p8-setting : Reading
+p8-setting = line (83 ∷ 69 ∷ 84 ∷ 47 ∷ 51 ∷ 51 ∷ 47 ∷ 48 ∷ 13 ∷ []) 23 (64 ∷ 87 ∷ 49 ∷ 50 ∷ 55 ∷ 13 ∷ 10 ∷ [])
+
+-- P9: CONF/70 answers 0070/0005
+abbrev pub p9 : Reading
+p9 = line (67 ∷ 79 ∷ 78 ∷ 70 ∷ 47 ∷ 55 ∷ 48 ∷ 13 ∷ []) 0 (48 ∷ 48 ∷ 55 ∷ 48 ∷ 47 ∷ 48 ∷ 48 ∷ 48 ∷ 53 ∷ 13 ∷ 10 ∷ [])
+
+-- P10: GET/I/WI88 is 27
+abbrev pub p10 : Reading
+p10 = line (71 ∷ 69 ∷ 84 ∷ 47 ∷ 73 ∷ 47 ∷ 87 ∷ 73 ∷ 56 ∷ 56 ∷ 13 ∷ []) 27 (64 ∷ 87 ∷ 49 ∷ 50 ∷ 55 ∷ 13 ∷ 10 ∷ [])
+
+-- P11: UNDO is 29
+abbrev pub p11 : Reading
+p11 = line (85 ∷ 78 ∷ 68 ∷ 79 ∷ 13 ∷ []) 29 (64 ∷ 87 ∷ 49 ∷ 50 ∷ 55 ∷ 13 ∷ 10 ∷ [])
+
 -- the table
 abbrev pub table : List Reading
-table = p1 ∷ p2 ∷ p3 ∷ p4 ∷ p4-not ∷ p5 ∷ p5-not ∷ p6 ∷ p6-not ∷ p7 ∷ []
+table = p1 ∷ p2 ∷ p3 ∷ p4 ∷ p4-not ∷ p5 ∷ p5-not ∷ p6 ∷ p6-not ∷ p7 ∷ p8 ∷ p8-parameter ∷ p8-setting ∷ p9 ∷ p10 ∷ p11 ∷ []

@@ -1,14 +1,30 @@
--- Any two outcomes of a C function that meet its promise are equal.
-use Prim.Native.Nat.{ℕ}
-use mathlib.Core.Path.{_≡_, sym, _∙_}
+-- The promises of this crate's public functions determine what comes out.
+use mathlib.Core.Path.{_≡_}
 use mathlib.Core.List.{List}
+use Prim.Native.Nat.{ℕ}
+use lib.ListN.{length}
+use Rattle.figures.specs.Promises.{Determined}
+use Rattle.figures.proofs.Determined.{by-equation, by-two}
 use Rattle.words.specs.declared.records.Word.{Word}
-use Rattle.host.specs.Answers.{ReadsC, WritesC}
+use Rattle.blocks.specs.Judging.{judged, filled}
+use Rattle.blocks.specs.Composing.{written, listOf}
+use Rattle.blocks.specs.declared.answers.Answer.{Answer}
+use Rattle.blocks.specs.declared.judging.Block.{Block}
+use Rattle.host.specs.Answers.{readTold, wroteTold, isYes, ReadsC, WritesC}
 
-pub gsi-read-determined : (block : List ℕ) (list : List Word) {r₁ r₂ : ℕ} {list₁ list₂ : List Word} → ReadsC block list r₁ list₁ → ReadsC block list r₂ list₂
-    → (r₁ ≡ r₂) × (list₁ ≡ list₂)
-gsi-read-determined block list a b = (a .0 ∙ sym (b .0), a .1 ∙ sym (b .1))
+pub told-read-determined : Determined Answer ℕ (λ i r. r ≡ readTold i)
+told-read-determined = by-equation Answer ℕ readTold
 
-pub gsi-write-determined : (list : List Word) (wide crlf : ℕ) (room : List ℕ) {r₁ r₂ : ℕ} {room₁ room₂ : List ℕ} → WritesC list wide crlf room r₁ room₁ → WritesC list wide crlf room r₂ room₂
-    → (r₁ ≡ r₂) × (room₁ ≡ room₂)
-gsi-write-determined list wide crlf room a b = (a .0 ∙ sym (b .0), a .1 ∙ sym (b .1))
+pub put-told-determined : Determined (Block × ℕ × ℕ × List ℕ) (ℕ × List ℕ) (λ i o. WritesC (listOf (i .0)) (i .1) (i .2) (i .3) (o .0) (o .1))
+put-told-determined =
+    by-two (Block × ℕ × ℕ × List ℕ) ℕ (List ℕ) (λ i. wroteTold (written (listOf (i .0)) (isYes (i .1)) (isYes (i .2)) (i .3) .answer))
+    (λ i. written (listOf (i .0)) (isYes (i .1)) (isYes (i .2)) (i .3) .room)
+
+pub gsi-read-determined : Determined (List ℕ × List Word) (ℕ × List Word) (λ i o. ReadsC (i .0) (i .1) (o .0) (o .1))
+gsi-read-determined =
+    by-two (List ℕ × List Word) ℕ (List Word) (λ i. readTold (judged (i .0) (length (i .1)) .answer)) (λ i. filled (judged (i .0) (length (i .1)) .words) (i .1))
+
+pub gsi-write-determined : Determined (List Word × ℕ × ℕ × List ℕ) (ℕ × List ℕ) (λ i o. WritesC (i .0) (i .1) (i .2) (i .3) (o .0) (o .1))
+gsi-write-determined =
+    by-two (List Word × ℕ × ℕ × List ℕ) ℕ (List ℕ) (λ i. wroteTold (written (i .0) (isYes (i .1)) (isYes (i .2)) (i .3) .answer))
+    (λ i. written (i .0) (isYes (i .1)) (isYes (i .2)) (i .3) .room)

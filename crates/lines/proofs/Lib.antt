@@ -1,0 +1,14 @@
+pub mod Starts
+pub mod Parts
+pub mod Undone
+pub mod Lasting
+pub mod Runs
+pub mod States
+pub mod Tracks
+pub mod Demand
+pub mod Wrong
+pub mod Shape
+pub mod Lookups
+pub mod Replying
+pub mod Calling
+pub mod Determined

@@ -1,0 +1,72 @@
+-- Laws of the lookups: a setting by its number, a stored value by two characters, the groups of GET one by one.
+use Prim.Native.Nat.{ℕ, suc, _+_, _/_, _<_, _≤_}
+use mathlib.Core.Path.{_≡_, refl}
+use mathlib.Core.Bool.{Bool, true, false, cond, _&&_, and-eq-true-iff}
+use mathlib.Core.List.{List, [], _∷_}
+use native.Mathlib.Omega.{arith}
+use borrow.Author.Tests.{ne-eqb, leb-true}
+use lib.Dec.{leb}
+use lib.ListN.{length, getD, drop, length-drop}
+use lib.Seq.{getD-drop, drop-drop}
+use Rattle.figures.specs.Decimal.{isDigit}
+use Rattle.words.specs.Kinds.{indexOf}
+use Rattle.state.specs.Rows.{seek}
+use Rattle.state.specs.Settings.{row, rows, settingAt}
+use Rattle.state.specs.Values.{unitsOf, stored, valueAt}
+use Rattle.state.specs.Entries.{settingsN, valuesN}
+use Rattle.state.specs.declared.settings.Row.{Row}
+use Rattle.state.specs.declared.settings.Found.the-variants.{Nothing, At}
+use Rattle.state.specs.declared.values.Stored.{Stored}
+use Rattle.state.specs.declared.values.Value.{Value}
+use Rattle.state.proofs.Seek.{found-at}
+use Rattle.lines.specs.Shapes.{groupsIn}
+use Rattle.lines.specs.Verdicts.{placeNamed, getBy, getVerdict}
+use Rattle.lines.specs.declared.verdicts.Verdict.the-variants.{Accepted}
+
+-- a setting's number has at most four digits
+
+fourDigits : List Row → Bool
+fourDigits [] = true
+fourDigits (r ∷ l) = leb (r .number) 9999 && fourDigits l
+
+seek-above : (l : List Row) (i n : ℕ) → fourDigits l ≡ true → 9999 < n → seek (λ (r : Row). r .number) l i n ≡ Nothing
+unfolding seek fourDigits
+seek-above [] i n e h = refl
+seek-above (r ∷ l) i n e h =
+    let both = and-eq-true-iff (leb (r .number) 9999) (fourDigits l) .0 e in
+    rw (ne-eqb (r .number) n (λ q. omega (arith, leb-true (r .number) 9999 (both .0)))) (seek-above l (i + 1) n (both .1) h)
+
+pub setting-none : (n : ℕ) → 9999 < n → settingAt n ≡ Nothing
+unfolding rows fourDigits
+setting-none n h = seek-above rows 0 n refl h
+
+-- a place that is found is one of the list
+
+pub setting-in : (n i : ℕ) → settingAt n ≡ At i → i < settingsN
+unfolding rows
+setting-in n i e = found-at (λ (r : Row). r .number) rows (row 0 0 0) n i e .0
+
+value-in : (n i : ℕ) → valueAt n ≡ At i → i < valuesN
+unfolding stored
+value-in n i e = found-at (λ (r : Stored). r .index) stored (unitsOf 0 0 0) n i e .0
+
+place-by : (b : Bool) (n i : ℕ) → cond b (valueAt n) Nothing ≡ At i → i < valuesN
+place-by true n i e = value-in n i e
+place-by false n i e = let z : _≡_ {A = ℕ} 0 1 = cc in absurd (omega arith)
+
+pub place-in : (tens ones i : ℕ) → placeNamed tens ones ≡ At i → i < valuesN
+place-in tens ones i e = place-by (isDigit tens && isDigit ones) (indexOf tens ones) i e
+
+-- the groups of GET
+
+pub get-more : (values : List Value) (g : List ℕ) (at : ℕ) → at + 5 ≤ length g
+    → getVerdict values (groupsIn (drop at g)) (drop at g)
+    ≡ getBy values (placeNamed (getD g (at + 3) 0) (getD g (at + 4) 0)) (getVerdict values (groupsIn (drop (at + 5) g)) (drop (at + 5) g))
+unfolding getVerdict
+get-more values g at h =
+    let q : length (drop at g) / 5 ≡ suc (length (drop (at + 5) g) / 5) = omega (arith, length-drop at g, length-drop (at + 5) g) in
+    rw (q, getD-drop at g 3 0, getD-drop at g 4 0, drop-drop 5 at g)
+
+pub get-none : (values : List Value) → getVerdict values 0 [] ≡ Accepted
+unfolding getVerdict
+get-none values = refl

@@ -1,0 +1,215 @@
+-- What a call comes to: the state as it was, or an accepted order that is done; and what acceptance says of a SET, a PUT and an UNDO.
+use Prim.Native.Nat.{ℕ, zero, suc, _+_, _<_, _≤_}
+use mathlib.Core.Path.{_≡_, refl, sym, ap, subst, _∙_}
+use mathlib.Core.Bool.{Bool, true, false, cond, _&&_, false≢true, and-eq-true-iff}
+use mathlib.Core.List.{List, [], _∷_}
+use native.Mathlib.Omega.{arith}
+use borrow.Author.Tests.{eqb-true, eqb-false, eq-eqb, leb-true, leb-false, lt-leb, le-ltb, ltb-false}
+use lib.Dec.{eqb, leb, ltb}
+use lib.ListN.{length, getD, take, drop}
+use Rattle.figures.specs.Bytes.{startsWith, sameBytes}
+use Rattle.figures.specs.Decimal.{isDigit}
+use Rattle.figures.proofs.Bytes.{same-true}
+use Rattle.words.specs.Kinds.{indexOf}
+use Rattle.words.specs.Reading.{pos}
+use Rattle.state.specs.Settings.{rows, row, rowAt, settingAt}
+use Rattle.state.specs.Values.{stored, unitsOf, storedAt, valueAt, putRight, putKept, keptRight}
+use Rattle.state.specs.Entries.{settingsN, valuesN, entriesN}
+use Rattle.state.specs.declared.settings.Row.{Row}
+use Rattle.state.specs.declared.settings.Found.{Found}
+use Rattle.state.specs.declared.settings.Found.the-variants.{Nothing, At}
+use Rattle.state.specs.declared.values.Stored.{Stored}
+use Rattle.state.specs.declared.entries.State.{State}
+use Rattle.state.proofs.Seek.{found-at}
+use Rattle.state.proofs.Kept.{put-kept-right}
+use Rattle.lines.specs.Shapes.{isEnded, textOf, orderOf, numberRight, slashAt, groupsRight, groupsIn, set-slash, conf-slash, put-slash, get-i, undo-word, keep-word}
+use Rattle.lines.specs.Verdicts.{isAccepted, setBy, setVerdict, fullVerdict, placeNamed, putBy, putVerdict, undoVerdict, orderVerdict, lineVerdict}
+use Rattle.lines.specs.Orders.{setOf, putOf, setDone, putDone, doneOf}
+use Rattle.lines.specs.Replies.{replyOf}
+use Rattle.lines.specs.Machine.{Outcome, outcome, step}
+use Rattle.lines.specs.declared.shapes.Order.{Order}
+use Rattle.lines.specs.declared.shapes.Order.the-variants as order
+use Rattle.lines.specs.declared.verdicts.Verdict.{Verdict}
+use Rattle.lines.specs.declared.verdicts.Verdict.the-variants.{Accepted, Unended, Long, Shape, Setting, Parameter, Index, Word, NeverPut, Full, NoEntry, Room, NoState}
+
+pub clash : _≡_ {A = ℕ} 0 1 → ⊥
+clash e = omega arith
+
+-- a call
+
+pub data Comes (s : State) (line : List ℕ) (o : Outcome) : Type 0 where
+  stays : isAccepted (o .verdict) ≡ false → o .next ≡ s → Comes s line o
+  runs : isAccepted (o .verdict) ≡ true → orderVerdict s (textOf line) (orderOf (textOf line)) ≡ Accepted → o .next ≡ doneOf s (textOf line) (orderOf (textOf line)) → Comes s line o
+
+judged : (ended short : Bool) (v : Verdict) → cond ended (cond short v Long) Unended ≡ Accepted → v ≡ Accepted
+judged false short v e = absurd (clash (cc))
+judged true false v e = absurd (clash (cc))
+judged true true v e = e
+
+-- a verdict that isn't 0 is a refusal
+accepted : (v : Verdict) → (isAccepted v ≡ false → ⊥) → v ≡ Accepted
+accepted Accepted f = refl
+accepted Unended f = absurd (f refl)
+accepted Long f = absurd (f refl)
+accepted Shape f = absurd (f refl)
+accepted Setting f = absurd (f refl)
+accepted Parameter f = absurd (f refl)
+accepted Index f = absurd (f refl)
+accepted Word f = absurd (f refl)
+accepted NeverPut f = absurd (f refl)
+accepted Full f = absurd (f refl)
+accepted NoEntry f = absurd (f refl)
+accepted Room f = absurd (f refl)
+accepted NoState f = absurd (f refl)
+
+comes-by : (s : State) (line : List ℕ) (fits : Bool) (v : Verdict) (reply : List ℕ) (b : Bool) → isAccepted v ≡ b
+    → (v ≡ Accepted → orderVerdict s (textOf line) (orderOf (textOf line)) ≡ Accepted)
+    → Comes s line (cond fits (outcome v reply (cond b (doneOf s (textOf line) (orderOf (textOf line))) s)) (outcome Room [] s))
+comes-by s line false v reply b e f = stays refl refl
+comes-by s line true v reply false e f = stays e refl
+comes-by s line true v reply true e f = runs e (f (accepted v (λ n. false≢true (sym n ∙ e)))) refl
+
+pub comes : (s : State) (line : List ℕ) (room : ℕ) → Comes s line (step s line room)
+comes s line room =
+    let v = lineVerdict s line in
+    comes-by s line (leb (length (replyOf s (textOf line) (orderOf (textOf line)) v)) room) v (replyOf s (textOf line) (orderOf (textOf line)) v) (isAccepted v) refl
+    (judged (isEnded line) (leb (length (textOf line)) 100) (orderVerdict s (textOf line) (orderOf (textOf line))))
+
+-- SET
+
+full-free : (count : ℕ) (b : Bool) → leb entriesN count ≡ b → cond b Full Accepted ≡ Accepted → count < entriesN
+full-free count true p e = absurd (clash (cc))
+full-free count false p e = leb-false entriesN count p
+
+-- each row's highest parameter is a byte
+bytes-high : List Row → Bool
+bytes-high [] = true
+bytes-high (r ∷ rs) = leb (r .highest) 255 && bytes-high rs
+
+bytes-at : (rs : List Row) (i : ℕ) → bytes-high rs ≡ true → getD rs i (row 0 0 0) .highest ≤ 255
+unfolding bytes-high
+bytes-at [] i e = omega arith
+bytes-at (r ∷ rs) zero e = leb-true (r .highest) 255 (and-eq-true-iff (leb (r .highest) 255) (bytes-high rs) .0 e .0)
+bytes-at (r ∷ rs) (suc i) e = bytes-at rs i (and-eq-true-iff (leb (r .highest) 255) (bytes-high rs) .0 e .1)
+
+rows-high : (i : ℕ) → rowAt i .highest ≤ 255
+unfolding bytes-high rows
+rows-high i = bytes-at rows i refl
+
+pub record SetRuns (s : State) (n p : ℕ) : Type 0 where
+  pub at : ℕ
+  pub found : settingAt n ≡ At at
+  pub place : at < settingsN
+  pub high : p ≤ rowAt at .highest
+  pub free : s .count < entriesN
+
+setting-below : (n i : ℕ) → settingAt n ≡ At i → i < settingsN
+unfolding rows
+setting-below n i e = found-at (λ (r : Row). r .number) rows (row 0 0 0) n i e .0
+
+pub set-runs : (s : State) (n p : ℕ) → setVerdict (s .count) n p ≡ Accepted → SetRuns s n p
+set-runs s n p e = go (settingAt n) refl e
+  where
+    low : (i : ℕ) (b : Bool) → ltb (rowAt i .highest) p ≡ b → cond b Parameter (fullVerdict (s .count)) ≡ Accepted → (p ≤ rowAt i .highest) × (s .count < entriesN)
+    low i true h e = absurd (clash (cc))
+    low i false h e = (ltb-false (rowAt i .highest) p h, full-free (s .count) (leb entriesN (s .count)) refl e)
+
+    go : (f : Found) → settingAt n ≡ f → setBy (s .count) p f ≡ Accepted → SetRuns s n p
+    go Nothing f e = absurd (clash (cc))
+    go (At i) f e =
+        let h = low i (ltb (rowAt i .highest) p) refl e in
+        record { at = i; found = f; place = setting-below n i f; high = h .0; free = h .1 }
+
+pub set-done : (s : State) (n p : ℕ) (r : SetRuns s n p) → setDone s n p ≡ setOf s (r .at) p
+set-done s n p r = rw (r .found, lt-leb settingsN (r .at) (r .place), le-ltb 255 p (omega (arith, r .high, rows-high (r .at))), lt-leb entriesN (s .count) (r .free))
+
+-- PUT
+
+pub record PutRuns (s : State) (word : List ℕ) : Type 0 where
+  pub at : ℕ
+  pub found : placeNamed (pos 1 word) (pos 2 word) ≡ At at
+  pub place : at < valuesN
+  pub right : length word ≡ 16 → keptRight at (putKept word) ≡ true
+  pub free : s .count < entriesN
+
+value-found : (n i : ℕ) → valueAt n ≡ At i → (i < valuesN) × (storedAt i .index ≡ n)
+unfolding stored
+value-found n i e = found-at (λ (r : Stored). r .index) stored (unitsOf 0 0 0) n i e
+
+named : (a b i : ℕ) → placeNamed a b ≡ At i → (isDigit a ≡ true) × (isDigit b ≡ true) × (valueAt (indexOf a b) ≡ At i)
+named a b i e = go (isDigit a) (isDigit b) refl refl e
+  where
+    go : (d d′ : Bool) → isDigit a ≡ d → isDigit b ≡ d′ → cond (d && d′) (valueAt (indexOf a b)) Nothing ≡ At i → (isDigit a ≡ true) × (isDigit b ≡ true) × (valueAt (indexOf a b) ≡ At i)
+    go false d′ p p′ e = absurd (clash (cc))
+    go true false p p′ e = absurd (clash (cc))
+    go true true p p′ e = (p, p′, e)
+
+pub put-runs : (s : State) (word : List ℕ) → putVerdict (s .count) word ≡ Accepted → PutRuns s word
+put-runs s word e = go (placeNamed (pos 1 word) (pos 2 word)) refl e
+  where
+    right : (i : ℕ) (b : Bool) → putRight i word ≡ b → cond b (fullVerdict (s .count)) Word ≡ Accepted → (putRight i word ≡ true) × (s .count < entriesN)
+    right i false h e = absurd (clash (cc))
+    right i true h e = (h, full-free (s .count) (leb entriesN (s .count)) refl e)
+
+    go : (f : Found) → placeNamed (pos 1 word) (pos 2 word) ≡ f → putBy (s .count) word f ≡ Accepted → PutRuns s word
+    go Nothing f e = absurd (clash (cc))
+    go (At i) f e =
+        let h = right i (putRight i word) refl e in
+        let digits = named (pos 1 word) (pos 2 word) i f in
+        let at = value-found (indexOf (pos 1 word) (pos 2 word)) i (digits .2) in
+        record { at = i; found = f; place = at .0; right = λ long. put-kept-right i word long (at .1) (digits .0) (digits .1) (h .0); free = h .1 }
+
+pub put-done : (s : State) (word : List ℕ) (r : PutRuns s word) → putDone s word ≡ putOf s (r .at) (putKept word)
+put-done s word r = rw (r .found, lt-leb valuesN (r .at) (r .place), lt-leb entriesN (s .count) (r .free))
+
+-- UNDO
+
+pub undo-some : (n : ℕ) → undoVerdict n ≡ Accepted → n ≡ 0 → ⊥
+undo-some n e = judge (eqb n 0) refl e
+  where
+    judge : (b : Bool) → eqb n 0 ≡ b → cond b NoEntry Accepted ≡ Accepted → n ≡ 0 → ⊥
+    judge true p e z = clash (cc)
+    judge false p e z = eqb-false n 0 p z
+
+pub undo-none : (n : ℕ) → undoVerdict n ≡ NoEntry → n ≡ 0
+undo-none n e = judge (eqb n 0) refl e
+  where
+    judge : (b : Bool) → eqb n 0 ≡ b → cond b NoEntry Accepted ≡ NoEntry → n ≡ 0
+    judge true p e = eqb-true n 0 p
+    judge false p e = absurd (clash (cc))
+
+pub none-undone : (n : ℕ) → n ≡ 0 → undoVerdict n ≡ NoEntry
+none-undone n e = rw (eq-eqb n 0 e)
+
+-- the length of a PUT and of an UNDO
+
+abbrev Sized : List ℕ → Order → Type 0
+Sized t order.Not = Unit {0}
+Sized t (order.Set n p) = Unit {0}
+Sized t (order.Conf n) = Unit {0}
+Sized t order.Put = length t ≡ 20
+Sized t order.Get = Unit {0}
+Sized t order.Undo = length t ≡ 4
+Sized t order.Keep = Unit {0}
+
+either : (P : Order → Type 0) (b : Bool) (x y : Order) → (b ≡ true → P x) → P y → P (cond b x y)
+either P true x y f g = f refl
+either P false x y f g = g
+
+sized : (t : List ℕ) → Sized t (orderOf t)
+sized t =
+    let w = drop 4 t in
+    let numbers = ltb (slashAt w) (length w) && (numberRight (take (slashAt w) w) && numberRight (drop (slashAt w + 1) w)) in
+    let groups = ltb 0 (length (drop 5 t)) && groupsRight (groupsIn (drop 5 t)) (drop 5 t) in
+    either (Sized t) (startsWith set-slash t) _ _ (λ _. either (Sized t) numbers _ _ (λ _. tt) tt)
+    (either (Sized t) (startsWith conf-slash t) _ _ (λ _. either (Sized t) (numberRight (drop 5 t)) _ _ (λ _. tt) tt)
+    (either (Sized t) (startsWith put-slash t) _ _ (λ _. either (Sized t) (eqb (length t) 20) _ _ (eqb-true (length t) 20) tt)
+    (either (Sized t) (startsWith get-i t) _ _ (λ _. either (Sized t) groups _ _ (λ _. tt) tt)
+    (either (Sized t) (sameBytes t undo-word) _ _ (λ e. ap length (same-true t undo-word e))
+    (either (Sized t) (sameBytes t keep-word) _ _ (λ _. tt) tt)))))
+
+pub put-length : (t : List ℕ) → orderOf t ≡ order.Put → length t ≡ 20
+put-length t e = subst (Sized t) e (sized t)
+
+pub undo-length : (t : List ℕ) → orderOf t ≡ order.Undo → length t ≡ 4
+undo-length t e = subst (Sized t) e (sized t)

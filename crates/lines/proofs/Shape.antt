@@ -1,0 +1,124 @@
+-- Laws of a line's shape: its parts, the first slash, the groups of GET, a number, what an order says of the line.
+use Prim.Native.Nat.{ℕ, zero, suc, _+_, _-_, _*_, _/_, _<_, _≤_}
+use mathlib.Core.Path.{_≡_, refl, ap, subst}
+use mathlib.Core.Bool.{Bool, true, false, cond, _&&_, false≢true, and-eq-true-iff}
+use mathlib.Core.List.{List, [], _∷_}
+use native.Mathlib.Nat.{sub-zero}
+use native.Mathlib.Numerals.{add-one}
+use native.Mathlib.Omega.{arith}
+use borrow.Author.Tests.{eq-eqb, ne-eqb, eqb-true, leb-true}
+use lib.Dec.{eqb, leb, ltb}
+use lib.ListN.{length, getD, take, drop, drop-of-length-le, length-drop}
+use lib.Seq.{drop-cons, take-all}
+use Rattle.figures.specs.Bytes.{startsWith, sameBytes}
+use Rattle.figures.specs.Decimal.{numberOf}
+use Rattle.figures.specs.declared.Said.the-variants as said
+use Rattle.figures.proofs.Bytes.{same-true}
+use Rattle.lines.specs.Shapes.{slashAt, numberRight, numberShape, groupRight, groupsRight, groupsIn, set-slash, conf-slash, put-slash, get-i, undo-word, keep-word, orderOf}
+use Rattle.lines.specs.declared.shapes.Order.{Order}
+use Rattle.lines.specs.declared.shapes.Order.the-variants.{Not, Set, Conf, Put, Get, Undo, Keep}
+
+-- parts of a line
+
+pub starts-length : (w s : List ℕ) → startsWith w s ≡ true → length w ≤ length s
+unfolding startsWith
+starts-length [] s e = omega arith
+starts-length (x ∷ w) [] e = absurd (false≢true e)
+starts-length (x ∷ w) (y ∷ s) e = omega (arith, starts-length w s (and-eq-true-iff (eqb y x) (startsWith w s) .0 e .1))
+
+pub from-start : (k : ℕ) (s : List ℕ) → take (k - 0) s ≡ take k s
+from-start k s = rw (sub-zero k)
+
+pub to-end : (a : ℕ) (s : List ℕ) → take (length s - a) (drop a s) ≡ drop a s
+to-end a s = take-all (length s - a) (drop a s) (omega (arith, length-drop a s))
+
+-- the first slash, a turn of the loop at a time
+
+pub slash-more : (s : List ℕ) (i : ℕ) → i < length s → (getD s i 0 ≡ 47 → ⊥) → i + slashAt (drop i s) ≡ i + 1 + slashAt (drop (i + 1) s)
+unfolding slashAt
+slash-more s i h e = rw (drop-cons s i 0 h, ne-eqb (getD s i 0) 47 e, add-one i) (omega arith)
+
+pub slash-here : (s : List ℕ) (i : ℕ) → i < length s → getD s i 0 ≡ 47 → slashAt (drop i s) ≡ 0
+unfolding slashAt
+slash-here s i h e = rw (drop-cons s i 0 h, eq-eqb (getD s i 0) 47 e)
+
+pub slash-none : (s : List ℕ) (i : ℕ) → length s ≤ i → slashAt (drop i s) ≡ 0
+unfolding slashAt
+slash-none s i h = rw (drop-of-length-le s h)
+
+-- the groups of GET
+
+pub not-so : (b : Bool) → (b ≡ true → ⊥) → b ≡ false
+not-so true n = absurd (n refl)
+not-so false n = refl
+
+pub groups-more : (g : List ℕ) → 5 ≤ length g → groupsRight (groupsIn g) g ≡ groupRight g && groupsRight (groupsIn (drop 5 g)) (drop 5 g)
+unfolding groupsRight
+groups-more g h =
+    let q : length g / 5 ≡ suc ((length g - 5) / 5) = omega arith in
+    rw (q, length-drop 5 g)
+
+pub groups-none : groupsRight 0 [] ≡ true
+unfolding groupsRight
+groups-none = refl
+
+pub groups-length : (n : ℕ) (g : List ℕ) → groupsRight n g ≡ true → length g ≡ n * 5
+unfolding groupsRight
+groups-length zero g e = eqb-true (length g) 0 e
+groups-length (suc n) g e =
+    let both = and-eq-true-iff (groupRight g) (groupsRight n (drop 5 g)) .0 e in
+    let long = leb-true 5 (length g) (and-eq-true-iff (leb 5 (length g)) _ .0 (both .0) .0) in
+    omega (arith, groups-length n (drop 5 g) (both .1), length-drop 5 g)
+
+-- a number
+
+number-by : (b : Bool) (m n : ℕ) → said.Number n ≡ cond b (said.Number m) said.Not → (b ≡ true) × (n ≡ m)
+number-by true m n e = (refl, cc)
+number-by false m n e = let z : _≡_ {A = ℕ} 0 1 = cc in absurd (omega arith)
+
+pub number-is : (s : List ℕ) (n : ℕ) → said.Number n ≡ numberShape s → (numberRight s ≡ true) × (n ≡ numberOf s)
+number-is s n e = number-by (numberRight s) (numberOf s) n e
+
+number-none : (b : Bool) (m : ℕ) → said.Not ≡ cond b (said.Number m) said.Not → b ≡ false
+number-none true m e = let z : _≡_ {A = ℕ} 0 1 = cc in absurd (omega arith)
+number-none false m e = refl
+
+pub number-not : (s : List ℕ) → said.Not ≡ numberShape s → numberRight s ≡ false
+number-not s e = number-none (numberRight s) (numberOf s) e
+
+-- what an order says of the line
+
+abbrev Says : List ℕ → Order → Type 0
+Says t Not = Unit {0}
+Says t (Set n p) = Unit {0}
+Says t (Conf n) = Unit {0}
+Says t Put = length t ≡ 20
+Says t Get = (5 ≤ length t) × (groupsRight (groupsIn (drop 5 t)) (drop 5 t) ≡ true)
+Says t Undo = length t ≡ 4
+Says t Keep = Unit {0}
+
+says-either : (t : List ℕ) (b : Bool) (x y : Order) → (b ≡ true → Says t x) → Says t y → Says t (cond b x y)
+says-either t true x y sx sy = sx refl
+says-either t false x y sx sy = sy
+
+order-says : (t : List ℕ) → Says t (orderOf t)
+order-says t =
+    let s = drop 4 t in
+    let k = slashAt s in
+    let g = drop 5 t in
+    says-either t (startsWith set-slash t) _ _
+    (λ _. says-either t (ltb k (length s) && (numberRight (take k s) && numberRight (drop (k + 1) s))) _ _ (λ _. tt) tt)
+    (says-either t (startsWith conf-slash t) _ _ (λ _. says-either t (numberRight g) _ _ (λ _. tt) tt)
+    (says-either t (startsWith put-slash t) _ _ (λ _. says-either t (eqb (length t) 20) _ _ (λ e. eqb-true (length t) 20 e) tt)
+    (says-either t (startsWith get-i t) _ _
+    (λ e. says-either t (ltb 0 (length g) && groupsRight (groupsIn g) g) _ _ (λ r. (starts-length get-i t e, and-eq-true-iff (ltb 0 (length g)) _ .0 r .1)) tt)
+    (says-either t (sameBytes t undo-word) _ _ (λ e. ap length (same-true t undo-word e)) (says-either t (sameBytes t keep-word) _ _ (λ _. tt) tt)))))
+
+pub order-put : (t : List ℕ) → orderOf t ≡ Put → length t ≡ 20
+order-put t e = subst (Says t) e (order-says t)
+
+pub order-get : (t : List ℕ) → orderOf t ≡ Get → (5 ≤ length t) × (groupsRight (groupsIn (drop 5 t)) (drop 5 t) ≡ true)
+order-get t e = subst (Says t) e (order-says t)
+
+pub order-undo : (t : List ℕ) → orderOf t ≡ Undo → length t ≡ 4
+order-undo t e = subst (Says t) e (order-says t)

@@ -1,0 +1,39 @@
+-- `lines::machine::line` meets its contract: bytes that are no state's image are left as they are, and others are those of the state after the line.
+use borrow.Author.Needs.{needs}
+use Rattle.lines.proofs.Calling.{decoded-few, call-none, call-some}
+use Rattle.lines.proofs.machine.line.Statement.{statement}
+use Rattle.lines.proofs.machine.line.Tie as tie
+
+returns : tie.Need-returns
+returns c =
+    let a = c .before .before .before .before .before .before .before .before .args in
+    let d = c .before .before .before .decode in
+    call-none (a .image .now) (d .result) (d .ensures) (c .enum-told2 .given .1) (a .text .now) (a .room .now)
+
+run-line-requires : tie.Need-run-line-requires
+run-line-requires c κs =
+    let d = c .before .before .before .before .decode in
+    decoded-few (c .before .before .before .before .before .before .before .before .before .args .image .now) (d .result) (d .ensures) (c .before .enum-told .given .1)
+
+returns-2 : tie.Need-returns-2
+returns-2 c =
+    let a = c .before .before .before .before .before .before .before .before .before .before .before .before .before .before .before .before .before .before .args in
+    let d = c .before .before .before .before .before .before .before .before .before .before .before .before .before .decode in
+    let r = c .before .before .before .before .before .before .before .before .run-line in
+    let p = c .before .before .encode in
+    call-some (a .image .now) (d .result) (d .ensures) (c .before .before .before .before .before .before .before .before .before .before .enum-told .given .1) (a .text .now) (a .room .now) (r .result) (p .last .1 .0) (r .last .1 .1 .0) (r .ensures) (p .ensures)
+
+pub line-spec : {M : Type 1} → statement M
+line-spec =
+    tie.close
+    (tie.spec
+    (λ c κs. search needs)
+    (λ c. search needs)
+    (λ c. search needs)
+    (λ c. search needs)
+    returns
+    run-line-requires
+    (λ c κs. search needs)
+    (λ c. search needs)
+    (λ c. search needs)
+    returns-2)

@@ -1,0 +1,150 @@
+-- `lines::replies::put_get` meets its contract. The loop's invariant is `Got`; no group is refused, so that neither early return is taken.
+use Prim.Native.Nat.{ℕ, _+_, _-_, _<_, _≤_}
+use mathlib.Core.List.{List}
+use mathlib.Core.Path.{_≡_, sym, _∙_}
+use native.Mathlib.Omega.{arith}
+use borrow.Author.Needs.{needs}
+use lib.ListN.{length, getD}
+use Rattle.state.specs.Entries.{valuesN}
+use Rattle.state.specs.declared.settings.Found.the-variants.{At}
+use Rattle.lines.specs.Verdicts.{placeNamed}
+use Rattle.lines.proofs.Replying.{same-place, not-both, Got, got-none, got-length, got-room, got-all, got-named, got-more}
+use Rattle.lines.proofs.replies.put_get.Statement.{statement}
+use Rattle.lines.proofs.replies.put_get.Tie as tie
+
+abbrev Inv-loop : tie.InvT-loop
+Inv-loop groups room₀ values i₀ at₀ room i at = Got values groups room₀ room i at
+
+abbrev μ-loop : tie.MeasureT-loop
+μ-loop groups room₀ values i₀ at₀ room i at = length groups - i
+
+record Turn (g room₀ room : List ℕ) (i at : ℕ) : Type 0 where
+  five : i + 5 ≤ length g
+  words : at + 16 ≤ length room₀
+  same : length room ≡ length room₀
+  place : ℕ
+  named : placeNamed (getD g (i + 3) 0) (getD g (i + 4) 0) ≡ At place
+  below : place < valuesN
+
+-- what a turn rests on
+turn : (c : tie.In-loop Inv-loop μ-loop) → Turn (c .before .before .before .before .args .groups .now) (c .before .before .before .before .args .room .now) (c .before .loop .room) (c .before .loop .i) (c .before .loop .at)
+turn c =
+    let s = c .before .before .before .before in
+    let l = c .before .loop in
+    let g = s .args .groups .now in
+    let r = s .args .room .now in
+    let v = s .args .t1 in
+    let n = got-named v g r (s .pre) (l .room) (l .i) (l .at) (l .inv) (c .loop-test .taken) in
+    record {
+      five = n .0;
+      words = got-room v g r (s .pre) (l .room) (l .i) (l .at) (l .inv) (c .loop-test .taken);
+      same = got-length v g r (s .pre) (l .room) (l .i) (l .at) (l .inv);
+      place = n .1 .0;
+      named = n .1 .1 .0;
+      below = n .1 .1 .1;
+    }
+
+loop-holds : tie.Need-loop-holds Inv-loop μ-loop
+loop-holds c = let s = c .before .before in got-none (s .args .t1) (s .args .groups .now) (s .args .room .now) (s .pre)
+
+add-place-named : tie.Need-add-place-named Inv-loop μ-loop
+add-place-named c = omega (arith, turn c .five)
+
+shared-slice-read-place-named : tie.Need-shared-slice-read-place-named Inv-loop μ-loop
+shared-slice-read-place-named c = omega (arith, turn (c .before) .five)
+
+add-place-named-2 : tie.Need-add-place-named-2 Inv-loop μ-loop
+add-place-named-2 c = omega (arith, turn (c .before) .five)
+
+shared-slice-read-place-named-2 : tie.Need-shared-slice-read-place-named-2 Inv-loop μ-loop
+shared-slice-read-place-named-2 c = omega (arith, turn (c .before .before) .five)
+
+same-length : tie.Need-same-length Inv-loop μ-loop
+same-length c = turn (c .before .before .before .before .before) .same
+
+returns : tie.Need-returns Inv-loop μ-loop
+returns c =
+    let t = turn (c .before .before .before .before .before) in
+    let r = c .before .before .place-named in
+    absurd (not-both (r .result) (t .place) (r .ensures ∙ t .named) (c .enum-told .given .1))
+
+same-length-2 : tie.Need-same-length-2 Inv-loop μ-loop
+same-length-2 c = turn (c .before .before .before .before .before .before .before) .same
+
+returns-2 : tie.Need-returns-2 Inv-loop μ-loop
+returns-2 c =
+    let t = turn (c .before .before .before .before .before .before .before) in
+    let r = c .before .before .before .before .place-named in
+    let p = c .before .before .place .given in
+    let e = same-place (r .result) (t .place) (p .0 .0) (r .ensures ∙ t .named) (p .1) in
+    absurd (omega (arith, t .below, c .if1 .taken))
+
+sub-lay : tie.Need-sub-lay Inv-loop μ-loop
+sub-lay c = omega (arith, turn (c .before .before .before .before .before .before .before .before .before .before) .words, turn (c .before .before .before .before .before .before .before .before .before .before) .same)
+
+part-lay-start : tie.Need-part-lay-start Inv-loop μ-loop
+part-lay-start c = omega (arith, turn (c .before .before .before .before .before .before .before .before .before .before) .words, turn (c .before .before .before .before .before .before .before .before .before .before) .same)
+
+add-at : tie.Need-add-at Inv-loop μ-loop
+add-at c = omega (arith, turn (c .before .before .before .before .before .before .before .before .before .before .before .before .before .before) .words, c .before .before .before .before .before .before .before .before .before .before .before .before .before .before .before .before .before .before .good)
+
+add-i : tie.Need-add-i Inv-loop μ-loop
+add-i c = omega (arith, turn (c .before .before .before .before .before .before .before .before .before .before .before .before .before .before) .five, c .before .before .before .before .before .before .before .before .before .before .before .before .before .before .before .before .before .before .good)
+
+loop-less : tie.Need-loop-less Inv-loop μ-loop
+loop-less c = omega (arith, turn (c .before .before .before .before .before .before .before .before .before .before .before .before .before .before) .five)
+
+loop-again : tie.Need-loop-again Inv-loop μ-loop
+loop-again c =
+    let s = c .before .before .before .before .before .before .before .before .before .before .before .before .before .before .before .before .before .before in
+    let l = c .before .before .before .before .before .before .before .before .before .before .before .before .before .before .before .loop in
+    let p = c .before .before .before .before .before .before .before .before .before .place .given in
+    let r = c .before .before .before .before .before .before .before .before .before .before .before .place-named in
+    let w = c .before .before .before .before .before .get-word in
+    let last = c .before .before .lay in
+    got-more (s .args .t1) (s .args .groups .now) (s .args .room .now) (s .pre) (l .room) (l .i) (l .at) (l .inv) (p .0 .0) (last .last .1 .0) (c .before .before .before .before .before .before .before .before .before .before .before .before .before .before .loop-test .taken) (sym (r .ensures) ∙ p .1) (rw (← w .ensures) (last .ensures))
+
+same-length-3 : tie.Need-same-length-3 Inv-loop μ-loop
+same-length-3 c =
+    let s = c .before .before .before .before in
+    let l = c .before .loop in
+    got-length (s .args .t1) (s .args .groups .now) (s .args .room .now) (s .pre) (l .room) (l .i) (l .at) (l .inv)
+
+returns-3 : tie.Need-returns-3 Inv-loop μ-loop
+returns-3 c =
+    let s = c .before .before .before .before in
+    let l = c .before .loop in
+    got-all (s .args .t1) (s .args .groups .now) (s .args .room .now) (s .pre) (l .room) (l .i) (l .at) (l .inv) (c .loop-test .left)
+
+pub put-get-spec : {M : Type 1} → statement M
+put-get-spec =
+    tie.close
+    (tie.spec
+    Inv-loop
+    μ-loop
+    loop-holds
+    add-place-named
+    shared-slice-read-place-named
+    add-place-named-2
+    shared-slice-read-place-named-2
+    (λ c κs. search needs)
+    (λ c. search needs)
+    (λ c. search needs)
+    same-length
+    returns
+    same-length-2
+    returns-2
+    (λ c. search needs)
+    (λ c. search needs)
+    (λ c κs. search needs)
+    (λ c. search needs)
+    sub-lay
+    part-lay-start
+    (λ c. search needs)
+    (λ c κs. search needs)
+    add-at
+    add-i
+    loop-less
+    loop-again
+    same-length-3
+    returns-3)

@@ -1,0 +1,129 @@
+-- `order_of` meets its contract: the keywords one after the other, and what each goes on with.
+use mathlib.Core.Path.{_≡_, sym, _∙_}
+use mathlib.Core.Bool.{true, false}
+use borrow.Author.Needs.{needs}
+use borrow.Author.Tests.{eq-eqb, ne-eqb}
+use Rattle.figures.specs.Bytes.{startsWith, sameBytes}
+use Rattle.lines.specs.Shapes.{set-slash, conf-slash, put-slash, get-i, undo-word}
+use Rattle.lines.proofs.Shape.{starts-length, to-end}
+use Rattle.lines.proofs.shapes.order_of.Statement.{statement}
+use Rattle.lines.proofs.shapes.order_of.Tie as tie
+
+-- what each test says of the line
+
+is-set : (c : tie.Then1) → startsWith set-slash (c .before .before .before .before .args .text .now) ≡ true
+is-set c = sym (c .before .starts .ensures) ∙ c .if1 .taken
+
+no-set : (c : tie.Else1) → startsWith set-slash (c .before .before .before .before .args .text .now) ≡ false
+no-set c = sym (c .before .starts .ensures) ∙ c .if1 .left
+
+is-conf : (c : tie.Then2) → startsWith conf-slash (c .before .before .before .before .before .before .before .args .text .now) ≡ true
+is-conf c = sym (c .before .starts2 .ensures) ∙ c .if2 .taken
+
+no-conf : (c : tie.Else2) → startsWith conf-slash (c .before .before .before .before .before .before .before .args .text .now) ≡ false
+no-conf c = sym (c .before .starts2 .ensures) ∙ c .if2 .left
+
+is-put : (c : tie.Then3) → startsWith put-slash (c .before .before .before .before .before .before .before .before .before .before .args .text .now) ≡ true
+is-put c = sym (c .before .starts3 .ensures) ∙ c .if3 .taken
+
+no-put : (c : tie.Else3) → startsWith put-slash (c .before .before .before .before .before .before .before .before .before .before .args .text .now) ≡ false
+no-put c = sym (c .before .starts3 .ensures) ∙ c .if3 .left
+
+is-get : (c : tie.Then5)
+    → startsWith get-i (c .before .before .before .before .before .before .before .before .before .before .before .before .before .args .text .now) ≡ true
+is-get c = sym (c .before .starts4 .ensures) ∙ c .if5 .taken
+
+no-get : (c : tie.Else5)
+    → startsWith get-i (c .before .before .before .before .before .before .before .before .before .before .before .before .before .args .text .now) ≡ false
+no-get c = sym (c .before .starts4 .ensures) ∙ c .if5 .left
+
+returns : tie.Need-returns
+returns c = rw (is-set (c .before .before)) (c .set-order .ensures ∙ rw to-end)
+
+returns-2 : tie.Need-returns-2
+returns-2 c =
+    let c2 = c .before .before in
+    rw (no-set (c2 .before .before .before), is-conf c2) (c .conf-order .ensures ∙ rw to-end)
+
+returns-3 : tie.Need-returns-3
+returns-3 c =
+    let c3 = c .before in
+    let c2 = c3 .before .before .before in
+    rw (no-set (c2 .before .before .before), no-conf c2, is-put c3, eq-eqb _ 20 (c .if4 .taken))
+
+returns-4 : tie.Need-returns-4
+returns-4 c =
+    let c3 = c .before in
+    let c2 = c3 .before .before .before in
+    rw (no-set (c2 .before .before .before), no-conf c2, is-put c3, ne-eqb _ 20 (c .if4 .left))
+
+returns-5 : tie.Need-returns-5
+returns-5 c =
+    let c5 = c .before .before in
+    let c3 = c5 .before .before .before in
+    let c2 = c3 .before .before .before in
+    rw (no-set (c2 .before .before .before), no-conf c2, no-put c3, is-get c5) (c .get-order .ensures ∙ rw to-end)
+
+returns-6 : tie.Need-returns-6
+returns-6 c =
+    let c5 = c .before .before .before in
+    let c3 = c5 .before .before .before in
+    let c2 = c3 .before .before .before in
+    rw (no-set (c2 .before .before .before), no-conf c2, no-put c3, no-get c5, sym (c .before .same .ensures) ∙ c .if6 .taken)
+
+no-undo : (c : tie.Else6)
+    → sameBytes (c .before .before .before .before .before .before .before .before .before .before .before .before .before .before .before .before .args .text .now) undo-word ≡ false
+no-undo c = sym (c .before .same .ensures) ∙ c .if6 .left
+
+returns-7 : tie.Need-returns-7
+returns-7 c =
+    let c6 = c .before .before .before in
+    let c5 = c6 .before .before .before in
+    let c3 = c5 .before .before .before in
+    let c2 = c3 .before .before .before in
+    rw (no-set (c2 .before .before .before), no-conf c2, no-put c3, no-get c5, no-undo c6, sym (c .before .same2 .ensures) ∙ c .if7 .taken)
+
+returns-8 : tie.Need-returns-8
+returns-8 c =
+    let c6 = c .before .before .before in
+    let c5 = c6 .before .before .before in
+    let c3 = c5 .before .before .before in
+    let c2 = c3 .before .before .before in
+    rw (no-set (c2 .before .before .before), no-conf c2, no-put c3, no-get c5, no-undo c6, sym (c .before .same2 .ensures) ∙ c .if7 .left)
+
+pub order-of-spec : {M : Type 1} → statement M
+order-of-spec =
+    tie.close
+    (tie.spec
+    (λ c. search needs)
+    (λ c κs. search needs)
+    (λ c. starts-length _ _ (is-set c))
+    (λ c. starts-length _ _ (is-set c))
+    (λ c. search needs)
+    (λ c κs. search needs)
+    returns
+    (λ c. search needs)
+    (λ c κs. search needs)
+    (λ c. starts-length _ _ (is-conf c))
+    (λ c. starts-length _ _ (is-conf c))
+    (λ c. search needs)
+    (λ c κs. search needs)
+    returns-2
+    (λ c. search needs)
+    (λ c κs. search needs)
+    returns-3
+    returns-4
+    (λ c. search needs)
+    (λ c κs. search needs)
+    (λ c. starts-length _ _ (is-get c))
+    (λ c. starts-length _ _ (is-get c))
+    (λ c. search needs)
+    (λ c κs. search needs)
+    returns-5
+    (λ c. search needs)
+    (λ c κs. search needs)
+    returns-6
+    (λ c. search needs)
+    (λ c κs. search needs)
+    returns-7
+    returns-8)

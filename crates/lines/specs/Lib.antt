@@ -1,0 +1,6 @@
+pub mod Shapes
+pub mod Verdicts
+pub mod Orders
+pub mod Replies
+pub mod Machine
+pub mod Demand

@@ -1,0 +1,87 @@
+-- What an accepted line does to the state: "An accepted SET or PUT adds one, even if nothing altered. UNDO takes the newest back, restoring
+-- "never put" too. KEEP empties the list".
+use Prim.Native.Nat.{ℕ, _+_, _-_}
+use mathlib.Core.Bool.{Bool, cond, _||_}
+use mathlib.Core.List.{List}
+use lib.Dec.{eqb, leb, ltb}
+use lib.ListN.{getD, set, drop, replicate}
+use Rattle.words.specs.Reading.{pos}
+use Rattle.state.specs.Settings.{settingAt}
+use Rattle.state.specs.Values.{putKept}
+use Rattle.state.specs.Entries.{settingsN, valuesN, entriesN, valueOf, entryOf, blankEntry}
+use Rattle.state.specs.declared.settings.Found.{Found}
+use Rattle.state.specs.declared.settings.Found.the-variants.{Nothing, At}
+use Rattle.state.specs.declared.values.Kept.{Kept}
+use Rattle.state.specs.declared.values.Kept.the-variants.{Never}
+use Rattle.state.specs.declared.values.Value.{Value}
+use Rattle.state.specs.declared.entries.Item.{Item}
+use Rattle.state.specs.declared.entries.Item.the-variants.{Free, Setting, Stored}
+use Rattle.state.specs.declared.entries.Former.{Former}
+use Rattle.state.specs.declared.entries.Entry.{Entry}
+use Rattle.state.specs.declared.entries.State.{State}
+use Rattle.lines.specs.Verdicts.{placeNamed, valueIn}
+use Rattle.lines.specs.declared.shapes.Order.{Order}
+use Rattle.lines.specs.declared.shapes.Order.the-variants as order
+
+abbrev pub stateOf : List ℕ → List Value → List Entry → ℕ → State
+stateOf settings values undo count = record { settings = settings; values = values; undo = undo; count = count }
+
+-- an entry more
+abbrev pub pushed : State → Entry → List Entry
+pushed s e = set (s .undo) (s .count) e
+
+abbrev pub setOf : State → ℕ → ℕ → State
+setOf s i p = stateOf (set (s .settings) i p) (s .values) (pushed s (entryOf (Setting i) (getD (s .settings) i 0) Never)) (s .count + 1)
+
+abbrev pub putOf : State → ℕ → Kept → State
+putOf s i k = stateOf (s .settings) (set (s .values) i (valueOf k)) (pushed s (entryOf (Stored i) 0 (valueIn (s .values) i .kept))) (s .count + 1)
+
+-- an item with its former content again
+abbrev pub settingsBack : List ℕ → Item → Former → List ℕ
+settingsBack l Free f = l
+settingsBack l (Setting i) f = set l i (f .parameter)
+settingsBack l (Stored i) f = l
+
+abbrev pub valuesBack : List Value → Item → Former → List Value
+valuesBack l Free f = l
+valuesBack l (Setting i) f = l
+valuesBack l (Stored i) f = set l i (valueOf (f .kept))
+
+abbrev pub newest : State → Entry
+newest s = getD (s .undo) (s .count - 1) blankEntry
+
+abbrev pub takenBack : State → Entry → State
+takenBack s e =
+    stateOf (settingsBack (s .settings) (e .item) (e .former)) (valuesBack (s .values) (e .item) (e .former)) (set (s .undo) (s .count - 1) blankEntry)
+    (s .count - 1)
+
+abbrev pub undoOf : State → State
+undoOf s = cond (eqb (s .count) 0) s (takenBack s (newest s))
+
+abbrev pub keepOf : State → State
+keepOf s = stateOf (s .settings) (s .values) (replicate entriesN blankEntry) 0
+
+-- what a SET or PUT that is accepted names is in the lists and in range, and an entry is free
+abbrev pub setAt : State → ℕ → Found → State
+setAt s p Nothing = s
+setAt s p (At i) = cond (leb settingsN i || (ltb 255 p || leb entriesN (s .count))) s (setOf s i p)
+
+abbrev pub setDone : State → ℕ → ℕ → State
+setDone s n p = setAt s p (settingAt n)
+
+abbrev pub putAt : State → Kept → Found → State
+putAt s k Nothing = s
+putAt s k (At i) = cond (leb valuesN i || leb entriesN (s .count)) s (putOf s i k)
+
+abbrev pub putDone : State → List ℕ → State
+putDone s word = putAt s (putKept word) (placeNamed (pos 1 word) (pos 2 word))
+
+-- the state once the line has run
+abbrev pub doneOf : State → List ℕ → Order → State
+doneOf s t order.Not = s
+doneOf s t (order.Set n p) = setDone s n p
+doneOf s t (order.Conf n) = s
+doneOf s t order.Put = putDone s (drop 4 t)
+doneOf s t order.Get = s
+doneOf s t order.Undo = undoOf s
+doneOf s t order.Keep = keepOf s

@@ -1,0 +1,103 @@
+-- Refusals 20 to 31: "Order: 31, then 20 to 29 as numbered (GET judges its first index by 25 then 27, then the next likewise), then 30".
+use Prim.Native.Nat.{ℕ, zero, suc}
+use mathlib.Core.Bool.{Bool, true, false, cond, not, _&&_}
+use mathlib.Core.List.{List}
+use lib.Dec.{eqb, leb, ltb}
+use lib.ListN.{length, getD, drop}
+use Rattle.figures.specs.Decimal.{isDigit}
+use Rattle.words.specs.Kinds.{indexOf}
+use Rattle.words.specs.Reading.{pos}
+use Rattle.state.specs.Settings.{rowAt, settingAt}
+use Rattle.state.specs.Values.{valueAt, putRight, isPut}
+use Rattle.state.specs.Entries.{entriesN, valueOf}
+use Rattle.state.specs.declared.settings.Found.{Found}
+use Rattle.state.specs.declared.settings.Found.the-variants.{Nothing, At}
+use Rattle.state.specs.declared.values.Kept.the-variants.{Never}
+use Rattle.state.specs.declared.values.Value.{Value}
+use Rattle.state.specs.declared.entries.State.{State}
+use Rattle.lines.specs.Shapes.{isEnded, textOf, groupsIn, orderOf}
+use Rattle.lines.specs.declared.shapes.Order.{Order}
+use Rattle.lines.specs.declared.shapes.Order.the-variants as order
+use Rattle.lines.specs.declared.verdicts.Verdict.{Verdict}
+use Rattle.lines.specs.declared.verdicts.Verdict.the-variants.{Accepted, Unended, Long, Shape, Setting, Parameter, Index, Word, NeverPut, Full, NoEntry, Room, NoState}
+
+abbrev pub verdictNumber : Verdict → ℕ
+verdictNumber Accepted = 0
+verdictNumber Unended = 20
+verdictNumber Long = 21
+verdictNumber Shape = 22
+verdictNumber Setting = 23
+verdictNumber Parameter = 24
+verdictNumber Index = 25
+verdictNumber Word = 26
+verdictNumber NeverPut = 27
+verdictNumber Full = 28
+verdictNumber NoEntry = 29
+verdictNumber Room = 30
+verdictNumber NoState = 31
+
+abbrev pub isAccepted : Verdict → Bool
+isAccepted v = eqb (verdictNumber v) 0
+
+-- 28: "SET or PUT with 64 entries standing"
+abbrev pub fullVerdict : ℕ → Verdict
+fullVerdict count = cond (leb entriesN count) Full Accepted
+
+-- 23, 24, 28
+abbrev pub setBy : ℕ → ℕ → Found → Verdict
+setBy count p Nothing = Setting
+setBy count p (At i) = cond (ltb (rowAt i .highest) p) Parameter (fullVerdict count)
+
+abbrev pub setVerdict : ℕ → ℕ → ℕ → Verdict
+setVerdict count n p = setBy count p (settingAt n)
+
+-- 23
+abbrev pub confBy : Found → Verdict
+confBy Nothing = Setting
+confBy (At i) = Accepted
+
+abbrev pub confVerdict : ℕ → Verdict
+confVerdict n = confBy (settingAt n)
+
+-- the place of the stored value that two characters name
+abbrev pub placeNamed : ℕ → ℕ → Found
+placeNamed tens ones = cond (isDigit tens && isDigit ones) (valueAt (indexOf tens ones)) Nothing
+
+-- 25, 26, 28
+abbrev pub putBy : ℕ → List ℕ → Found → Verdict
+putBy count word Nothing = Index
+putBy count word (At i) = cond (putRight i word) (fullVerdict count) Word
+
+abbrev pub putVerdict : ℕ → List ℕ → Verdict
+putVerdict count word = putBy count word (placeNamed (pos 1 word) (pos 2 word))
+
+abbrev pub valueIn : List Value → ℕ → Value
+valueIn values i = getD values i (valueOf Never)
+
+-- 25, then 27, index by index
+abbrev pub getBy : List Value → Found → Verdict → Verdict
+getBy values Nothing next = Index
+getBy values (At i) next = cond (isPut (valueIn values i .kept)) next NeverPut
+
+unfoldable pub getVerdict : List Value → ℕ → List ℕ → Verdict
+getVerdict values zero g = Accepted
+getVerdict values (suc n) g = getBy values (placeNamed (getD g 3 0) (getD g 4 0)) (getVerdict values n (drop 5 g))
+
+-- 29: "UNDO with none standing"
+abbrev pub undoVerdict : ℕ → Verdict
+undoVerdict count = cond (eqb count 0) NoEntry Accepted
+
+-- 22 to 29
+abbrev pub orderVerdict : State → List ℕ → Order → Verdict
+orderVerdict s t order.Not = Shape
+orderVerdict s t (order.Set n p) = setVerdict (s .count) n p
+orderVerdict s t (order.Conf n) = confVerdict n
+orderVerdict s t order.Put = putVerdict (s .count) (drop 4 t)
+orderVerdict s t order.Get = getVerdict (s .values) (groupsIn (drop 5 t)) (drop 5 t)
+orderVerdict s t order.Undo = undoVerdict (s .count)
+orderVerdict s t order.Keep = Accepted
+
+-- 20 to 29; 21: "over 100 characters"
+abbrev pub lineVerdict : State → List ℕ → Verdict
+lineVerdict s line =
+    cond (isEnded line) (cond (leb (length (textOf line)) 100) (orderVerdict s (textOf line) (orderOf (textOf line))) Long) Unended

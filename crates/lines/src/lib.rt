@@ -1,0 +1,6 @@
+// The line machine: one line judged, run and answered, over a state that a host lends as an image.
+pub mod machine;
+pub mod orders;
+pub mod replies;
+pub mod shapes;
+pub mod verdicts;

@@ -1,0 +1,187 @@
+// What an accepted line does to the state.
+ghost use mathlib.Core.Path.{_≡_};
+ghost use Prim.Native.Nat.{_<_, _≤_};
+ghost use lib.ListN.{length};
+ghost use Rattle.state.specs.Entries.{settingsN, valuesN, entriesN};
+ghost use Rattle.lines.specs.Shapes.{orderOf};
+ghost use Rattle.lines.specs.Orders.{setOf, putOf, undoOf, keepOf, setDone, putDone, doneOf};
+use crate::shapes::Order;
+use crate::verdicts::place_named;
+use crate::verdicts::setting_of;
+use crate::verdicts::word_of;
+use state::entries::ENTRIES;
+use state::entries::Entry;
+use state::entries::Former;
+use state::entries::Item;
+use state::entries::State;
+use state::entries::blank_entry;
+use state::settings::Found;
+use state::settings::SETTINGS;
+use state::values::Kept;
+use state::values::VALUES;
+use state::values::Value;
+use state::values::put_kept;
+
+fn byte(n: usize) -> u8
+    requires { ⌜ n < 256 ⌝ }
+    ensures { λ r. ⌜ r ≡ n ⌝ }
+{
+    n as u8
+}
+
+fn place_of(b: u8) -> usize
+    ensures { λ r. ⌜ r ≡ b ⌝ }
+{
+    b as usize
+}
+
+// The parameter stored, and the former one kept in an entry.
+pub(crate) fn set(s: State, place: usize, parameter: u8) -> State
+    requires { ⌜ (place < settingsN) × (s .count < entriesN) ⌝ }
+    ensures { λ r. ⌜ r ≡ setOf s place parameter ⌝ }
+{
+    let n = s.count;
+    let item = Item::Setting(byte(place));
+    let never = Kept::Never;
+    let former = Former {
+        parameter: s.settings[place],
+        kept: never,
+    };
+    let mut t = s;
+    t.undo[n] = Entry {
+        item: item,
+        former: former,
+    };
+    t.settings[place] = parameter;
+    t.count = n + 1;
+    t
+}
+
+// The value stored, and the former one kept in an entry.
+pub(crate) fn put(s: State, place: usize, kept: Kept) -> State
+    requires { ⌜ (place < valuesN) × (s .count < entriesN) ⌝ }
+    ensures { λ r. ⌜ r ≡ putOf s place kept ⌝ }
+{
+    let n = s.count;
+    let item = Item::Stored(byte(place));
+    let value = s.values[place];
+    let was = value.kept;
+    let former = Former {
+        parameter: 0,
+        kept: was,
+    };
+    let mut t = s;
+    t.undo[n] = Entry {
+        item: item,
+        former: former,
+    };
+    t.values[place] = Value { kept: kept };
+    t.count = n + 1;
+    t
+}
+
+// The newest entry taken back.
+pub(crate) fn undo(s: State) -> State
+    requires { ⌜ s .count ≤ entriesN ⌝ }
+    ensures { λ r. ⌜ r ≡ undoOf s ⌝ }
+{
+    if s.count == 0 {
+        return s;
+    }
+    let n = s.count - 1;
+    let entry = s.undo[n];
+    let item = entry.item;
+    let former = entry.former;
+    let kept = former.kept;
+    let blank = blank_entry();
+    let mut t = s;
+    t.undo[n] = blank;
+    t.count = n;
+    match item {
+        Item::Free => t,
+        Item::Setting(b) => {
+            let place = place_of(b);
+            if SETTINGS <= place {
+                return t;
+            }
+            t.settings[place] = former.parameter;
+            t
+        }
+        Item::Stored(b) => {
+            let place = place_of(b);
+            if VALUES <= place {
+                return t;
+            }
+            t.values[place] = Value { kept: kept };
+            t
+        }
+    }
+}
+
+// The list emptied.
+pub(crate) fn keep(s: State) -> State
+    ensures { λ r. ⌜ r ≡ keepOf s ⌝ }
+{
+    let blank = blank_entry();
+    let undo = [blank; ENTRIES];
+    let mut t = s;
+    t.undo = undo;
+    t.count = 0;
+    t
+}
+
+fn small(n: u64) -> u8
+    requires { ⌜ n < 256 ⌝ }
+    ensures { λ r. ⌜ r ≡ n ⌝ }
+{
+    n as u8
+}
+
+fn set_done(s: State, number: u64, parameter: u64) -> State
+    requires { ⌜ s .count ≤ entriesN ⌝ }
+    ensures { λ r. ⌜ r ≡ setDone s number parameter ⌝ }
+{
+    let Found::At(place) = setting_of(number) else {
+        return s;
+    };
+    if SETTINGS <= place {
+        return s;
+    }
+    if 255 < parameter {
+        return s;
+    }
+    if ENTRIES <= s.count {
+        return s;
+    }
+    set(s, place, small(parameter))
+}
+
+fn put_done(s: State, word: [u8; 16]) -> State
+    requires { ⌜ s .count ≤ entriesN ⌝ }
+    ensures { λ r. ⌜ r ≡ putDone s word ⌝ }
+{
+    let Found::At(place) = place_named(word[0], word[1]) else {
+        return s;
+    };
+    if VALUES <= place {
+        return s;
+    }
+    if ENTRIES <= s.count {
+        return s;
+    }
+    put(s, place, put_kept(word))
+}
+
+// The state once an accepted line has run.
+pub(crate) fn done(s: State, text: &[u8], order: Order) -> State
+    requires { ⌜ (s .count ≤ entriesN) × (order ≡ orderOf (now text)) ⌝ }
+    ensures { λ r. ⌜ r ≡ doneOf s (now (text .entry)) order ⌝ }
+{
+    match order {
+        Order::Set(number, parameter) => set_done(s, number, parameter),
+        Order::Put => put_done(s, word_of(text)),
+        Order::Undo => undo(s),
+        Order::Keep => keep(s),
+        _ => s,
+    }
+}

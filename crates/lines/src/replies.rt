@@ -1,0 +1,140 @@
+// The reply to a line: its length, and its bytes laid down in the room.
+ghost use mathlib.Core.Path.{_≡_};
+ghost use mathlib.Core.List.{_++_};
+ghost use Prim.Native.Nat.{_+_, _≤_};
+ghost use lib.ListN.{length};
+ghost use Rattle.figures.specs.Bytes.{laid};
+ghost use Rattle.lines.specs.Shapes.{groupsIn};
+ghost use Rattle.lines.specs.Verdicts.{confVerdict};
+ghost use Rattle.lines.specs.Replies.{endsLf, lineEnd, endBytes, wrong, confBody, getBody, bodyOf, GetFits, Accepts};
+ghost use Rattle.lines.specs.declared.verdicts.Verdict as Verdict;
+use crate::shapes::Order;
+use crate::verdicts::place_named;
+use crate::verdicts::setting_of;
+use state::entries::State;
+use state::settings::Found;
+use state::settings::SETTINGS;
+use state::values::VALUES;
+use state::values::Value;
+use state::values::get_word;
+
+// Whether a reply ends in CR LF.
+pub(crate) fn ends_lf(s: State) -> bool
+    ensures { λ r. ⌜ r ≡ endsLf s ⌝ }
+{
+    s.settings[10] != 0
+}
+
+// Lays CR or CR LF.
+fn put_end(lf: bool, room: &mut [u8])
+    ensures { λ _. ⌜ now (room .exit) ≡ laid (lineEnd lf) (now (room .entry)) ⌝ }
+{
+    if lf {
+        figures::lay(b"\r\n", room);
+    } else {
+        figures::lay(b"\r", room);
+    }
+}
+
+// Lays a text and the reply's end.
+fn put_text(w: &[u8], lf: bool, room: &mut [u8])
+    requires { ⌜ length (now w) + length (lineEnd lf) ≤ length (now room) ⌝ }
+    ensures { λ _. ⌜ now (room .exit) ≡ laid (now (w .entry) ++ lineEnd lf) (now (room .entry)) ⌝ }
+{
+    let n = w.len();
+    figures::lay(w, room);
+    put_end(lf, &mut room[n..]);
+}
+
+// Lays the words that GET answers, each into the part of the room that starts after the words before it.
+fn put_get(values: [Value; VALUES], groups: &[u8], room: &mut [u8])
+    requires { ⌜ GetFits values (now groups) (now room) ⌝ }
+    ensures { λ _. ⌜ now (room .exit) ≡ laid (getBody values (groupsIn (now (groups .entry))) (now (groups .entry))) (now (room .entry)) ⌝ }
+{
+    let mut i = 0;
+    let mut at = 0;
+    while i < groups.len() {
+        let Found::At(place) = place_named(groups[i + 3], groups[i + 4]) else {
+            return;
+        };
+        if VALUES <= place {
+            return;
+        }
+        let value = values[place];
+        let kept = value.kept;
+        let word = get_word(place, kept);
+        figures::lay(&word, &mut room[at..]);
+        at += 16;
+        i += 5;
+    }
+}
+
+fn wide(b: u8) -> u64
+    ensures { λ r. ⌜ r ≡ b ⌝ }
+{
+    b as u64
+}
+
+// The nine characters that CONF answers.
+fn conf_body(settings: [u8; SETTINGS], number: u64) -> [u8; 9]
+    requires { ⌜ confVerdict number ≡ Verdict.Verdict.Accepted ⌝ }
+    ensures { λ r. ⌜ r ≡ confBody settings number ⌝ }
+{
+    let mut body = [b'/'; 9];
+    let Found::At(place) = setting_of(number) else {
+        return body;
+    };
+    if SETTINGS <= place {
+        return body;
+    }
+    figures::put_number(number, &mut body[0..4]);
+    figures::put_number(wide(settings[place]), &mut body[5..9]);
+    body
+}
+
+// The length of the reply to an accepted line, without its end.
+pub(crate) fn body_length(s: State, text: &[u8], order: Order) -> usize
+    requires { ⌜ Accepts s (now text) order ⌝ }
+    ensures { λ r. ⌜ r ≡ length (bodyOf s (now (text .entry)) order) ⌝ }
+{
+    match order {
+        Order::Not => 0,
+        Order::Set(_, _) => 1,
+        Order::Conf(_) => 9,
+        Order::Put => 1,
+        Order::Get => (text.len() - 5) / 5 * 16,
+        Order::Undo => 1,
+        Order::Keep => 1,
+    }
+}
+
+// Lays the reply to an accepted line.
+pub(crate) fn put_reply(s: State, text: &[u8], order: Order, room: &mut [u8])
+    requires { ⌜ Accepts s (now text) order × (length (bodyOf s (now text) order) + length (endBytes s) ≤ length (now room)) ⌝ }
+    ensures { λ _. ⌜ now (room .exit) ≡ laid (bodyOf s (now (text .entry)) order ++ endBytes s) (now (room .entry)) ⌝ }
+{
+    let lf = ends_lf(s);
+    match order {
+        Order::Conf(number) => {
+            let settings = s.settings;
+            let body = conf_body(settings, number);
+            put_text(&body, lf, room);
+        }
+        Order::Get => {
+            let values = s.values;
+            let n = (text.len() - 5) / 5 * 16;
+            put_get(values, &text[5..], room);
+            put_end(lf, &mut room[n..]);
+        }
+        Order::Not => put_end(lf, room),
+        _ => put_text(b"?", lf, room),
+    }
+}
+
+// Lays the reply to a refused line.
+pub(crate) fn put_wrong(s: State, room: &mut [u8])
+    requires { ⌜ 5 + length (endBytes s) ≤ length (now room) ⌝ }
+    ensures { λ _. ⌜ now (room .exit) ≡ laid (wrong ++ endBytes s) (now (room .entry)) ⌝ }
+{
+    put_text(b"@W127", ends_lf(s), room);
+}

@@ -1,0 +1,209 @@
+// What a line is answered with, before the room is looked at.
+ghost use mathlib.Core.Path.{_≡_};
+ghost use Prim.Native.Nat.{_≤_};
+ghost use lib.ListN.{length, drop};
+ghost use mathlib.Core.Bool.{true};
+ghost use Rattle.state.specs.Settings.{settingAt};
+ghost use Rattle.lines.specs.Shapes.{groupsRight, groupsIn, orderOf};
+ghost use Rattle.lines.specs.Verdicts.{verdictNumber, isAccepted, fullVerdict, setVerdict, confVerdict, placeNamed, putVerdict, getVerdict, orderVerdict};
+use crate::shapes::Order;
+use state::entries::ENTRIES;
+use state::entries::State;
+use state::settings::Found;
+use state::settings::row_at;
+use state::settings::setting_at;
+use state::values::VALUES;
+use state::values::Value;
+use state::values::is_put;
+use state::values::put_right;
+use state::values::value_at;
+
+pub enum Verdict {
+    Accepted,
+    Unended,
+    Long,
+    Shape,
+    Setting,
+    Parameter,
+    Index,
+    Word,
+    NeverPut,
+    Full,
+    NoEntry,
+    Room,
+    NoState,
+}
+
+// The number that document 01 has for a verdict.
+pub fn verdict_number(verdict: Verdict) -> u64
+    ensures { λ r. ⌜ r ≡ verdictNumber verdict ⌝ }
+{
+    match verdict {
+        Verdict::Accepted => 0,
+        Verdict::Unended => 20,
+        Verdict::Long => 21,
+        Verdict::Shape => 22,
+        Verdict::Setting => 23,
+        Verdict::Parameter => 24,
+        Verdict::Index => 25,
+        Verdict::Word => 26,
+        Verdict::NeverPut => 27,
+        Verdict::Full => 28,
+        Verdict::NoEntry => 29,
+        Verdict::Room => 30,
+        Verdict::NoState => 31,
+    }
+}
+
+pub fn is_accepted(verdict: Verdict) -> bool
+    ensures { λ r. ⌜ r ≡ isAccepted verdict ⌝ }
+{
+    match verdict {
+        Verdict::Accepted => true,
+        _ => false,
+    }
+}
+
+fn small(n: u64) -> u16
+    requires { ⌜ n ≤ 9999 ⌝ }
+    ensures { λ r. ⌜ r ≡ n ⌝ }
+{
+    n as u16
+}
+
+// A place among the settings, for a number of any size.
+pub(crate) fn setting_of(number: u64) -> Found
+    ensures { λ r. ⌜ r ≡ settingAt number ⌝ }
+{
+    if 9999 < number {
+        return Found::Nothing;
+    }
+    setting_at(small(number))
+}
+
+fn wide(b: u8) -> u64
+    ensures { λ r. ⌜ r ≡ b ⌝ }
+{
+    b as u64
+}
+
+fn full(count: usize) -> Verdict
+    ensures { λ r. ⌜ r ≡ fullVerdict count ⌝ }
+{
+    if ENTRIES <= count {
+        Verdict::Full
+    } else {
+        Verdict::Accepted
+    }
+}
+
+fn set_verdict(count: usize, number: u64, parameter: u64) -> Verdict
+    ensures { λ r. ⌜ r ≡ setVerdict count number parameter ⌝ }
+{
+    let Found::At(place) = setting_of(number) else {
+        return Verdict::Setting;
+    };
+    let row = row_at(place);
+    if wide(row.highest) < parameter {
+        return Verdict::Parameter;
+    }
+    full(count)
+}
+
+fn conf_verdict(number: u64) -> Verdict
+    ensures { λ r. ⌜ r ≡ confVerdict number ⌝ }
+{
+    let Found::At(_) = setting_of(number) else {
+        return Verdict::Setting;
+    };
+    Verdict::Accepted
+}
+
+fn figure(b: u8) -> u16
+    ensures { λ r. ⌜ r ≡ b ⌝ }
+{
+    b as u16
+}
+
+// The place of the stored value that two characters name.
+pub(crate) fn place_named(tens: u8, ones: u8) -> Found
+    ensures { λ r. ⌜ r ≡ placeNamed tens ones ⌝ }
+{
+    if !figures::digit(tens) {
+        return Found::Nothing;
+    }
+    if !figures::digit(ones) {
+        return Found::Nothing;
+    }
+    value_at(figure(tens - b'0') * 10 + figure(ones - b'0'))
+}
+
+// The 16 bytes of PUT's word.
+pub(crate) fn word_of(text: &[u8]) -> [u8; 16]
+    requires { ⌜ length (now text) ≡ 20 ⌝ }
+    ensures { λ r. ⌜ r ≡ drop 4 (now (text .entry)) ⌝ }
+{
+    let mut word = [0; 16];
+    figures::lay(&text[4..20], &mut word);
+    word
+}
+
+fn put_verdict(count: usize, word: [u8; 16]) -> Verdict
+    ensures { λ r. ⌜ r ≡ putVerdict count word ⌝ }
+{
+    let Found::At(place) = place_named(word[0], word[1]) else {
+        return Verdict::Index;
+    };
+    if !put_right(place, word) {
+        return Verdict::Word;
+    }
+    full(count)
+}
+
+// The indexes of GET, one after the other: 25, then 27.
+fn get_verdict(values: [Value; VALUES], groups: &[u8]) -> Verdict
+    requires { ⌜ groupsRight (groupsIn (now groups)) (now groups) ≡ true ⌝ }
+    ensures { λ r. ⌜ r ≡ getVerdict values (groupsIn (now (groups .entry))) (now (groups .entry)) ⌝ }
+{
+    let mut at = 0;
+    while at < groups.len() {
+        let Found::At(place) = place_named(groups[at + 3], groups[at + 4]) else {
+            return Verdict::Index;
+        };
+        if VALUES <= place {
+            return Verdict::Index;
+        }
+        let value = values[place];
+        let kept = value.kept;
+        if !is_put(kept) {
+            return Verdict::NeverPut;
+        }
+        at += 5;
+    }
+    Verdict::Accepted
+}
+
+// A line of 20 to 29, or accepted.
+pub(crate) fn order_verdict(s: State, text: &[u8], order: Order) -> Verdict
+    requires { ⌜ order ≡ orderOf (now text) ⌝ }
+    ensures { λ r. ⌜ r ≡ orderVerdict s (now (text .entry)) order ⌝ }
+{
+    let count = s.count;
+    match order {
+        Order::Not => Verdict::Shape,
+        Order::Set(number, parameter) => set_verdict(count, number, parameter),
+        Order::Conf(number) => conf_verdict(number),
+        Order::Put => put_verdict(count, word_of(text)),
+        Order::Get => {
+            let values = s.values;
+            get_verdict(values, &text[5..])
+        }
+        Order::Undo => {
+            if count == 0 {
+                return Verdict::NoEntry;
+            }
+            Verdict::Accepted
+        }
+        Order::Keep => Verdict::Accepted,
+    }
+}
