@@ -1,5 +1,7 @@
 // The functions that a host in C links. Each answers its number * 2^32 + what it tells.
 pub mod answers;
+pub mod machine;
+pub mod sheet;
 
 ghost use Rattle.host.specs.Answers.{ReadsC, WritesC};
 use crate::answers::put_told;

@@ -1,0 +1,37 @@
+-- What the stand-in's C functions answer and leave: the machine's own definitions, with number and told packed.
+use Prim.Native.Nat.{ℕ, _*_}
+use mathlib.Core.Path.{_≡_}
+use mathlib.Core.Bool.{cond}
+use mathlib.Core.List.{List}
+use lib.Dec.{eqb}
+use lib.ListN.{length}
+use Rattle.state.specs.Entries.{factoryState}
+use Rattle.state.specs.Image.{imageN, imageOf}
+use Rattle.lines.specs.Verdicts.{verdictNumber}
+use Rattle.lines.specs.Machine.{call}
+use Rattle.lines.specs.declared.machine.Told.{Told}
+use Rattle.sheets.specs.Answers.{sheetNumber, sheetTells}
+use Rattle.sheets.specs.Loading.{loaded, writtenSheet}
+use Rattle.sheets.specs.declared.answers.Sheeted.{Sheeted}
+use Rattle.host.specs.Answers.{packed}
+
+abbrev pub toldLine : Told → ℕ
+toldLine t = packed (verdictNumber (t .verdict)) (t .count)
+
+abbrev pub toldSheet : Sheeted → ℕ
+toldSheet a = packed (sheetNumber a) (sheetTells a)
+
+-- "Laying down the factory state takes lent bytes of exactly the image's length, with any contents, and refuses 31 otherwise."
+abbrev pub LaysFactory : List ℕ → ℕ → List ℕ → Type 0
+LaysFactory image r image′ =
+    (r ≡ cond (eqb (length image) imageN) 0 (31 * 4294967296)) × (image′ ≡ cond (eqb (length image) imageN) (imageOf factoryState) image)
+
+abbrev pub CallsC : List ℕ → List ℕ → List ℕ → ℕ → List ℕ → List ℕ → Type 0
+CallsC image line room r image′ room′ =
+    (r ≡ toldLine (call image line room .answer)) × ((image′ ≡ call image line room .image) × (room′ ≡ call image line room .room))
+
+abbrev pub WritesSheetC : List ℕ → List ℕ → ℕ → List ℕ → Type 0
+WritesSheetC image room r room′ = (r ≡ toldSheet (writtenSheet image room .answer)) × (room′ ≡ writtenSheet image room .room)
+
+abbrev pub LoadsC : List ℕ → List ℕ → ℕ → List ℕ → Type 0
+LoadsC image sheet r image′ = (r ≡ toldSheet (loaded image sheet .answer)) × (image′ ≡ loaded image sheet .image)

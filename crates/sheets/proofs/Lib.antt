@@ -1,0 +1,17 @@
+pub mod Taking
+pub mod SettingLines
+pub mod ValueLines
+pub mod Sheets
+pub mod Sizes
+pub mod Images
+pub mod Starts
+pub mod Determined
+pub mod Pieces
+pub mod Reached
+pub mod Played
+pub mod Held
+pub mod Lines
+pub mod Standing
+pub mod Parts
+pub mod Writes
+pub mod Loads

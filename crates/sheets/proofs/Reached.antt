@@ -1,0 +1,95 @@
+-- Laws of `play`: the pieces run on the factory's image are calls on its state, and what is written then is what the program prints.
+use Prim.Native.Nat.{ℕ, _<_, _≤_}
+use mathlib.Core.Path.{_≡_, refl, sym, ap, _∙_}
+use mathlib.Core.Bool.{Bool, true, false, cond}
+use mathlib.Core.List.{List, [], _∷_, map}
+use borrow.Author.Tests.{le-leb, lt-leb}
+use lib.Dec.{leb}
+use lib.ListN.{length, replicate}
+use Rattle.figures.specs.Bytes.{laid}
+use Rattle.state.specs.Entries.{factoryState, isState}
+use Rattle.state.specs.Image.{imageOf, stateIn}
+use Rattle.state.specs.declared.entries.State.{State}
+use Rattle.state.proofs.Kept.{factory-is-state}
+use Rattle.state.proofs.Images.{image-is, image-back}
+use Rattle.lines.specs.Machine.{step, call}
+use Rattle.lines.specs.Demand.{after}
+use Rattle.lines.proofs.States.{step-state, after-state}
+use Rattle.sheets.specs.Sheet.{sheetOf}
+use Rattle.sheets.specs.Loading.{Written·room, fitted, writtenSheet, WritesSheet}
+use Rattle.sheets.specs.Playing.{pieces, callOf, refusedInput, printed, Plays, runBy}
+use Rattle.sheets.specs.declared.answers.Sheeted.{Sheeted}
+use Rattle.sheets.specs.declared.answers.Sheeted.the-variants.{NoState, Room, Wrong, Written, Loaded}
+use Rattle.sheets.proofs.Images.{image-writes}
+use Rattle.sheets.proofs.Pieces.{calledBy}
+
+-- a call on a state's image gives the image of the next state
+call-image : (s : State) (line : List ℕ) → isState s ≡ true → call (imageOf s) line (replicate 306 0) .image ≡ imageOf (step s line 306 .next)
+call-image s line e =
+    ap (λ (b : Bool). calledBy b (step (stateIn (imageOf s)) line 306) (imageOf s) (replicate 306 0) .image) (image-is s e)
+    ∙ ap (λ (t : State). imageOf (step t line 306 .next)) (image-back s e)
+
+pub run-after : (ls : List (List ℕ)) (s : State) → isState s ≡ true → runBy ls (imageOf s) ≡ imageOf (after s (map callOf ls))
+unfolding runBy after
+run-after [] s e = refl
+run-after (l ∷ ls) s e = ap (runBy ls) (call-image s l e) ∙ run-after ls (step s l 306 .next) (step-state s l 306 e)
+
+-- the state that an input is played to
+abbrev pub reached : List ℕ → State
+reached input = after factoryState (map callOf (pieces input))
+
+pub reached-state : (input : List ℕ) → isState (reached input) ≡ true
+reached-state input = after-state factoryState (map callOf (pieces input)) factory-is-state
+
+pub printed-sheet : (input : List ℕ) → length input ≤ 65536 → printed input ≡ sheetOf (reached input)
+printed-sheet input h = rw (le-leb (length input) 65536 h)
+
+pub printed-refused : (input : List ℕ) → 65536 < length input → printed input ≡ refusedInput
+printed-refused input h = rw (lt-leb (length input) 65536 h)
+
+-- what the write of the image that the pieces are run to comes to
+pub write-printed : (input image room room′ : List ℕ) (answer : Sheeted) → length input ≤ 65536 → image ≡ runBy (pieces input) (imageOf factoryState)
+    → WritesSheet image room answer room′ → (answer ≡ fitted (printed input) room .answer) × (room′ ≡ fitted (printed input) room .room)
+write-printed input image room room′ answer h ei w =
+    let is : image ≡ imageOf (reached input) = ei ∙ run-after (pieces input) factoryState factory-is-state in
+    let out : writtenSheet image room ≡ fitted (printed input) room =
+    ap (λ (i : List ℕ). writtenSheet i room) is ∙ image-writes (reached input) room (reached-state input) ∙ ap (λ (l : List ℕ). fitted l room) (sym (printed-sheet input h))
+    in
+    (w .0 ∙ ap (λ (o : Written·room). o .answer) out, w .1 ∙ ap (λ (o : Written·room). o .room) out)
+
+-- and what `play` answers of it
+
+-- how much an answer says was written
+abbrev pub writtenN : Sheeted → ℕ
+writtenN NoState = 0
+writtenN Room = 0
+writtenN (Wrong at) = 0
+writtenN (Written n) = n
+writtenN Loaded = 0
+
+fitted-tells : (sheet room : List ℕ)
+    → (writtenN (fitted sheet room .answer) ≡ cond (leb (length sheet) (length room)) (length sheet) 0)
+    × (fitted sheet room .room ≡ cond (leb (length sheet) (length room)) (laid sheet room) room)
+fitted-tells sheet room = by (leb (length sheet) (length room))
+  where
+    out : Bool → Written·room
+    out b = cond b (record { answer = Written (length sheet); room = laid sheet room }) (record { answer = Room; room = room })
+
+    by : (b : Bool) → (writtenN (out b .answer) ≡ cond b (length sheet) 0) × (out b .room ≡ cond b (laid sheet room) room)
+    by true = (refl, refl)
+    by false = (refl, refl)
+
+pub plays-printed : (input image room room′ : List ℕ) (answer : Sheeted) (r : ℕ) → length input ≤ 65536 → image ≡ runBy (pieces input) (imageOf factoryState)
+    → WritesSheet image room answer room′ → r ≡ writtenN answer → Plays input room r room′
+plays-printed input image room room′ answer r h ei w er =
+    let p = write-printed input image room room′ answer h ei w in
+    let t = fitted-tells (printed input) room in
+    (er ∙ ap writtenN (p .0) ∙ t .0, p .1 ∙ t .1)
+
+-- a longer input is refused
+
+pub plays-short : (input room : List ℕ) → 65536 < length input → length room < 14 → Plays input room 0 room
+plays-short input room h k = rw (printed-refused input h, lt-leb 14 (length room) k) (refl, refl)
+
+pub plays-refused : (input room room′ : List ℕ) → 65536 < length input → 14 ≤ length room → room′ ≡ laid refusedInput room → Plays input room 14 room′
+plays-refused input room room′ h k e = rw (printed-refused input h, le-leb 14 (length room) k) (refl, e)

@@ -1,0 +1,52 @@
+-- The program sheet: it "cuts after each CR (with LF if next), runs each line with 306 bytes of reply room, a last piece without CR included,
+-- and prints the sheet".
+use Prim.Native.Nat.{ℕ, zero, suc, _+_}
+use mathlib.Core.Path.{_≡_}
+use mathlib.Core.Bool.{Bool, true, false, cond}
+use mathlib.Core.List.{List, [], _∷_, map}
+use lib.Dec.{eqb, leb}
+use lib.ListN.{length, take, drop, replicate}
+use Rattle.figures.specs.Bytes.{laid, startsWith}
+use Rattle.state.specs.Entries.{factoryState}
+use Rattle.lines.specs.Machine.{call}
+use Rattle.lines.specs.Demand.{Call, after}
+use Rattle.sheets.specs.Sheet.{sheetOf}
+
+-- the length of the first piece
+unfoldable pub cutOf : List ℕ → ℕ
+cutOf [] = 0
+cutOf (b ∷ l) = cond (eqb b 13) (cond (startsWith (10 ∷ []) l) 2 1) (cutOf l + 1)
+
+-- the pieces, at most n of them: an input has no more pieces than bytes
+unfoldable pub piecesBy : ℕ → List ℕ → List (List ℕ)
+piecesBy zero l = []
+piecesBy (suc n) l = cond (eqb (length l) 0) [] (take (cutOf l) l ∷ piecesBy n (drop (cutOf l) l))
+
+abbrev pub pieces : List ℕ → List (List ℕ)
+pieces l = piecesBy (length l) l
+
+-- a line with 306 bytes of reply room
+abbrev pub callOf : List ℕ → Call
+callOf l = record { line = l; room = 306 }
+
+-- `refused=input` and LF
+abbrev pub refusedInput : List ℕ
+refusedInput = 114 ∷ 101 ∷ 102 ∷ 117 ∷ 115 ∷ 101 ∷ 100 ∷ 61 ∷ 105 ∷ 110 ∷ 112 ∷ 117 ∷ 116 ∷ 10 ∷ []
+
+-- what the program prints: "reads at most 65,536 bytes .. Longer input: it prints `refused=input` and LF."
+abbrev pub printed : List ℕ → List ℕ
+printed input = cond (leb (length input) 65536) (sheetOf (after factoryState (map callOf (pieces input)))) refusedInput
+
+-- in a lent room: its length, and the room as it is then; nothing where it is too short
+abbrev pub Plays : List ℕ → List ℕ → ℕ → List ℕ → Type 0
+Plays input room r room′ =
+    (r ≡ cond (leb (length (printed input)) (length room)) (length (printed input)) 0)
+    × (room′ ≡ cond (leb (length (printed input)) (length room)) (laid (printed input) room) room)
+
+-- each piece as one call on an image, whatever the replies are
+unfoldable pub runBy : List (List ℕ) → List ℕ → List ℕ
+runBy [] image = image
+runBy (l ∷ ls) image = runBy ls (call image l (replicate 306 0) .image)
+
+abbrev pub Runs : List ℕ → List ℕ → List ℕ → Type 0
+Runs input image image′ = image′ ≡ runBy (pieces input) image

@@ -1,0 +1,36 @@
+// What writing or loading a sheet answers.
+ghost use mathlib.Core.Path.{_≡_};
+ghost use Rattle.sheets.specs.Answers.{sheetNumber, sheetTells};
+
+// Wrong is the start of the first wrong, missing or surplus line.
+pub enum Sheeted {
+    NoState,
+    Room,
+    Wrong(usize),
+    Written(usize),
+    Loaded,
+}
+
+// The number that document 01 has for an answer.
+pub fn sheet_number(answer: Sheeted) -> u64
+    ensures { λ r. ⌜ r ≡ sheetNumber answer ⌝ }
+{
+    match answer {
+        Sheeted::NoState => 31,
+        Sheeted::Room => 30,
+        Sheeted::Wrong(_) => 40,
+        Sheeted::Written(_) => 0,
+        Sheeted::Loaded => 0,
+    }
+}
+
+// What it tells: the bytes written, a wrong line's start, otherwise 0.
+pub fn sheet_tells(answer: Sheeted) -> usize
+    ensures { λ r. ⌜ r ≡ sheetTells answer ⌝ }
+{
+    match answer {
+        Sheeted::Wrong(at) => at,
+        Sheeted::Written(n) => n,
+        _ => 0,
+    }
+}

@@ -1,0 +1,70 @@
+// The work of the program sheet: an input cut into lines, each played from the factory state, and the sheet of what comes of it.
+ghost use mathlib.Core.Path.{_≡_};
+ghost use Prim.Native.Nat.{_≤_, _<_};
+ghost use lib.ListN.{length, drop};
+ghost use Rattle.state.specs.Image.{imageN};
+ghost use Rattle.sheets.specs.Playing.{cutOf, Plays, Runs};
+use crate::answers::Sheeted;
+use crate::writing::write;
+use lines::machine::line;
+use state::entries::factory;
+use state::image::IMAGE;
+use state::image::encode;
+
+// The most bytes that an input may have.
+pub const MOST: usize = 65_536;
+
+// The length of the first piece: up to a CR, with an LF that follows it, or all.
+fn cut(s: &[u8]) -> usize
+    ensures { λ r. ⌜ (r ≡ cutOf (now (s .entry))) × (r ≤ length (now (s .entry))) ⌝ }
+{
+    let mut i = 0;
+    while i < s.len() {
+        if s[i] == 13 {
+            let past = i + 1;
+            if past < s.len() {
+                if s[past] == 10 {
+                    return past + 1;
+                }
+            }
+            return past;
+        }
+        i += 1;
+    }
+    i
+}
+
+// Runs each piece of the input on the image, with 306 bytes of room for its reply.
+fn run(input: &[u8], image: &mut [u8])
+    ensures { λ _. ⌜ Runs (now (input .entry)) (now (image .entry)) (now (image .exit)) ⌝ }
+{
+    let mut at = 0;
+    while at < input.len() {
+        let rest = &input[at..];
+        let n = cut(rest);
+        let mut reply = [0; 306];
+        line(image, &rest[0..n], &mut reply);
+        at += n;
+    }
+}
+
+// Writes what the program prints for the input into the room, and answers its length; 0 and nothing written where the room is too short.
+pub fn play(input: &[u8], room: &mut [u8]) -> usize
+    ensures { λ r. ⌜ Plays (now (input .entry)) (now (room .entry)) r (now (room .exit)) ⌝ }
+{
+    if MOST < input.len() {
+        if room.len() < 14 {
+            return 0;
+        }
+        figures::lay(b"refused=input\n", room);
+        return 14;
+    }
+    let mut image = [0; IMAGE];
+    encode(factory(), &mut image);
+    run(input, &mut image);
+    let answer = write(&image, room);
+    if let Sheeted::Written(n) = answer {
+        return n;
+    }
+    0
+}
