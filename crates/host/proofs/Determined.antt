@@ -1,16 +1,25 @@
 -- The promises of this crate's public functions determine what comes out.
 use mathlib.Core.Path.{_≡_}
+use mathlib.Core.Bool.{cond}
 use mathlib.Core.List.{List}
-use Prim.Native.Nat.{ℕ}
+use Prim.Native.Nat.{ℕ, _*_}
+use lib.Dec.{eqb}
 use lib.ListN.{length}
 use Rattle.figures.specs.Promises.{Determined}
-use Rattle.figures.proofs.Determined.{by-equation, by-two}
+use Rattle.figures.proofs.Determined.{by-equation, by-two, by-three}
 use Rattle.words.specs.declared.records.Word.{Word}
 use Rattle.blocks.specs.Judging.{judged, filled}
 use Rattle.blocks.specs.Composing.{written, listOf}
 use Rattle.blocks.specs.declared.answers.Answer.{Answer}
 use Rattle.blocks.specs.declared.judging.Block.{Block}
+use Rattle.state.specs.Entries.{factoryState}
+use Rattle.state.specs.Image.{imageN, imageOf}
+use Rattle.lines.specs.Machine.{call}
+use Rattle.lines.specs.declared.machine.Told.{Told}
+use Rattle.sheets.specs.Loading.{loaded, writtenSheet}
+use Rattle.sheets.specs.declared.answers.Sheeted.{Sheeted}
 use Rattle.host.specs.Answers.{readTold, wroteTold, isYes, ReadsC, WritesC}
+use Rattle.host.specs.Machine.{toldLine, toldSheet, LaysFactory, CallsC, WritesSheetC, LoadsC}
 
 pub told-read-determined : Determined Answer ℕ (λ i r. r ≡ readTold i)
 told-read-determined = by-equation Answer ℕ readTold
@@ -28,3 +37,29 @@ pub gsi-write-determined : Determined (List Word × ℕ × ℕ × List ℕ) (ℕ
 gsi-write-determined =
     by-two (List Word × ℕ × ℕ × List ℕ) ℕ (List ℕ) (λ i. wroteTold (written (i .0) (isYes (i .1)) (isYes (i .2)) (i .3) .answer))
     (λ i. written (i .0) (isYes (i .1)) (isYes (i .2)) (i .3) .room)
+
+pub told-line-determined : Determined Told ℕ (λ i r. r ≡ toldLine i)
+told-line-determined = by-equation Told ℕ toldLine
+
+pub told-sheet-determined : Determined Sheeted ℕ (λ i r. r ≡ toldSheet i)
+told-sheet-determined = by-equation Sheeted ℕ toldSheet
+
+pub gsi-image-size-determined : Determined (Unit {0}) ℕ (λ i r. r ≡ imageN)
+gsi-image-size-determined = by-equation (Unit {0}) ℕ (λ i. imageN)
+
+pub gsi-factory-determined : Determined (List ℕ) (ℕ × List ℕ) (λ i o. LaysFactory i (o .0) (o .1))
+gsi-factory-determined =
+    by-two (List ℕ) ℕ (List ℕ) (λ i. cond (eqb (length i) imageN) 0 (31 * 4294967296)) (λ i. cond (eqb (length i) imageN) (imageOf factoryState) i)
+
+pub gsi-line-determined : Determined (List ℕ × List ℕ × List ℕ) (ℕ × (List ℕ × List ℕ)) (λ i o. CallsC (i .0) (i .1) (i .2) (o .0) (o .1 .0) (o .1 .1))
+gsi-line-determined =
+    by-three (List ℕ × List ℕ × List ℕ) ℕ (List ℕ) (List ℕ) (λ i. toldLine (call (i .0) (i .1) (i .2) .answer)) (λ i. call (i .0) (i .1) (i .2) .image)
+    (λ i. call (i .0) (i .1) (i .2) .room)
+
+pub gsi-sheet-write-determined : Determined (List ℕ × List ℕ) (ℕ × List ℕ) (λ i o. WritesSheetC (i .0) (i .1) (o .0) (o .1))
+gsi-sheet-write-determined =
+    by-two (List ℕ × List ℕ) ℕ (List ℕ) (λ i. toldSheet (writtenSheet (i .0) (i .1) .answer)) (λ i. writtenSheet (i .0) (i .1) .room)
+
+pub gsi-sheet-load-determined : Determined (List ℕ × List ℕ) (ℕ × List ℕ) (λ i o. LoadsC (i .0) (i .1) (o .0) (o .1))
+gsi-sheet-load-determined =
+    by-two (List ℕ × List ℕ) ℕ (List ℕ) (λ i. toldSheet (loaded (i .0) (i .1) .answer)) (λ i. loaded (i .0) (i .1) .image)

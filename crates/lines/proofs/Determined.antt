@@ -1,10 +1,34 @@
--- The contract of `line` leaves nothing open: number, count, image and room are those of one call.
-use Prim.Native.Nat.{ℕ}
-use mathlib.Core.Path.{_≡_, sym, _∙_}
+-- The promises of this crate's public functions determine what comes out.
+use mathlib.Core.Path.{_≡_}
+use mathlib.Core.Bool.{Bool}
 use mathlib.Core.List.{List}
-use Rattle.lines.specs.Machine.{Calls}
+use Prim.Native.Nat.{ℕ}
+use Rattle.figures.specs.Promises.{Determined}
+use Rattle.figures.proofs.Determined.{by-equation, by-three}
+use Rattle.lines.specs.Shapes.{endOf, isPlain, orderOf}
+use Rattle.lines.specs.Verdicts.{verdictNumber, isAccepted}
+use Rattle.lines.specs.Machine.{call, Calls}
+use Rattle.lines.specs.declared.shapes.Order.{Order}
+use Rattle.lines.specs.declared.verdicts.Verdict.{Verdict}
 use Rattle.lines.specs.declared.machine.Told.{Told}
 
-pub line-determined : (image line room : List ℕ) (r₁ r₂ : Told) (i₁ i₂ m₁ m₂ : List ℕ) → Calls image line room r₁ i₁ m₁ → Calls image line room r₂ i₂ m₂
-    → (r₁ ≡ r₂) × ((i₁ ≡ i₂) × (m₁ ≡ m₂))
-line-determined image line room r₁ r₂ i₁ i₂ m₁ m₂ a b = (a .0 ∙ sym (b .0), (a .1 .0 ∙ sym (b .1 .0), a .1 .1 ∙ sym (b .1 .1)))
+pub end-of-determined : Determined (List ℕ) ℕ (λ i r. r ≡ endOf i)
+end-of-determined = by-equation (List ℕ) ℕ endOf
+
+pub is-plain-determined : Determined (List ℕ) Bool (λ i r. r ≡ isPlain i)
+is-plain-determined = by-equation (List ℕ) Bool isPlain
+
+pub order-of-determined : Determined (List ℕ) Order (λ i r. r ≡ orderOf i)
+order-of-determined = by-equation (List ℕ) Order orderOf
+
+pub verdict-number-determined : Determined Verdict ℕ (λ i r. r ≡ verdictNumber i)
+verdict-number-determined = by-equation Verdict ℕ verdictNumber
+
+pub is-accepted-determined : Determined Verdict Bool (λ i r. r ≡ isAccepted i)
+is-accepted-determined = by-equation Verdict Bool isAccepted
+
+-- image, line and room go in; the answer, the image and the room come out
+pub line-determined : Determined (List ℕ × List ℕ × List ℕ) (Told × (List ℕ × List ℕ)) (λ i o. Calls (i .0) (i .1) (i .2) (o .0) (o .1 .0) (o .1 .1))
+line-determined =
+    by-three (List ℕ × List ℕ × List ℕ) Told (List ℕ) (List ℕ) (λ i. call (i .0) (i .1) (i .2) .answer) (λ i. call (i .0) (i .1) (i .2) .image)
+    (λ i. call (i .0) (i .1) (i .2) .room)

@@ -1,17 +1,42 @@
--- Any two outcomes that meet a promise of the crate are equal.
-use Prim.Native.Nat.{ℕ}
-use mathlib.Core.Path.{_≡_, sym, _∙_}
+-- The promises of this crate's public functions determine what comes out.
+use mathlib.Core.Path.{_≡_}
+use mathlib.Core.Bool.{cond}
 use mathlib.Core.List.{List}
-use Rattle.sheets.specs.Loading.{Loads, WritesSheet}
-use Rattle.sheets.specs.Playing.{Plays}
+use Prim.Native.Nat.{ℕ}
+use lib.Dec.{leb}
+use lib.ListN.{length}
+use Rattle.figures.specs.Promises.{Determined}
+use Rattle.figures.specs.Bytes.{laid}
+use Rattle.figures.proofs.Determined.{by-equation, by-two}
+use Rattle.sheets.specs.Answers.{sheetNumber, sheetTells}
+use Rattle.sheets.specs.Keys.{settingKey, valueKey}
+use Rattle.sheets.specs.Loading.{loaded, writtenSheet, Loads, WritesSheet}
+use Rattle.sheets.specs.Playing.{printed, Plays}
 use Rattle.sheets.specs.declared.answers.Sheeted.{Sheeted}
+use Rattle.sheets.specs.declared.keys.Key.{Key}
 
-pub loads-determined : (image sheet : List ℕ) {r₁ r₂ : Sheeted} {image₁ image₂ : List ℕ} → Loads image sheet r₁ image₁ → Loads image sheet r₂ image₂ → (r₁ ≡ r₂) × (image₁ ≡ image₂)
-loads-determined image sheet a b = (a .0 ∙ sym (b .0), a .1 ∙ sym (b .1))
+pub sheet-number-determined : Determined Sheeted ℕ (λ i r. r ≡ sheetNumber i)
+sheet-number-determined = by-equation Sheeted ℕ sheetNumber
 
-pub writes-determined : (image room : List ℕ) {r₁ r₂ : Sheeted} {room₁ room₂ : List ℕ} → WritesSheet image room r₁ room₁ → WritesSheet image room r₂ room₂
-    → (r₁ ≡ r₂) × (room₁ ≡ room₂)
-writes-determined image room a b = (a .0 ∙ sym (b .0), a .1 ∙ sym (b .1))
+pub sheet-tells-determined : Determined Sheeted ℕ (λ i r. r ≡ sheetTells i)
+sheet-tells-determined = by-equation Sheeted ℕ sheetTells
 
-pub plays-determined : (input room : List ℕ) {r₁ r₂ : ℕ} {room₁ room₂ : List ℕ} → Plays input room r₁ room₁ → Plays input room r₂ room₂ → (r₁ ≡ r₂) × (room₁ ≡ room₂)
-plays-determined input room a b = (a .0 ∙ sym (b .0), a .1 ∙ sym (b .1))
+pub setting-key-determined : Determined ℕ Key (λ i r. r ≡ settingKey i)
+setting-key-determined = by-equation ℕ Key settingKey
+
+pub value-key-determined : Determined ℕ Key (λ i r. r ≡ valueKey i)
+value-key-determined = by-equation ℕ Key valueKey
+
+-- an image and a sheet go in; the answer and the image come out
+pub load-determined : Determined (List ℕ × List ℕ) (Sheeted × List ℕ) (λ i o. Loads (i .0) (i .1) (o .0) (o .1))
+load-determined = by-two (List ℕ × List ℕ) Sheeted (List ℕ) (λ i. loaded (i .0) (i .1) .answer) (λ i. loaded (i .0) (i .1) .image)
+
+-- an image and a room go in; the answer and the room come out
+pub write-determined : Determined (List ℕ × List ℕ) (Sheeted × List ℕ) (λ i o. WritesSheet (i .0) (i .1) (o .0) (o .1))
+write-determined = by-two (List ℕ × List ℕ) Sheeted (List ℕ) (λ i. writtenSheet (i .0) (i .1) .answer) (λ i. writtenSheet (i .0) (i .1) .room)
+
+-- an input and a room go in; the count and the room come out
+pub play-determined : Determined (List ℕ × List ℕ) (ℕ × List ℕ) (λ i o. Plays (i .0) (i .1) (o .0) (o .1))
+play-determined =
+    by-two (List ℕ × List ℕ) ℕ (List ℕ) (λ i. cond (leb (length (printed (i .0))) (length (i .1))) (length (printed (i .0))) 0)
+    (λ i. cond (leb (length (printed (i .0))) (length (i .1))) (laid (printed (i .0)) (i .1)) (i .1))
