@@ -1,0 +1,41 @@
+/* host.c: a small host. It reads a block and shows what stands in it, plays three lines on the stand-in, and writes the sheet. */
+#include "gsi.h"
+
+int printf(const char *, ...);
+size_t strlen(const char *);
+
+static uint8_t image[2048];
+
+/* One line on the image, with its reply shown. */
+static void play(size_t n, const char *line)
+{
+    uint8_t reply[GSI_REPLY_MOST];
+    uint64_t answer = gsi_line(image, n, (const uint8_t *)line, strlen(line), reply, sizeof reply);
+    printf("%.*s -> %u, %.*s\n", (int)strlen(line) - 1, line, GSI_NUMBER(answer), GSI_TOLD(answer) < 2 ? 0 : (int)GSI_TOLD(answer) - 2, (const char *)reply);
+}
+
+int main(void)
+{
+    const char *block = "110014+00000003 21.324+27952530 22.324+27000430 31..01+00265965 51..1.+0009+000 \r\n";
+    gsi_word list[32];
+    uint64_t answer = gsi_read((const uint8_t *)block, strlen(block), list, 32);
+    if (GSI_NUMBER(answer) != 0) {
+        printf("refused by %u at %u\n", GSI_NUMBER(answer), (unsigned)GSI_TOLD(answer));
+        return 1;
+    }
+    printf("%u words in %u bytes\n", (unsigned)GSI_WORDS(answer), (unsigned)GSI_USED(answer));
+    for (size_t i = 0; i < GSI_WORDS(answer); i++)
+        printf("index %u, info %.4s, %c%lu\n", (unsigned)list[i].index, (const char *)list[i].info, list[i].minus ? '-' : '+', (unsigned long)list[i].size);
+
+    size_t n = gsi_image_size();
+    if (n > sizeof image || GSI_NUMBER(gsi_factory(image, n)) != 0)
+        return 1;
+    play(n, "PUT/88...0+00001550 \r");
+    play(n, "GET/I/WI88\r");
+    play(n, "SET/40/3\r");
+
+    uint8_t sheet[GSI_SHEET_MOST];
+    answer = gsi_sheet_write(image, n, sheet, sizeof sheet);
+    printf("%.*s", (int)GSI_TOLD(answer), (const char *)sheet);
+    return GSI_NUMBER(answer) != 0;
+}

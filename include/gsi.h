@@ -1,0 +1,82 @@
+/* gsi.h: what a host in C links from libhost.a. Every function is proved to do just what is said here, whatever it is lent.
+
+   Each function but gsi_image_size answers number * 2^32 + told: GSI_NUMBER and GSI_TOLD take the two apart. The number is 0 where the call was
+   accepted; otherwise it is document 01's refusal. A buffer is a pointer and a length; a length of 0 lends nothing. Buffers that are lent to one
+   call don't overlap, and a list of records is aligned as its type asks. Nothing is kept between calls. */
+#ifndef GSI_H
+#define GSI_H
+
+#include <stddef.h>
+#include <stdint.h>
+
+#ifdef __cplusplus
+extern "C" {
+#define GSI_ASSERT(holds, why) static_assert(holds, why)
+#else
+#define GSI_ASSERT(holds, why) _Static_assert(holds, why)
+#endif
+
+#define GSI_NUMBER(answer) ((unsigned)((answer) >> 32))
+#define GSI_TOLD(answer) ((uint64_t)((answer) & 0xffffffffu))
+
+/* One word of a block. Signs are 0 for plus and 1 for minus; the value is sign and size, in steps of the unit at info[3]. ppm of a pair is the
+   value, mm stands beside it. Text stands from the start of text, 8 or 16 bytes. What a word doesn't use is 0. */
+typedef struct {
+    uint16_t index;    /* the two-digit index */
+    uint8_t info[4];   /* positions 3-6 as they stand */
+    uint8_t minus;     /* the value's sign */
+    uint8_t mm_minus;  /* the sign of a pair's mm */
+    uint64_t size;     /* the value's size */
+    uint64_t mm;       /* a pair's mm */
+    uint8_t text[16];
+} gsi_word;
+
+GSI_ASSERT(sizeof(gsi_word) == 40, "a record has 40 bytes and no padding");
+GSI_ASSERT(offsetof(gsi_word, index) == 0 && offsetof(gsi_word, info) == 2 && offsetof(gsi_word, minus) == 6 && offsetof(gsi_word, mm_minus) == 7,
+           "index, info and the signs stand at 0, 2, 6 and 7");
+GSI_ASSERT(offsetof(gsi_word, size) == 8 && offsetof(gsi_word, mm) == 16 && offsetof(gsi_word, text) == 24, "size, mm and text stand at 8, 16 and 24");
+
+/* What gsi_read tells of a block that it read. */
+#define GSI_USED(answer) ((size_t)((answer) & 0xffff))         /* bytes used, the terminator included */
+#define GSI_WORDS(answer) ((size_t)((answer) >> 16 & 0xff))    /* words, stored from the list's start */
+#define GSI_IS_WIDE(answer) ((int)((answer) >> 24 & 1))        /* 16-wide words, after a `*` */
+#define GSI_IS_CRLF(answer) ((int)((answer) >> 25 & 1))        /* the terminator is CR LF */
+
+/* The longest block, reply and sheet. */
+enum { GSI_BLOCK_MOST = 771, GSI_REPLY_MOST = 306, GSI_SHEET_MOST = 352 };
+
+/* Reads the block at the start of n bytes into a list of so many places.
+   Read (0): tells GSI_USED, GSI_WORDS, GSI_IS_WIDE and GSI_IS_CRLF; records beyond the words are as before, bytes after the terminator aren't looked at.
+   Refused (1 to 11): tells the place; the whole list is as before. */
+uint64_t gsi_read(const uint8_t *block, size_t n, gsi_word *list, size_t places);
+
+/* Writes so many records as one block into the room; wide and crlf: 0 is no, any other number is yes.
+   Written (0): tells the block's bytes; room beyond them is as before.
+   Refused: 12 for no records or over 32 (tells 0), 13 for the first record that no word of the width gives (tells its number, from 0), 14 for
+   a room shorter than the block (tells the bytes needed); the whole room is as before. */
+uint64_t gsi_write(const gsi_word *list, size_t words, uint64_t wide, uint64_t crlf, uint8_t *block, size_t room);
+
+/* The length of an image, the bytes that a state is lent as (docs/IMAGE.md): the number itself. */
+uint64_t gsi_image_size(void);
+
+/* Lays the factory state down in exactly the image's length, whatever the bytes were. Another length: 31, and nothing is touched. */
+uint64_t gsi_factory(uint8_t *image, size_t n);
+
+/* Runs one line, its CR or CR LF included, on the image, and writes its reply into the room.
+   Accepted (0): tells the reply's bytes; the image is that of the next state; room beyond the reply is as before.
+   Refused by 20 to 29: the same with `@W127` for the reply, and the image as before.
+   30 (the reply is longer than the room) and 31 (the bytes are no image): tells 0, and nothing is written or changed. */
+uint64_t gsi_line(uint8_t *image, size_t n, const uint8_t *line, size_t m, uint8_t *reply, size_t room);
+
+/* Writes the image's sheet into the room. Written (0): tells the sheet's bytes; room beyond them is as before.
+   31 (the bytes are no image) and 30 (the sheet is longer than the room): tells 0, and nothing is written. */
+uint64_t gsi_sheet_write(const uint8_t *image, size_t n, uint8_t *sheet, size_t room);
+
+/* Loads a sheet: the image is then that of its settings and values with no undo entry. Loaded (0): tells 0.
+   31 (the bytes are no image): tells 0. 40: tells the start of the first wrong, missing or surplus line. Refused, the image is as before. */
+uint64_t gsi_sheet_load(uint8_t *image, size_t n, const uint8_t *sheet, size_t m);
+
+#ifdef __cplusplus
+}
+#endif
+#endif

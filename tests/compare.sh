@@ -1,0 +1,12 @@
+#!/bin/sh
+# compare.sh [CASES] [SEED]: holds the C functions to the second implementation of document 01 (reference.c): the answer, what it tells, and every
+# lent byte and record, on so many cases made by seed; and the second implementation to the document's own readings (selftest.c).
+set -eu
+cd "$(dirname "$0")/.."
+work=$(mktemp -d)
+trap 'rm -rf "$work"' EXIT
+rt staticlib host >"$work/log" 2>&1 || { tail -n 5 "$work/log" >&2 && exit 1; }
+sh tests/c.sh "$work/selftest" tests/selftest.c tests/reference.c
+sh tests/c.sh --run "$work/selftest"
+sh tests/c.sh "$work/driver" tests/driver.c tests/reference.c
+sh tests/c.sh --run "$work/driver" "${1:-1000000}" "${2:-1}"

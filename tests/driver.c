@@ -1,0 +1,2099 @@
+/* driver.c: makes cases by seed and compares the library (gsi_*) with the second implementation (ref_*): the answer and
+   every lent byte. Usage: driver CASES SEED. Status 0 when there is no difference and every number was seen. */
+#include "reference.h"
+
+int printf(const char *, ...);
+void exit(int);
+void *memcpy(void *, const void *, size_t);
+void *memmove(void *, const void *, size_t);
+void *memset(void *, int, size_t);
+int memcmp(const void *, const void *, size_t);
+size_t strlen(const char *);
+
+uint64_t gsi_read(const uint8_t *block, size_t n, ref_word *list, size_t places);
+uint64_t gsi_write(const ref_word *list, size_t words, uint64_t wide, uint64_t crlf, uint8_t *block, size_t room);
+uint64_t gsi_image_size(void);
+uint64_t gsi_factory(uint8_t *image, size_t n);
+uint64_t gsi_line(uint8_t *image, size_t n, const uint8_t *line, size_t m, uint8_t *reply, size_t room);
+uint64_t gsi_sheet_write(const uint8_t *image, size_t n, uint8_t *sheet, size_t room);
+uint64_t gsi_sheet_load(uint8_t *image, size_t n, const uint8_t *sheet, size_t m);
+
+enum { CR = 13, LF = 10 };
+enum { IMAGE = 1039, SETTINGS = 19, VALUES = 11, AT_VALUES = 20, AT_COUNT = 141, AT_ENTRIES = 143 };
+
+#define COUNT_OF(array) (sizeof(array) / sizeof *(array))
+
+/* Chance */
+
+static uint64_t chance_state;
+
+/* splitmix64 */
+static uint64_t next64(void)
+{
+    uint64_t z = chance_state += 0x9E3779B97F4A7C15u;
+    z = (z ^ z >> 30) * 0xBF58476D1CE4E5B9u;
+    z = (z ^ z >> 27) * 0x94D049BB133111EBu;
+    return z ^ z >> 31;
+}
+
+/* A number from 0 to n-1. */
+static unsigned below(size_t n)
+{
+    return (unsigned)((next64() >> 32) * n >> 32);
+}
+
+static int one_in(unsigned n)
+{
+    return below(n) == 0;
+}
+
+static char one_of(const char *characters)
+{
+    return characters[below(strlen(characters))];
+}
+
+#define PICK(array) ((array)[below(COUNT_OF(array))])
+
+/* A byte that is likely to matter somewhere: digits, signs, and the neighbours of each range's ends. */
+static uint8_t telling_byte(uint8_t old)
+{
+    static const uint8_t ends[] = {0, 1, 2, 9, 10, 11, 12, 13, 14, 31, 32, 33, 34, 42, 43, 44, 45, 46, 47, 48, 49, 50, 51,
+                                   52, 53, 54, 55, 56, 57, 58, 59, 95, 96, 97, 125, 126, 127, 128, 129, 254, 255};
+    switch (below(6)) {
+    case 0:
+        return (uint8_t)below(256);
+    case 1:
+        return (uint8_t)(old + 1);
+    case 2:
+        return (uint8_t)(old - 1);
+    case 3:
+        return (uint8_t)one_of("0123456789.+- *");
+    case 4:
+        return (uint8_t)(old ^ 1u << below(8));
+    default:
+        return PICK(ends);
+    }
+}
+
+/* One of the n bytes at p changed: to a telling one, or to one of the characters. (Each draw stands in a statement of
+   its own, here and below, so that a seed means the same cases with every compiler.) */
+static void change(uint8_t *p, size_t n)
+{
+    size_t at = below(n);
+    p[at] = telling_byte(p[at]);
+}
+
+static void change_to(uint8_t *p, size_t n, const char *characters)
+{
+    size_t at = below(n);
+    p[at] = (uint8_t)one_of(characters);
+}
+
+/* Lent memory */
+
+enum { GUARD = 48, MOST = 2048, WHOLE = GUARD + 8 + MOST + GUARD };
+
+/* One lent memory between guards: its contents before the call, and what each side made of its own copy. */
+struct lent {
+    const char *name;
+    int input;
+    size_t start, len, total;
+    _Alignas(8) uint8_t before[WHOLE];
+    _Alignas(8) uint8_t theirs[WHOLE];
+    _Alignas(8) uint8_t ours[WHOLE];
+};
+
+static struct lent block = {.name = "block"}, list = {.name = "list"}, line = {.name = "line"}, reply = {.name = "reply"},
+                   sheet = {.name = "sheet"}, spare = {.name = "image"}, run = {.name = "image"};
+
+static uint8_t pool[1 << 16];
+
+enum { IN = 1, ALIGNED = 2 };
+
+/* Lends len bytes to both sides. Contents given are followed by GUARD bytes of the caller's, so that bytes just past a
+   cut are the tempting ones; none given means random prior contents. */
+static void lend(struct lent *l, const void *content, size_t len, int how)
+{
+    l->start = GUARD + (how & ALIGNED ? 0 : below(8));
+    l->len = len;
+    l->total = l->start + len + GUARD;
+    l->input = how & IN;
+    memcpy(l->before, pool + below(sizeof pool - WHOLE), l->total);
+    if (content)
+        memcpy(l->before + l->start, content, how & IN ? len + GUARD : len);
+    if (how & IN && one_in(8)) /* a line's end just before the input tempts too */
+        memcpy(l->before + l->start - 2, one_in(2) ? "\r\n" : "\r\r", 2);
+    memcpy(l->theirs, l->before, l->total);
+    memcpy(l->ours, l->before, l->total);
+}
+
+/* One comparison */
+
+enum { READ, WRITE, FACTORY, LINE, SHEET_WRITE, SHEET_LOAD, FUNCTIONS };
+static const char *const names[FUNCTIONS] = {"read", "write", "factory", "line", "sheet_write", "sheet_load"};
+
+static uint64_t wanted, cases, seed, seen[FUNCTIONS][41];
+static const char *kind_name;
+static uint64_t *kind_count;
+
+/* The case at hand, for the report. */
+static struct {
+    unsigned function;
+    struct lent *lent[3];
+    const char *argument[3];
+    uint64_t value[3];
+} now;
+
+static void hex(const char *title, const uint8_t *p, size_t n)
+{
+    printf("  %s ", title);
+    for (size_t i = 0; i < n; i++)
+        printf("%02x", p[i]);
+    printf("\n");
+}
+
+static void finish(void);
+
+static void report(uint64_t theirs, uint64_t ours)
+{
+    printf("difference: %s, case %llu of seed %llu, %s\n", names[now.function], (unsigned long long)cases,
+           (unsigned long long)seed, kind_name);
+    printf("  library %llu telling %llu (%llx)\n", (unsigned long long)(theirs >> 32),
+           (unsigned long long)(theirs & 0xFFFFFFFF), (unsigned long long)theirs);
+    printf("  second  %llu telling %llu (%llx)\n", (unsigned long long)(ours >> 32),
+           (unsigned long long)(ours & 0xFFFFFFFF), (unsigned long long)ours);
+    for (int i = 0; i < 3 && now.argument[i]; i++)
+        printf("  %s = %llu\n", now.argument[i], (unsigned long long)now.value[i]);
+    for (int i = 0; i < 3 && now.lent[i]; i++) {
+        const struct lent *l = now.lent[i];
+        printf("  %s: %llu bytes\n", l->name, (unsigned long long)l->len);
+        hex("before ", l->before + l->start, l->len);
+        if (memcmp(l->theirs, l->before, l->total) != 0 || memcmp(l->ours, l->before, l->total) != 0) {
+            hex("library", l->theirs + l->start, l->len);
+            hex("second ", l->ours + l->start, l->len);
+            for (size_t at = 0; at < l->len; at++)
+                if (l->theirs[l->start + at] != l->ours[l->start + at]) {
+                    printf("  first unlike byte of %s: %llu\n", l->name, (unsigned long long)at);
+                    break;
+                }
+        }
+        for (int side = 0; side < 2; side++) {
+            const uint8_t *p = side ? l->ours : l->theirs;
+            if (memcmp(p, l->before, l->start) != 0)
+                printf("  guard before it changed by the %s\n", side ? "second" : "library");
+            if (memcmp(p + l->start + l->len, l->before + l->start + l->len, GUARD) != 0)
+                printf("  guard after it changed by the %s\n", side ? "second" : "library");
+        }
+    }
+    exit(1);
+}
+
+/* An input is as before; an output is alike on both sides, with its guards as before. */
+static int alike(const struct lent *l)
+{
+    size_t end = l->start + l->len;
+    if (memcmp(l->theirs, l->ours, l->total) != 0)
+        return 0;
+    if (l->input)
+        return memcmp(l->theirs, l->before, l->total) == 0;
+    return memcmp(l->theirs, l->before, l->start) == 0 && memcmp(l->theirs + end, l->before + end, GUARD) == 0;
+}
+
+static void compare(uint64_t theirs, uint64_t ours)
+{
+    cases++;
+    ++*kind_count;
+    if (theirs != ours)
+        report(theirs, ours);
+    for (int i = 0; i < 3 && now.lent[i]; i++)
+        if (!alike(now.lent[i]))
+            report(theirs, ours);
+    if (ours >> 32 <= 40)
+        seen[now.function][ours >> 32]++;
+    if (cases == wanted)
+        finish();
+}
+
+static void begin(unsigned function, struct lent *a, struct lent *b)
+{
+    memset(&now, 0, sizeof now);
+    now.function = function;
+    now.lent[0] = a;
+    now.lent[1] = b;
+}
+
+static void argue(int place, const char *name, uint64_t value)
+{
+    now.argument[place] = name;
+    now.value[place] = value;
+}
+
+/* Where a case's input is made. */
+static uint8_t src[MOST + GUARD];
+static size_t len;
+
+static void check_read(size_t n, size_t places)
+{
+    uint64_t theirs;
+    begin(READ, &block, &list);
+    argue(0, "places", places);
+    lend(&block, src, n, IN);
+    lend(&list, 0, places * sizeof(ref_word), ALIGNED);
+    theirs = gsi_read(block.theirs + block.start, n, (ref_word *)(void *)(list.theirs + list.start), places);
+    compare(theirs, ref_read(block.ours + block.start, n, (ref_word *)(void *)(list.ours + list.start), places));
+}
+
+/* The records of the writer's cases; beyond the 34 there is memory for the guard. */
+static ref_word records[36];
+
+/* "0 is no, any other number is yes" */
+static uint64_t yes_or_no(int yes)
+{
+    static const uint64_t yeses[] = {1, 1, 1, 2, 255, 256, UINT64_C(1) << 32, UINT64_C(1) << 63, UINT64_MAX, 65536};
+    return yes ? PICK(yeses) : 0;
+}
+
+static void check_write(size_t words, int is_wide, int is_crlf, size_t room)
+{
+    uint64_t wide = yes_or_no(is_wide), crlf = yes_or_no(is_crlf), theirs;
+    begin(WRITE, &list, &block);
+    argue(0, "words", words);
+    argue(1, "wide", wide);
+    argue(2, "crlf", crlf);
+    lend(&list, records, words * sizeof(ref_word), IN | ALIGNED);
+    lend(&block, 0, room, 0);
+    theirs = gsi_write((const ref_word *)(void *)(list.theirs + list.start), words, wide, crlf, block.theirs + block.start, room);
+    compare(theirs, ref_write((const ref_word *)(void *)(list.ours + list.start), words, wide, crlf, block.ours + block.start, room));
+}
+
+/* The run's image goes on from call to call, one on each side; what stands there is then "before". */
+static void renew(struct lent *image)
+{
+    if (image == &run)
+        memcpy(run.before, run.theirs, run.total);
+    image->input = 0;
+}
+
+static void check_factory(struct lent *image)
+{
+    uint64_t theirs;
+    begin(FACTORY, image, 0);
+    renew(image);
+    theirs = gsi_factory(image->theirs + image->start, image->len);
+    compare(theirs, ref_factory(image->ours + image->start, image->len));
+}
+
+/* Plays the line in src. */
+static void check_line(struct lent *image, size_t m, size_t room)
+{
+    uint64_t theirs;
+    begin(LINE, image, &line);
+    now.lent[2] = &reply;
+    renew(image);
+    lend(&line, src, m, IN);
+    lend(&reply, 0, room, 0);
+    theirs = gsi_line(image->theirs + image->start, image->len, line.theirs + line.start, m, reply.theirs + reply.start, room);
+    compare(theirs, ref_line(image->ours + image->start, image->len, line.ours + line.start, m, reply.ours + reply.start, room));
+}
+
+static void check_sheet_write(struct lent *image, size_t room)
+{
+    uint64_t theirs;
+    begin(SHEET_WRITE, image, &sheet);
+    renew(image);
+    image->input = 1;
+    lend(&sheet, 0, room, 0);
+    theirs = gsi_sheet_write(image->theirs + image->start, image->len, sheet.theirs + sheet.start, room);
+    compare(theirs, ref_sheet_write(image->ours + image->start, image->len, sheet.ours + sheet.start, room));
+}
+
+/* Loads the sheet in src. */
+static void check_sheet_load(struct lent *image, size_t m)
+{
+    uint64_t theirs;
+    begin(SHEET_LOAD, image, &sheet);
+    renew(image);
+    lend(&sheet, src, m, IN);
+    theirs = gsi_sheet_load(image->theirs + image->start, image->len, sheet.theirs + sheet.start, m);
+    compare(theirs, ref_sheet_load(image->ours + image->start, image->len, sheet.ours + sheet.start, m));
+}
+
+/* Words */
+
+static const uint8_t numbered[] = {11, 41};
+static const uint8_t texts[] = {12, 13, 16, 18, 19, 42, 43, 44, 45, 46, 47, 48, 49, 52, 53, 71, 72, 73, 74, 75, 76, 77, 78, 79};
+static const uint8_t angles[] = {21, 22, 24};
+static const uint8_t lengths[] = {31, 32, 33, 34, 81, 82, 83, 84, 85, 86, 87, 88};
+static const uint8_t constants[] = {58, 59};
+
+/* An index of the table, its kinds about alike in number: n, t, a, l, c or p. */
+static unsigned some_index(char *kind)
+{
+    switch (*kind = one_of("nttaaallcpp")) {
+    case 'n':
+        return PICK(numbered);
+    case 't':
+        return PICK(texts);
+    case 'a':
+        return PICK(angles);
+    case 'l':
+        return PICK(lengths);
+    case 'c':
+        return PICK(constants);
+    default:
+        return 51;
+    }
+}
+
+static void digits(uint8_t *p, size_t n, uint64_t value)
+{
+    for (; n > 0; value /= 10)
+        p[--n] = (uint8_t)('0' + value % 10);
+}
+
+static uint64_t power_of_ten(unsigned n)
+{
+    uint64_t p = 1;
+    while (n-- > 0)
+        p *= 10;
+    return p;
+}
+
+/* A size below the limit, often at one of its ends. */
+static uint64_t some_size(uint64_t limit)
+{
+    switch (below(8)) {
+    case 0:
+        return 0;
+    case 1:
+        return 1;
+    case 2:
+        return limit - 1;
+    case 3:
+        return (limit - 1) - below(limit < 10 ? limit : 10);
+    case 4: {
+        uint64_t about = power_of_ten(1 + below(16));
+        return next64() % about % limit;
+    }
+    default:
+        return next64() % limit;
+    }
+}
+
+/* A number of so many digits about the limit and about the places where a narrower number would wrap. */
+static uint64_t edge_size(uint64_t limit, unsigned width)
+{
+    uint64_t all = power_of_ten(width), v, times;
+    switch (below(10)) {
+    case 0:
+        v = 0;
+        break;
+    case 1:
+        v = limit - 1;
+        break;
+    case 2:
+        v = limit;
+        break;
+    case 3:
+        v = limit + 1;
+        break;
+    case 4:
+        v = all - 1;
+        break;
+    case 5:
+        times = below(1000);
+        v = (UINT64_C(1) << 32) * times + next64() % limit;
+        break;
+    case 6:
+        times = power_of_ten(below(9));
+        v = limit * times - below(2);
+        break;
+    case 7:
+        times = below(4);
+        v = next64() % limit + limit * times;
+        break;
+    case 8:
+        v = power_of_ten(below(width + 1));
+        v -= below(2);
+        break;
+    default:
+        v = next64();
+        break;
+    }
+    return v % all;
+}
+
+static void text(uint8_t *p, size_t n)
+{
+    for (size_t i = 0; i < n; i++)
+        p[i] = one_in(4) ? (uint8_t)one_of("!~0A*.+-\"}") : (uint8_t)(33 + below(94));
+}
+
+static uint64_t angle_limit(uint8_t unit)
+{
+    return unit == '2' ? 40000000 : unit == '3' ? 36000000 : 64000000;
+}
+
+/* Angle digits: right ones, or at the edge of each field. Answers whether they are all 0. */
+static int angle_data(uint8_t *p, unsigned width, uint8_t unit, int edge)
+{
+    uint64_t v;
+    if (unit != '4') {
+        v = edge ? edge_size(angle_limit(unit), width) : some_size(angle_limit(unit));
+    } else if (edge) {
+        static const uint64_t degrees[] = {0, 1, 359, 360, 361, 999, 1000, 1359, 99999999999, 4294967296, 4294967655, 65536, 256};
+        static const uint8_t sixty[] = {0, 1, 59, 60, 61, 99};
+        v = PICK(degrees);
+        v = v * 100 + PICK(sixty);
+        v = v * 100 + PICK(sixty);
+        v = v * 10 + below(10);
+        v %= power_of_ten(width);
+    } else {
+        v = some_size(360);
+        v = v * 100 + some_size(60);
+        v = v * 100 + some_size(60);
+        v = v * 10 + some_size(10);
+    }
+    digits(p, width, v);
+    return v == 0;
+}
+
+/* A word with its blank: right, or with a right form and data at the edges (some of them wrong). */
+static void word_of(uint8_t *w, unsigned width, char kind, unsigned index, int edge)
+{
+    uint8_t *info = w + 2, *data = w + 7;
+    int zero = 0;
+
+    digits(w, 2, index);
+    memcpy(info, "....", 4);
+    info[2] = (uint8_t)one_of(".01234");
+    w[6] = '+';
+    w[7 + width] = ' ';
+    switch (kind) {
+    case 'n':
+        if (one_in(2))
+            digits(info, 4, one_in(4) ? 9999 : below(10000));
+        else
+            info[2] = '.';
+        text(data, width);
+        return;
+    case 't':
+        for (int i = 1; i < 4; i++)
+            info[i] = (uint8_t)one_of("...0123456789");
+        text(data, width);
+        return;
+    case 'a':
+        info[1] = (uint8_t)one_of(".013");
+        info[3] = (uint8_t)one_of("2345");
+        zero = angle_data(data, width, info[3], edge);
+        break;
+    case 'p': {
+        uint64_t ppm = edge && one_in(2) ? 0 : some_size(power_of_ten(width - 4)), mm = edge && one_in(2) ? 0 : some_size(1000);
+        info[3] = '.';
+        digits(data, width - 4, ppm);
+        digits(data + width - 3, 3, mm);
+        data[width - 4] = (mm || edge) && one_in(2) ? '-' : '+';
+        zero = ppm == 0;
+        break;
+    }
+    default: {
+        uint64_t v = edge && one_in(3) ? 0 : some_size(power_of_ten(width));
+        info[3] = kind == 'l' ? (uint8_t)one_of("01678") : '6';
+        digits(data, width, v);
+        zero = v == 0;
+        break;
+    }
+    }
+    if ((!zero || edge) && one_in(2))
+        w[6] = '-';
+}
+
+/* A block in src, of so many words; what follows it is tempting. */
+static unsigned block_words, block_wide;
+
+static size_t word_start(size_t word)
+{
+    return block_wide + word * (block_wide ? 24 : 16);
+}
+
+/* edges is 0 for right words, else one block in so many has words at the edges. */
+static void make_block(unsigned words, unsigned edges)
+{
+    int edge = edges && one_in(edges);
+    block_words = words;
+    block_wide = below(2);
+    if (block_wide)
+        src[0] = '*';
+    for (unsigned i = 0; i < words; i++) {
+        char kind;
+        unsigned index = some_index(&kind);
+        word_of(src + word_start(i), block_wide ? 16 : 8, kind, index, edge && one_in(4));
+    }
+    len = word_start(words);
+    src[len++] = CR;
+    if (one_in(2))
+        src[len++] = LF;
+    /* Bytes after the terminator. */
+    for (unsigned i = 0, more = one_in(2) ? 0 : below(20); i < more; i++)
+        src[len++] = (uint8_t)(one_in(4) ? one_of("\r\n *1") : (int)below(256));
+}
+
+static unsigned some_words(void)
+{
+    switch (below(8)) {
+    case 0:
+        return 32;
+    case 1:
+        return 1 + below(32);
+    case 2:
+        return 31;
+    default:
+        return 1 + below(4);
+    }
+}
+
+static size_t some_places(void)
+{
+    return one_in(6) ? below(34) : one_in(4) ? block_words : 32 + below(2);
+}
+
+/* One byte of src[from, to) substituted, deleted or inserted; len follows. */
+static void damage(size_t from, size_t to)
+{
+    size_t at = from + below(to - from);
+    switch (below(6)) {
+    case 0:
+        memmove(src + at, src + at + 1, len - at - 1);
+        len--;
+        break;
+    case 1:
+        memmove(src + at + 1, src + at, len - at);
+        len++;
+        src[at] = telling_byte(src[at]);
+        break;
+    default:
+        src[at] = telling_byte(src[at]);
+        break;
+    }
+}
+
+/* Cases of the reader */
+
+static void read_right(void)
+{
+    make_block(some_words(), 0);
+    check_read(len, one_in(8) ? block_words : some_places());
+}
+
+static void read_one_wrong(void)
+{
+    make_block(some_words(), 0);
+    damage(0, len);
+    if (one_in(4))
+        damage(0, len);
+    check_read(len, some_places());
+}
+
+/* Each value of one byte of a short block. */
+static void read_each_value(void)
+{
+    size_t at;
+    make_block(1 + below(2), 4);
+    at = below(word_start(block_words) + 2);
+    for (unsigned b = 0; b < 256; b++) {
+        src[at] = (uint8_t)b;
+        check_read(len, 32);
+    }
+}
+
+/* Positions 3-6 from their own alphabet, for any index. */
+static void read_info(void)
+{
+    unsigned at, width;
+    char kind;
+    make_block(1 + below(3), 0);
+    at = below(block_words);
+    width = block_wide ? 16 : 8;
+    at = (unsigned)word_start(at);
+    switch (below(4)) {
+    case 0: /* any two digits over right information */
+        digits(src + at, 2, below(100));
+        break;
+    case 1: /* another index of the table over it */
+        digits(src + at, 2, some_index(&kind));
+        break;
+    case 2:
+        for (int i = 0; i < 4; i++)
+            src[at + 2 + i] = (uint8_t)one_of(one_in(2) ? "." : "0123456789.");
+        break;
+    default:
+        change_to(src + at + 2, 4, "0123456789./:-+ ");
+        break;
+    }
+    if (one_in(8))
+        src[at + 7 + width] = telling_byte(' ');
+    check_read(len, 32);
+}
+
+static void read_cut(void)
+{
+    make_block(one_in(60) ? 33 : 1 + below(3), 4);
+    for (size_t n = 0; n <= len; n++)
+        check_read(n, one_in(16) ? below(34) : 33);
+}
+
+static void swap(uint8_t *a, uint8_t *b, size_t n)
+{
+    for (size_t i = 0; i < n; i++) {
+        uint8_t t = a[i];
+        a[i] = b[i];
+        b[i] = t;
+    }
+}
+
+/* Words exchanged, or one field of two words; often with a wrong word among them. */
+static void read_exchanged(void)
+{
+    size_t a, b, width;
+    make_block(2 + below(31), 0);
+    width = block_wide ? 16 : 8;
+    if (one_in(2))
+        change(src + word_start(below(block_words)), width + 8);
+    a = word_start(below(block_words));
+    b = word_start(below(block_words));
+    switch (below(6)) {
+    case 0:
+        swap(src + a, src + b, 2);
+        break;
+    case 1:
+        swap(src + a + 2, src + b + 2, 4);
+        break;
+    case 2:
+        swap(src + a + 6, src + b + 6, 1);
+        break;
+    case 3:
+        swap(src + a + 7, src + b + 7, width);
+        break;
+    default:
+        swap(src + a, src + b, width + 8);
+        break;
+    }
+    check_read(len, some_places());
+}
+
+static void read_33(void)
+{
+    make_block(32 + below(3), 0);
+    if (one_in(3))
+        damage(word_start(31), len);
+    if (one_in(3))
+        len = word_start(32) - 1 + below(4);
+    check_read(len, one_in(2) ? 33 : 30 + below(5));
+}
+
+static void read_places(void)
+{
+    make_block(one_in(2) ? 33 : 1 + below(33), 8);
+    if (one_in(4))
+        damage(0, len);
+    for (size_t places = 0; places <= 33; places++)
+        check_read(len, places);
+}
+
+/* Data at the limits and just beyond, angles most often, with a wrong blank at times to see the order. */
+static void read_edges(void)
+{
+    char kind;
+    unsigned index = some_index(&kind);
+    make_block(1 + below(3), 4);
+    if (one_in(2)) {
+        kind = 'a';
+        index = PICK(angles);
+    }
+    word_of(src + word_start(block_words - 1), block_wide ? 16 : 8, kind, index, 1);
+    if (one_in(8))
+        src[word_start(block_words) - 1] = telling_byte(' ');
+    check_read(len, 32);
+}
+
+static void read_random(void)
+{
+    len = below(one_in(10) ? 900 : 60);
+    for (size_t i = 0; i < len + GUARD; i++)
+        src[i] = (uint8_t)(one_in(3) ? below(256) : (unsigned)one_of("0123456789.+- *\r\n"));
+    check_read(len, below(34));
+}
+
+/* Cases of the writer */
+
+/* Records got by reading a right block. */
+static unsigned make_records(unsigned words)
+{
+    do {
+        make_block(words > 32 ? 32 : words, 0);
+    } while (ref_read(src, len, records, 32) >> 32 != 0);
+    for (unsigned i = 32; i < words; i++)
+        records[i] = records[i - 32];
+    return words;
+}
+
+static size_t block_length(size_t words, int wide, int crlf)
+{
+    return words * (wide ? 24 : 16) + (wide ? 2 : 1) + (crlf ? 1 : 0);
+}
+
+/* Writes the records with a room about the block's length. */
+static void write_about(unsigned words, int wide)
+{
+    int crlf = one_in(2);
+    size_t need = block_length(words, wide, crlf), room = need + below(6);
+    if (one_in(4))
+        room = need - 1 + below(2);
+    else if (one_in(10))
+        room = below(need + 4);
+    check_write(words, wide, crlf, room);
+}
+
+static void write_right(void)
+{
+    unsigned words = make_records(some_words());
+    write_about(words, (int)block_wide);
+}
+
+static uint64_t extreme(void)
+{
+    static const uint64_t sizes[] = {0, 1, 999, 1000, 9999, 10000, 12959999, 12960000, 12960001, 35999999, 36000000, 39999999,
+                                     40000000, 63999999, 64000000, 99999999, 100000000, 999999999999, 1000000000000,
+                                     9999999999999999, 10000000000000000, 4294967295, 4294967296, 4294967297, UINT64_MAX,
+                                     UINT64_C(1) << 63, (UINT64_C(1) << 63) - 1};
+    uint64_t v = PICK(sizes);
+    if (one_in(4))
+        v += (uint64_t)below(3) - 1;
+    if (one_in(16))
+        v += UINT64_C(1) << (32 + below(32));
+    return v;
+}
+
+static void damage_record(ref_word *r)
+{
+    static const uint16_t indexes[] = {0, 1, 10, 99, 100, 101, 111, 121, 255, 256, 267, 65535};
+    static const uint8_t signs[] = {0, 1, 1, 1, 2, 3, '+', '-', 128, 255};
+    char kind;
+    switch (below(13)) {
+    case 0:
+        r->index = one_in(2) ? (uint16_t)below(100) : PICK(indexes);
+        break;
+    case 1:
+        r->index = (uint16_t)(r->index + 100 * (1 + below(600)));
+        break;
+    case 10:
+        r->index = (uint16_t)(r->index + 256 * (1 + below(255)));
+        break;
+    case 2:
+        r->index = (uint16_t)some_index(&kind);
+        break;
+    case 3:
+        change_to(r->info, 4, "0123456789./:");
+        break;
+    case 4:
+        change(r->info, 4);
+        break;
+    case 5:
+        r->minus = PICK(signs);
+        break;
+    case 6:
+        r->mm_minus = PICK(signs);
+        break;
+    case 7:
+        r->size = extreme();
+        break;
+    case 8:
+        r->mm = extreme();
+        break;
+    case 9:
+        r->minus = 1;
+        r->size = 0;
+        break;
+    default: {
+        unsigned at = below(16);
+        r->text[at] = one_in(3) ? 0 : telling_byte(r->text[at]);
+        break;
+    }
+    }
+}
+
+static void write_one_wrong(void)
+{
+    unsigned words = make_records(some_words());
+    damage_record(&records[below(words)]);
+    if (one_in(6))
+        damage_record(&records[below(words)]);
+    write_about(words, (int)block_wide);
+}
+
+/* Sizes at the limits for either width, each kind and unit. */
+static void write_extremes(void)
+{
+    unsigned words = make_records(1 + below(3));
+    for (unsigned i = 0; i < words; i++) {
+        ref_word *r = &records[i];
+        if (r->text[0] == 0) {
+            r->size = extreme();
+            r->minus = (uint8_t)below(2);
+            if (r->index == 51) {
+                r->mm = extreme();
+                r->mm_minus = (uint8_t)below(2);
+                if (one_in(2))
+                    r->size = some_size(10000);
+                else if (one_in(2))
+                    r->mm = some_size(1000);
+            }
+        } else if (one_in(2)) {
+            change(r->text, 16);
+        }
+    }
+    write_about(words, one_in(2));
+}
+
+static void write_other_width(void)
+{
+    unsigned words = make_records(1 + below(3));
+    write_about(words, !block_wide);
+}
+
+static void write_counts(void)
+{
+    unsigned most = make_records(34);
+    int wide = one_in(4) ? !block_wide : (int)block_wide;
+    if (one_in(2))
+        damage_record(&records[below(most)]);
+    for (unsigned words = 0; words <= most; words++) {
+        int crlf = one_in(2);
+        check_write(words, wide, crlf, one_in(8) ? below(900) : 900);
+    }
+}
+
+static void write_rooms(void)
+{
+    unsigned words = make_records(one_in(40) ? 32 : 1 + below(4));
+    int crlf = one_in(2);
+    size_t need = block_length(words, (int)block_wide, crlf);
+    for (size_t room = 0; room <= need + 4; room++)
+        check_write(words, (int)block_wide, crlf, room);
+}
+
+static void write_random(void)
+{
+    unsigned words = 1 + below(3);
+    for (unsigned i = 0; i < words; i++) {
+        ref_word *r = &records[i];
+        char kind;
+        memcpy(r, pool + below(sizeof pool - sizeof *r), sizeof *r);
+        if (one_in(2))
+            r->index = (uint16_t)some_index(&kind);
+        if (one_in(2))
+            for (int k = 0; k < 4; k++)
+                r->info[k] = (uint8_t)one_of("...0126");
+        if (one_in(2))
+            memset(r->text, 0, 16);
+        if (one_in(2))
+            r->minus = r->mm_minus = 0;
+        if (one_in(2))
+            r->mm = 0;
+        if (one_in(2))
+            r->size = extreme();
+    }
+    write_about(words, one_in(2));
+}
+
+/* States */
+
+static const struct { uint8_t number, highest; } settings[SETTINGS] = {
+    {30, 1}, {32, 3}, {34, 1}, {40, 2}, {41, 1}, {44, 2}, {49, 1}, {50, 2}, {70, 5}, {71, 2},
+    {73, 1}, {76, 1}, {80, 1}, {81, 2}, {95, 1}, {102, 1}, {103, 1}, {135, 1}, {136, 1}};
+static const uint8_t stored[VALUES] = {11, 16, 21, 24, 34, 83, 84, 85, 86, 87, 88};
+
+static char stored_kind(unsigned place)
+{
+    return place < 2 ? 't' : place < 4 ? 'a' : 'l';
+}
+
+/* The word of a PUT: right, or with data at the edges. */
+static void put_word(uint8_t *w, unsigned place, int edge)
+{
+    char kind = stored_kind(place);
+    word_of(w, 8, kind, stored[place], edge);
+    memcpy(w + 2, "....", 4);
+    if (kind == 'l') {
+        w[5] = (uint8_t)one_of("01");
+    } else if (kind == 'a') {
+        int zero;
+        w[5] = (uint8_t)one_of("234");
+        zero = angle_data(w + 7, 8, w[5], edge);
+        w[6] = (!zero || edge) && one_in(2) ? '-' : '+';
+    }
+}
+
+/* The 11 bytes of a value that was put. */
+static void value_of(uint8_t *v, unsigned place, int edge)
+{
+    uint8_t w[16];
+    put_word(w, place, edge);
+    v[0] = 1;
+    v[1] = w[5];
+    v[2] = w[6] == '-';
+    memcpy(v + 3, w + 7, 8);
+}
+
+/* One change to a value's bytes, which leaves most of them wrong. */
+static void spoil_value(uint8_t *v, unsigned place)
+{
+    switch (below(8)) {
+    case 0: /* never put, but with bytes left */
+        v[0] = 0;
+        break;
+    case 1:
+        v[0] = (uint8_t)(2 + below(254));
+        break;
+    case 2: /* another unit */
+        v[1] = (uint8_t)one_of("./0123456789:");
+        break;
+    case 3:
+        v[2] = one_in(2) ? (uint8_t)(v[2] ^ 1) : (uint8_t)below(256);
+        break;
+    case 4: /* minus zero */
+        memset(v + 3, '0', 8);
+        v[2] = 1;
+        break;
+    case 5:
+        value_of(v, place, 1);
+        break;
+    default:
+        change(v, 11);
+        break;
+    }
+}
+
+/* Any state, with as many entries as wished, made backwards: newest first, none names a value then never put. */
+static void make_state(uint8_t *s)
+{
+    uint8_t put[VALUES];
+    unsigned entries, scarce = below(4);
+
+    memset(s, 0, IMAGE);
+    s[0] = 1;
+    for (unsigned i = 0; i < SETTINGS; i++)
+        s[1 + i] = (uint8_t)below(settings[i].highest + 1u);
+    for (unsigned i = 0; i < VALUES; i++) {
+        put[i] = scarce == 0 ? one_in(4) : scarce == 1 || !one_in(4);
+        if (put[i])
+            value_of(s + AT_VALUES + 11 * i, i, 0);
+    }
+    switch (below(6)) {
+    case 0:
+        entries = 0;
+        break;
+    case 1:
+        entries = 64;
+        break;
+    case 2:
+        entries = 62 + below(3);
+        break;
+    case 3:
+        entries = below(65);
+        break;
+    default:
+        entries = below(6);
+        break;
+    }
+    s[AT_COUNT + 1] = (uint8_t)entries;
+    while (entries > 0) {
+        uint8_t *e = s + AT_ENTRIES + 14 * --entries;
+        unsigned place = below(VALUES);
+        if (one_in(2) && put[place]) {
+            e[0] = 2;
+            e[1] = (uint8_t)place;
+            put[place] = !one_in(4);
+            if (put[place])
+                value_of(e + 3, place, 0);
+        } else {
+            place = below(SETTINGS);
+            e[0] = 1;
+            e[1] = (uint8_t)place;
+            e[2] = (uint8_t)below(settings[place].highest + 1u);
+        }
+    }
+}
+
+/* A state's bytes, with room for the guard's. */
+static uint8_t state[IMAGE + GUARD + 8];
+
+/* Lends the spare image a state: the run's own (deep), or any. Answers its bytes in state. */
+static void take_state(void)
+{
+    if (one_in(2))
+        memcpy(state, run.theirs + run.start, IMAGE);
+    else
+        make_state(state);
+}
+
+static struct lent *lend_state(size_t n)
+{
+    lend(&spare, state, n, IN); /* what was cut off stays just beyond */
+    return &spare;
+}
+
+/* The image to play on: the run's, or a spare one with any state. */
+static struct lent *some_image(void)
+{
+    if (one_in(2))
+        return &run;
+    make_state(state);
+    return lend_state(IMAGE);
+}
+
+/* Lines */
+
+static void say(const char *s)
+{
+    size_t n = strlen(s);
+    memcpy(src + len, s, n);
+    len += n;
+}
+
+static void say_byte(uint8_t b)
+{
+    src[len++] = b;
+}
+
+static void say_number(unsigned v)
+{
+    unsigned n = 1;
+    while (power_of_ten(n) <= v)
+        n++;
+    digits(src + len, n, v);
+    len += n;
+}
+
+/* A number in a form that is at times no number. */
+static void say_odd_number(unsigned v)
+{
+    switch (below(16)) {
+    case 0:
+        say("0");
+        say_number(v);
+        break;
+    case 1:
+        say("000");
+        say_number(v);
+        break;
+    case 2:
+        break;
+    case 3:
+        say_number(v);
+        say_byte(telling_byte('0'));
+        break;
+    case 4:
+        say_byte(telling_byte('0'));
+        say_number(v);
+        break;
+    case 5:
+        say_number(9990 + below(20));
+        break;
+    case 6:
+        say_number(10000 + below(90000));
+        break;
+    case 7:
+        say("0");
+        break;
+    case 8:
+        say("00");
+        break;
+    default:
+        say_number(v);
+        break;
+    }
+}
+
+static void say_set(unsigned place, unsigned parameter)
+{
+    say("SET/");
+    say_number(settings[place].number);
+    say("/");
+    say_number(parameter);
+}
+
+static void say_right_set(void)
+{
+    unsigned place = one_in(5) ? 10 : below(SETTINGS);
+    say_set(place, below(settings[place].highest + 1u));
+}
+
+static void say_put(unsigned place, int edge)
+{
+    say("PUT/");
+    put_word(src + len, place, edge);
+    len += 16;
+}
+
+static void say_conf(void)
+{
+    say("CONF/");
+    say_number(PICK(settings).number);
+}
+
+/* A GET of so many indexes, most of them put, with repeats; one in `odds` of the lines has others among them. */
+static void say_get(const uint8_t *s, unsigned count, unsigned odds)
+{
+    int odd = odds && one_in(odds);
+    say("GET/I");
+    for (unsigned i = 0; i < count; i++) {
+        unsigned place = below(VALUES);
+        for (int tries = 0; tries < 12 && !s[AT_VALUES + 11 * place]; tries++)
+            place = (place + 1) % VALUES;
+        if (odd && one_in(8))
+            place = below(VALUES);
+        say("/WI");
+        digits(src + len, 2, odd && one_in(10) ? below(100) : stored[place]);
+        len += 2;
+    }
+}
+
+static unsigned some_count(void)
+{
+    return one_in(4) ? 18 + below(3) : one_in(2) ? 1 + below(19) : 1 + below(3);
+}
+
+/* A line that is likely right, without its end. */
+static void say_some(const uint8_t *s)
+{
+    switch (below(9)) {
+    case 0:
+    case 1:
+        say_right_set();
+        break;
+    case 2:
+    case 3:
+        say_put(below(VALUES), 0);
+        break;
+    case 4:
+        say_conf();
+        break;
+    case 5:
+        say_get(s, some_count(), 4);
+        break;
+    case 6:
+    case 7:
+        say("UNDO");
+        break;
+    default:
+        say("KEEP");
+        break;
+    }
+}
+
+static void say_end(void)
+{
+    say(one_in(2) ? "\r" : "\r\n");
+}
+
+static void say_odd_end(void)
+{
+    static const char *const ends[] = {"", "\n", "\r\r", "\n\r", "\r\n\n", "\r\r\n", "\r\n\r", "\r\n\r\n", "\r ", "\r\nKEEP\r\n", "\rUNDO\r"};
+    say(PICK(ends));
+}
+
+/* A room for the reply: ample, or about its length on this state. */
+static size_t some_room(const struct lent *image)
+{
+    static uint8_t trial[IMAGE + 1], room[400];
+    size_t told;
+    if (!one_in(3))
+        return one_in(2) ? 306 : 300 + below(11);
+    if (one_in(3))
+        return below(311);
+    if (one_in(4))
+        return below(13);
+    memcpy(trial, image->theirs + image->start, image->len < IMAGE ? image->len : IMAGE);
+    told = (size_t)(ref_line(trial, image->len < IMAGE ? image->len : IMAGE, src, len, room, sizeof room) & 0xFFFFFFFF);
+    told += below(3);
+    return told ? told - 1 : 0;
+}
+
+/* Cases of the run: two images in step */
+
+static const uint8_t *standing(void)
+{
+    return run.theirs + run.start;
+}
+
+static unsigned standing_entries(void)
+{
+    return standing()[AT_COUNT + 1];
+}
+
+static void play(size_t room)
+{
+    say_end();
+    check_line(&run, len, room);
+    len = 0;
+}
+
+/* A new start for the run: at the factory, or in any state. */
+static void start_run(void)
+{
+    if (one_in(2)) {
+        lend(&run, 0, IMAGE, 0);
+        check_factory(&run);
+    } else {
+        make_state(state);
+        lend(&run, state, IMAGE, 0);
+    }
+}
+
+/* Lines between, which show the state and may be wrong. */
+static void look(void)
+{
+    unsigned parameter = below(7);
+    len = 0;
+    switch (below(5)) {
+    case 0:
+        say_conf();
+        break;
+    case 1:
+        say_get(standing(), some_count(), 1);
+        break;
+    case 2:
+        say_some(standing());
+        damage(0, len);
+        break;
+    case 3:
+        say_set(below(SETTINGS), parameter);
+        break;
+    default:
+        say_put(below(VALUES), 1);
+        break;
+    }
+    play(one_in(4) ? below(30) : 306);
+}
+
+static void run_phase(void)
+{
+    unsigned steps;
+    len = 0;
+    switch (below(8)) {
+    case 0:
+        if (one_in(3))
+            start_run();
+        /* fall through */
+    case 1:
+    case 2: /* up to the limit and a little beyond */
+        steps = 64 - standing_entries() + below(4);
+        for (unsigned i = 0; i < steps; i++) {
+            if (one_in(2))
+                say_right_set();
+            else
+                say_put(below(VALUES), 0);
+            play(one_in(30) ? below(3) : 306);
+            if (one_in(16))
+                look();
+        }
+        break;
+    case 3:
+    case 4: /* all the way back and a little beyond */
+        steps = standing_entries() + below(4);
+        for (unsigned i = 0; i < steps; i++) {
+            say("UNDO");
+            play(one_in(30) ? below(7) : 306);
+            if (one_in(16))
+                look();
+        }
+        break;
+    case 5: /* to and fro at the limit */
+        for (unsigned i = 0; i < 24; i++) {
+            if (one_in(2))
+                say("UNDO");
+            else if (one_in(2))
+                say_set(10, below(2));
+            else
+                say_put(below(VALUES), 0);
+            play(306);
+        }
+        break;
+    case 6: /* setting 73 and the ends of replies */
+        for (unsigned i = 0; i < 16; i++) {
+            if (one_in(3))
+                say_set(10, below(2));
+            else
+                say_some(standing());
+            check_line(&run, len, one_in(3) ? below(12) : 306); /* without an end */
+            play(one_in(3) ? 1 + below(8) : 306);
+        }
+        break;
+    default:
+        steps = 10 + below(60);
+        for (unsigned i = 0; i < steps; i++) {
+            do {
+                len = 0;
+                say_some(standing());
+            } while (len == 4 && src[0] == 'K' && !one_in(6)); /* KEEP more seldom, so that the list grows */
+            play(one_in(6) ? below(20) : 306);
+        }
+        break;
+    }
+}
+
+/* Cases of single lines */
+
+static void line_right(void)
+{
+    struct lent *image = some_image();
+    len = 0;
+    say_some(image->theirs + image->start);
+    say_end();
+    check_line(image, len, some_room(image));
+}
+
+static void line_one_wrong(void)
+{
+    struct lent *image = some_image();
+    len = 0;
+    say_some(image->theirs + image->start);
+    if (one_in(8))
+        damage(0, len);
+    say_end();
+    damage(0, len);
+    check_line(image, len, some_room(image));
+}
+
+/* Each value of one byte of a line, on the same state each time. */
+static void line_each_value(void)
+{
+    size_t at, n;
+    take_state();
+    if (one_in(3)) { /* so that SET and PUT are often accepted */
+        state[AT_COUNT + 1] = 0;
+        memset(state + AT_ENTRIES, 0, 64 * 14);
+    }
+    len = 0;
+    if (one_in(3))
+        say_put(below(VALUES), 0);
+    else
+        say_some(state);
+    say_end();
+    n = len;
+    at = below(n);
+    for (unsigned b = 0; b < 256; b++) {
+        src[at] = (uint8_t)b;
+        check_line(lend_state(IMAGE), n, 306);
+    }
+}
+
+static void line_numbers(void)
+{
+    struct lent *image = some_image();
+    unsigned place = below(SETTINGS), number = settings[place].number, parameter;
+    static const uint16_t odd[] = {0, 1, 9, 10, 99, 100, 255, 256, 257, 999, 1000, 9999};
+    len = 0;
+    if (one_in(2))
+        number = one_in(3) ? number - 1 + below(3) : one_in(3) ? below(10000) : one_in(3) ? number + 256 * below(39) :
+                 one_in(2) ? below(140) : PICK(odd);
+    parameter = one_in(2) ? settings[place].highest + below(3) : one_in(2) ? PICK(odd) : below(7);
+    if (one_in(4))
+        parameter += 256 * below(39);
+    say(one_in(3) ? "CONF/" : "SET/");
+    one_in(3) ? say_odd_number(number) : say_number(number);
+    if (src[0] == 'S' || one_in(10)) {
+        if (!one_in(20))
+            say("/");
+        one_in(3) ? say_odd_number(parameter) : say_number(parameter);
+    }
+    if (one_in(30))
+        say(one_in(2) ? "/" : " ");
+    say_end();
+    check_line(image, len, some_room(image));
+}
+
+/* PUT of each index and unit with data at the limits, and its information and blank damaged. */
+static void line_put(void)
+{
+    struct lent *image = some_image();
+    unsigned place = below(VALUES);
+    size_t w;
+    len = 0;
+    say_put(place, 1);
+    w = len - 16;
+    switch (below(9)) {
+    case 0:
+        change_to(src + w + 2, 4, "0123456789./:");
+        break;
+    case 1:
+        src[w + 5] = (uint8_t)one_of("0123456789.");
+        break;
+    case 2: {
+        char kind;
+        word_of(src + w, 8, 'l', one_in(2) ? below(100) : some_index(&kind), 0);
+        memcpy(src + w + 2, "...", 3);
+        break;
+    }
+    case 3:
+        src[w + 15] = telling_byte(' ');
+        break;
+    case 4: /* the block's word of the same index */
+        word_of(src + w, 8, stored_kind(place), stored[place], one_in(2));
+        break;
+    case 5:
+        change(src + w, 16);
+        break;
+    case 6:
+        if (one_in(2))
+            len -= 1 + below(3);
+        else
+            say(one_in(2) ? " " : "0 ");
+        break;
+    default:
+        break;
+    }
+    say_end();
+    check_line(image, len, some_room(image));
+}
+
+static void line_get(void)
+{
+    struct lent *image = some_image();
+    len = 0;
+    say_get(image->theirs + image->start, 1 + below(20), 2);
+    switch (below(8)) {
+    case 0:
+        damage(0, len);
+        break;
+    case 1:
+        say(one_in(2) ? "/" : "/WI");
+        break;
+    case 2:
+        src[4] = (uint8_t)one_of("MI");
+        break;
+    default:
+        break;
+    }
+    say_end();
+    check_line(image, len, some_room(image));
+}
+
+/* Ends and lengths: 98 to 102 characters, CR or LF inside, two lines in one. */
+static void line_ends(void)
+{
+    struct lent *image = some_image();
+    len = 0;
+    if (one_in(3)) {
+        size_t n = one_in(2) ? 98 + below(5) : below(160);
+        if (one_in(2))
+            say_get(image->theirs + image->start, 19, 0);
+        while (len < n)
+            say_byte(one_in(4) ? telling_byte('0') : (uint8_t)one_of("GET/I/WI88SETPUT 0123456789"));
+        len = n;
+        if (!one_in(3))
+            for (size_t i = 0; i < len; i++)
+                if (src[i] == CR || src[i] == LF)
+                    src[i] = 'A';
+    } else if (one_in(8)) {
+        for (unsigned i = 0, n = below(12); i < n; i++)
+            say_byte(one_in(2) ? (uint8_t)one_of("\r\n") : (uint8_t)below(256));
+    } else if (!one_in(6)) {
+        say_some(image->theirs + image->start);
+    }
+    if (one_in(2))
+        say_odd_end();
+    else
+        say_end();
+    if (one_in(6) && len > 0)
+        change_to(src, len, "\r\n");
+    check_line(image, len, some_room(image));
+}
+
+static void line_rooms(void)
+{
+    take_state();
+    len = 0;
+    say_some(state);
+    say_end();
+    for (size_t room = 0; room <= 310; room++) {
+        check_line(lend_state(IMAGE), len, room);
+        if (room > 20 && len < 30 && !one_in(40))
+            return; /* short replies need no long sweep */
+    }
+}
+
+/* Other words than the right ones. */
+static void line_shapes(void)
+{
+    static const char *const bodies[] = {"", "SET", "SET/", "SET//", "SET/30", "SET/30/", "SET/30//1", "SET/30/1/", "/SET/30/1",
+        "SET/30/1/1", "set/30/1", "SET 30 1", "SET/-1/0", "SET/+30/1", "SET/30/-0", "SET/30/ 1", "CONF", "CONF/", "CONF//",
+        "CONF/70/", "CONF/70/5", "conf/70", "CONF 70", "CONFIG/70", "CON/70", "PUT", "PUT/", "PUT/88...0+00001550", "PUT/ ",
+        "PUT/88...0+00001550  ", "PUT/88...0+0000155", "put/88...0+00001550 ", "GET", "GET/", "GET/I", "GET/I/", "GET/I/W",
+        "GET/I/WI", "GET/I/WI8", "GET/I/WI888", "GET/I/WI88/", "GET/I/WI88/W", "GET/I/WI88/WI", "GET/I/WI88/WI8", "GET/I//WI88",
+        "GET/M/WI88", "GET/M/WI21", "GET/IWI88", "GET/I/wi88", "GET/I/WI88WI88", "GET/I/WI88,WI11", "UND", "UNDO/", "UNDO ",
+        " UNDO", "undo", "UNDOO", "KEE", "KEEP/", "KEEP ", " KEEP", "keep", "KEEPKEEP", "UNDOKEEP", "?", "@W127", "a", "b", "c",
+        "SETOUT", "*", "GETI/WI88", "GET/J/WI88", "SET\\30\\1", "PUT/*88...0+0001550 ", "PUT/88...0+00001550 ", "GET/I/WI11"};
+    struct lent *image = some_image();
+    len = 0;
+    say(PICK(bodies));
+    if (one_in(8))
+        say(PICK(bodies));
+    say_end();
+    check_line(image, len, some_room(image));
+}
+
+static void line_random(void)
+{
+    struct lent *image = some_image();
+    len = 0;
+    for (unsigned i = 0, n = below(130); i < n; i++)
+        say_byte(one_in(8) ? (uint8_t)below(256) : (uint8_t)one_of("SETCONFPUTGETIWIUNDOKEEP/0123456789.+- "));
+    if (!one_in(8))
+        say_end();
+    check_line(image, len, some_room(image));
+}
+
+/* Cases of images */
+
+/* One call of any function on an image, which may be wrong. */
+static void use(struct lent *image)
+{
+    switch (below(8)) {
+    case 0:
+        check_sheet_write(image, one_in(4) ? below(360) : 360);
+        break;
+    case 1:
+        len = (size_t)(ref_sheet_write(run.theirs + run.start, IMAGE, src, MOST) & 0xFFFFFFFF);
+        if (one_in(4))
+            src[below(len)]++;
+        check_sheet_load(image, len);
+        break;
+    case 2:
+        if (one_in(4)) {
+            check_factory(image);
+            break;
+        }
+        /* fall through */
+    default:
+        len = 0;
+        say_some(state);
+        if (!one_in(8))
+            say_end();
+        check_line(image, len, one_in(4) ? below(12) : 306);
+        break;
+    }
+}
+
+static void factory(void)
+{
+    static const size_t lengths_tried[] = {0, 1, IMAGE - 1, IMAGE + 1, IMAGE - 2, 1024, 1040, 2048};
+    lend(&spare, 0, one_in(2) ? IMAGE : one_in(2) ? PICK(lengths_tried) : below(MOST), 0);
+    check_factory(&spare);
+}
+
+static void image_right(void)
+{
+    make_state(state);
+    use(lend_state(IMAGE));
+}
+
+static void image_random(void)
+{
+    if (one_in(2)) {
+        memcpy(state, pool + below(sizeof pool - IMAGE), IMAGE);
+        state[0] = 1;
+    } else {
+        size_t at = below(IMAGE - 40), from = below(1000);
+        take_state();
+        memcpy(state + at, pool + from, below(40));
+    }
+    use(lend_state(IMAGE));
+}
+
+static void image_one_wrong(void)
+{
+    static const uint16_t parts[][2] = {{0, 20}, {20, 121}, {141, 2}, {143, 28}, {143, 896}};
+    size_t at, part = below(5);
+    take_state();
+    at = parts[part][0] + below(parts[part][1]);
+    if (one_in(3) && state[AT_COUNT + 1]) /* in the newest entry, or just past it */
+        at = AT_ENTRIES + 14u * (state[AT_COUNT + 1] - 1u) + below(28);
+    if (at >= IMAGE)
+        at = IMAGE - 1;
+    state[at] = telling_byte(state[at]);
+    use(lend_state(IMAGE));
+}
+
+/* Each byte of an image in its turn. */
+static void image_each_byte(void)
+{
+    take_state();
+    for (size_t at = 0; at < IMAGE; at += 1 + below(3)) {
+        uint8_t old = state[at];
+        state[at] = telling_byte(old);
+        use(lend_state(IMAGE));
+        state[at] = old;
+    }
+}
+
+static void image_length(void)
+{
+    static const size_t lengths_tried[] = {0, IMAGE - 1, IMAGE + 1, 1, 142, 143, 1024};
+    take_state();
+    if (one_in(3)) { /* a state whose last bytes say nothing: only the length is wrong */
+        state[AT_COUNT] = state[AT_COUNT + 1] = 0;
+        memset(state + AT_ENTRIES, 0, 64 * 14);
+    }
+    state[IMAGE] = one_in(2) ? 0 : (uint8_t)below(256);
+    use(lend_state(one_in(8) ? below(IMAGE + 8) : PICK(lengths_tried)));
+}
+
+/* The number of entries against the entries there are. */
+static void image_count(void)
+{
+    unsigned count;
+    take_state();
+    count = state[AT_COUNT + 1];
+    switch (below(6)) {
+    case 0:
+        state[AT_COUNT + 1] = (uint8_t)(count + 1);
+        break;
+    case 1:
+        state[AT_COUNT + 1] = (uint8_t)(count - 1);
+        break;
+    case 2:
+        state[AT_COUNT] = (uint8_t)below(3);
+        state[AT_COUNT + 1] = one_in(2) ? (uint8_t)count : (uint8_t)below(256);
+        break;
+    case 3:
+        state[AT_COUNT + 1] = 64 + below(3);
+        break;
+    case 4: /* an entry left standing past the number */
+        if (count < 64) {
+            uint8_t *e = state + AT_ENTRIES + 14 * (count + below(64 - count));
+            e[0] = 1;
+            e[1] = (uint8_t)below(SETTINGS);
+        }
+        break;
+    default:
+        if (count < 64)
+            change(state + AT_ENTRIES + 14 * count, 14 * (64 - count));
+        break;
+    }
+    use(lend_state(IMAGE));
+}
+
+/* Undo lists that name a value then never put, or hold what no entry holds. */
+static void image_undo(void)
+{
+    unsigned count, at;
+    uint8_t *e;
+    take_state();
+    count = state[AT_COUNT + 1];
+    if (count == 0) {
+        state[AT_COUNT + 1] = (uint8_t)(count = 1);
+        memset(state + AT_ENTRIES, 0, 14);
+        state[AT_ENTRIES] = (uint8_t)(1 + below(2));
+    }
+    at = below(count);
+    e = state + AT_ENTRIES + 14 * at;
+    switch (below(9)) {
+    case 0: /* the value itself never put */
+        if (e[0] == 2 && e[1] < VALUES)
+            memset(state + AT_VALUES + 11 * e[1], 0, 11);
+        break;
+    case 1: /* an entry that restores "never put" under older ones of the same value */
+        memset(e, 0, 14);
+        e[0] = 2;
+        e[1] = (uint8_t)below(VALUES);
+        break;
+    case 2:
+        e[0] = (uint8_t)below(4);
+        break;
+    case 3: /* the other kind with the same bytes */
+        e[0] = (uint8_t)(3 - e[0]);
+        break;
+    case 4:
+        e[1] = e[0] == 2 ? (uint8_t)(10 + below(3)) : (uint8_t)(17 + below(4));
+        break;
+    case 5:
+        e[2] = e[0] == 2 ? (uint8_t)below(3) : e[1] < SETTINGS ? (uint8_t)(settings[e[1]].highest + below(3)) : 0;
+        break;
+    case 6: { /* two entries exchanged */
+        uint8_t *other = state + AT_ENTRIES + 14 * below(count);
+        swap(e, other, e == other ? 0 : 14);
+        break;
+    }
+    case 7: /* the value of an entry under another index */
+        if (e[0] == 2)
+            e[1] = (uint8_t)below(VALUES);
+        break;
+    default:
+        change(e + 3, 11);
+        break;
+    }
+    use(lend_state(IMAGE));
+}
+
+/* Values, standing or in an entry, at the limits of what a PUT can leave. */
+static void image_values(void)
+{
+    unsigned place = below(VALUES), count;
+    uint8_t *v;
+    take_state();
+    v = state + AT_VALUES + 11 * place;
+    count = state[AT_COUNT + 1];
+    if (one_in(2) && count) {
+        uint8_t *e = state + AT_ENTRIES + 14 * below(count);
+        if (e[0] == 2 && e[1] < VALUES) {
+            place = e[1];
+            v = e + 3;
+        }
+    }
+    value_of(v, place, 0);
+    if (!one_in(6))
+        spoil_value(v, place);
+    use(lend_state(IMAGE));
+}
+
+static void image_settings(void)
+{
+    unsigned place = below(SETTINGS);
+    take_state();
+    state[1 + place] = (uint8_t)(settings[place].highest + below(3));
+    use(lend_state(IMAGE));
+}
+
+/* Cases of sheets */
+
+/* The sheet of some state, in src, and the starts of its lines. */
+static size_t starts[32];
+
+static void make_sheet(void)
+{
+    uint8_t s[IMAGE];
+    unsigned lines = 0;
+    if (one_in(4))
+        memcpy(s, standing(), IMAGE);
+    else
+        make_state(s);
+    len = (size_t)(ref_sheet_write(s, IMAGE, src, MOST) & 0xFFFFFFFF);
+    starts[lines++] = 0;
+    for (size_t i = 0; i < len && lines < 32; i++)
+        if (src[i] == LF)
+            starts[lines++] = i + 1;
+}
+
+/* The image a sheet is loaded into: seldom the run's, whose undo list a load empties. */
+static struct lent *some_target(void)
+{
+    if (one_in(300))
+        return &run;
+    take_state();
+    return lend_state(IMAGE);
+}
+
+static void sheet_rooms(void)
+{
+    take_state();
+    for (size_t room = 0; room <= 355; room++)
+        check_sheet_write(lend_state(IMAGE), room);
+}
+
+static void sheet_written(void)
+{
+    size_t need;
+    static uint8_t room[400];
+    take_state();
+    need = (size_t)(ref_sheet_write(state, IMAGE, room, 400) & 0xFFFFFFFF);
+    need += below(4);
+    check_sheet_write(lend_state(IMAGE), need - 1);
+    if (one_in(3))
+        check_sheet_write(&run, 187 + 15 * below(12));
+}
+
+static void sheet_whole(void)
+{
+    make_sheet();
+    check_sheet_load(some_target(), len);
+}
+
+static void sheet_cut(void)
+{
+    make_sheet();
+    for (size_t n = 0; n <= len; n++) {
+        struct lent *image = some_target();
+        check_sheet_load(image, n);
+    }
+}
+
+static void sheet_one_wrong(void)
+{
+    make_sheet();
+    damage(0, len);
+    if (one_in(8))
+        damage(0, len);
+    check_sheet_load(some_target(), len);
+}
+
+static void sheet_each_value(void)
+{
+    size_t at;
+    make_sheet();
+    at = starts[below(31)];
+    at += below(10);
+    if (at >= len)
+        at = len - 1;
+    for (unsigned b = 0; b < 256; b++) {
+        src[at] = (uint8_t)b;
+        check_sheet_load(some_target(), len);
+    }
+}
+
+/* Takes n bytes at a place of src out, and puts others in. */
+static void splice(size_t at, size_t gone, const void *bytes, size_t n)
+{
+    uint8_t kept[64];
+    memcpy(kept, bytes, n);
+    memmove(src + at + n, src + at + gone, len - at - gone);
+    memcpy(src + at, kept, n);
+    len = len - gone + n;
+}
+
+static void sheet_lines(void)
+{
+    unsigned i = below(31), j = below(31);
+    size_t a, b;
+    make_sheet();
+    a = starts[i];
+    b = starts[j];
+    switch (below(4)) {
+    case 0: /* left out */
+        splice(a, starts[i + 1] - a, "", 0);
+        break;
+    case 1: /* doubled */
+        splice(a, 0, src + a, starts[i + 1] - a);
+        break;
+    case 2: /* one put in elsewhere */
+        splice(a, 0, src + b, starts[j + 1] - b);
+        break;
+    default: /* exchanged */
+        if (i != j) {
+            uint8_t first[64];
+            size_t n = starts[i + 1] - a, m = starts[j + 1] - b;
+            if (a > b) {
+                size_t t = a;
+                a = b;
+                b = t;
+                t = n;
+                n = m;
+                m = t;
+            }
+            memcpy(first, src + a, n);
+            splice(a, 0, src + b, m);
+            splice(b + m, m, first, n);
+            splice(a + m, n, "", 0);
+        }
+        break;
+    }
+    check_sheet_load(some_target(), len);
+}
+
+static void sheet_odd(void)
+{
+    unsigned i;
+    size_t at;
+    make_sheet();
+    switch (below(10)) {
+    case 0: /* s30=01 and its like */
+        i = 1 + below(SETTINGS);
+        splice(starts[i + 1] - 2, 0, "0", 1);
+        break;
+    case 1: /* CR LF at one line, or at each */
+        if (one_in(2)) {
+            splice(starts[1 + below(31)] - 1, 0, "\r", 1);
+        } else {
+            for (i = 31; i > 0; i--)
+                splice(starts[i] - 1, 0, "\r", 1);
+        }
+        break;
+    case 2:
+        for (unsigned n = 1 + below(6); n > 0; n--)
+            src[len++] = (uint8_t)(one_in(2) ? LF : (int)below(256));
+        break;
+    case 3: /* a parameter about its highest */
+        i = 1 + below(SETTINGS);
+        src[starts[i + 1] - 2] = (uint8_t)('0' + settings[i - 1].highest + below(3));
+        break;
+    case 4: /* no parameter */
+        i = 1 + below(SETTINGS);
+        splice(starts[i + 1] - 2, 1, "", 0);
+        break;
+    case 5: /* the last LF gone */
+        len--;
+        break;
+    case 6:
+        i = below(32);
+        splice(starts[i], 0, one_in(2) ? "\n" : " ", 1);
+        break;
+    default: { /* a value's 15 characters with data at the edges, and other information */
+        uint8_t w[16];
+        unsigned place = below(VALUES);
+        put_word(w, place, 1);
+        if (place >= 2)
+            w[4] = '1';
+        if (one_in(5))
+            change_to(w + 2, 4, "0123456789.");
+        if (one_in(8))
+            digits(w, 2, PICK(stored));
+        i = 20 + place;
+        at = starts[i] + 4;
+        splice(at, starts[i + 1] - 1 - at, w, one_in(8) ? 14 + below(3) : 15);
+        break;
+    }
+    }
+    check_sheet_load(some_target(), len);
+}
+
+static void sheet_random(void)
+{
+    len = below(400);
+    for (size_t i = 0; i < len; i++)
+        src[i] = (uint8_t)(one_in(3) ? below(256) : (unsigned)one_of("sv0123456789=\n.+"));
+    check_sheet_load(some_target(), len);
+}
+
+/* The whole */
+
+static struct { const char *name; void (*make)(void); unsigned weight; uint64_t count; } kinds[] = {
+    {"block right", read_right, 4, 0},
+    {"block with one byte wrong", read_one_wrong, 6, 0},
+    {"block with each value of a byte", read_each_value, 6, 0},
+    {"block information", read_info, 4, 0},
+    {"block cut", read_cut, 4, 0},
+    {"block words exchanged", read_exchanged, 2, 0},
+    {"block of 33 words", read_33, 2, 0},
+    {"list places", read_places, 2, 0},
+    {"block edges", read_edges, 6, 0},
+    {"block random", read_random, 2, 0},
+    {"records right", write_right, 3, 0},
+    {"record with one field wrong", write_one_wrong, 5, 0},
+    {"record extremes", write_extremes, 4, 0},
+    {"records of the other width", write_other_width, 1, 0},
+    {"records 0 to 34", write_counts, 2, 0},
+    {"writer rooms", write_rooms, 2, 0},
+    {"records random", write_random, 1, 0},
+    {"factory", factory, 1, 0},
+    {"image right", image_right, 2, 0},
+    {"image random", image_random, 1, 0},
+    {"image with one byte wrong", image_one_wrong, 4, 0},
+    {"image byte by byte", image_each_byte, 3, 0},
+    {"image length", image_length, 1, 0},
+    {"image count", image_count, 2, 0},
+    {"image undo list", image_undo, 4, 0},
+    {"image values", image_values, 4, 0},
+    {"image settings", image_settings, 1, 0},
+    {"run", run_phase, 16, 0},
+    {"line right", line_right, 4, 0},
+    {"line with one byte wrong", line_one_wrong, 4, 0},
+    {"line with each value of a byte", line_each_value, 5, 0},
+    {"line numbers", line_numbers, 4, 0},
+    {"line PUT", line_put, 5, 0},
+    {"line GET", line_get, 3, 0},
+    {"line ends and lengths", line_ends, 4, 0},
+    {"line rooms", line_rooms, 3, 0},
+    {"line shapes", line_shapes, 2, 0},
+    {"line random", line_random, 1, 0},
+    {"sheet rooms", sheet_rooms, 1, 0},
+    {"sheet written", sheet_written, 2, 0},
+    {"sheet whole", sheet_whole, 2, 0},
+    {"sheet cut", sheet_cut, 3, 0},
+    {"sheet with one byte wrong", sheet_one_wrong, 3, 0},
+    {"sheet with each value of a byte", sheet_each_value, 3, 0},
+    {"sheet lines", sheet_lines, 2, 0},
+    {"sheet odd", sheet_odd, 4, 0},
+    {"sheet random", sheet_random, 1, 0},
+};
+
+/* The numbers each function can answer, as bits. */
+#define BITS(from, to) ((((uint64_t)2 << (to)) - 1) & ~(((uint64_t)1 << (from)) - 1))
+static const uint64_t possible[FUNCTIONS] = {
+    BITS(0, 11), 1 | BITS(12, 14), 1 | BITS(31, 31), 1 | BITS(20, 31), 1 | BITS(30, 31), 1 | BITS(31, 31) | BITS(40, 40)};
+
+static void finish(void)
+{
+    int missing = 0;
+    printf("%llu cases, 0 differences\n", (unsigned long long)cases);
+    printf("by kind:");
+    for (size_t i = 0; i < COUNT_OF(kinds); i++)
+        printf("%s %s %llu", i ? "," : "", kinds[i].name, (unsigned long long)kinds[i].count);
+    printf("\nby number:");
+    for (unsigned number = 0; number <= 40; number++) {
+        uint64_t sum = 0;
+        for (unsigned f = 0; f < FUNCTIONS; f++)
+            sum += seen[f][number];
+        if (sum)
+            printf("%s %u %llu", number ? "," : "", number, (unsigned long long)sum);
+    }
+    printf("\n");
+    for (unsigned f = 0; f < FUNCTIONS; f++)
+        for (unsigned number = 0; number <= 40; number++)
+            if (possible[f] >> number & 1 && seen[f][number] == 0) {
+                printf("%s never answered %u\n", names[f], number);
+                missing = 1;
+            }
+    exit(missing);
+}
+
+static uint64_t number_from(const char *s)
+{
+    uint64_t v = 0;
+    while (*s >= '0' && *s <= '9')
+        v = v * 10 + (uint64_t)(*s++ - '0');
+    if (*s) {
+        printf("usage: driver CASES SEED\n");
+        exit(2);
+    }
+    return v;
+}
+
+int main(int argc, char **argv)
+{
+    if (argc != 3) {
+        printf("usage: driver CASES SEED\n");
+        return 2;
+    }
+    wanted = number_from(argv[1]);
+    seed = chance_state = number_from(argv[2]);
+    if (wanted == 0) {
+        printf("usage: driver CASES SEED\n");
+        return 2;
+    }
+    for (size_t i = 0; i < sizeof pool; i += 8) {
+        uint64_t r = next64();
+        memcpy(pool + i, &r, 8);
+    }
+    if (gsi_image_size() != ref_image_size()) {
+        printf("difference: image_size, library %llu, second %llu\n", (unsigned long long)gsi_image_size(),
+               (unsigned long long)ref_image_size());
+        return 1;
+    }
+    kind_name = "run";
+    for (size_t i = 0; i < COUNT_OF(kinds); i++)
+        if (kinds[i].make == run_phase)
+            kind_count = &kinds[i].count;
+    lend(&run, 0, IMAGE, 0);
+    check_factory(&run);
+    for (;;) {
+        /* The kind furthest behind its share comes next, so that long sweeps don't crowd the others out. */
+        size_t least = 0;
+        for (size_t i = 1; i < COUNT_OF(kinds); i++)
+            if (kinds[i].count * kinds[least].weight < kinds[least].count * kinds[i].weight)
+                least = i;
+        kind_name = kinds[least].name;
+        kind_count = &kinds[least].count;
+        kinds[least].make();
+    }
+}

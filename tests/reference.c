@@ -1,0 +1,862 @@
+/* reference.c: a second implementation of document 01 in plain C: the block, the line machine and the sheet.
+   What stands in quotes is the document's own sentence; the image's bytes are those of IMAGE.md. */
+#include "reference.h"
+
+enum { CR = 13, LF = 10, MOST_WORDS = 32 };
+
+_Static_assert(sizeof(ref_word) == 40, "a record has 40 bytes and no padding");
+
+/* Each function answers number * 2^32 + told. */
+static uint64_t answer(unsigned number, uint64_t told)
+{
+    return (uint64_t)number << 32 | told;
+}
+
+static void copy(uint8_t *restrict to, const uint8_t *restrict from, size_t n)
+{
+    for (size_t i = 0; i < n; i++)
+        to[i] = from[i];
+}
+
+static void clear(uint8_t *to, size_t n)
+{
+    for (size_t i = 0; i < n; i++)
+        to[i] = 0;
+}
+
+static int all_zero(const uint8_t *p, size_t n)
+{
+    uint8_t any = 0;
+    for (size_t i = 0; i < n; i++)
+        any |= p[i];
+    return any == 0;
+}
+
+/* Whether the n bytes at p are those of the string. */
+static int same(const uint8_t *p, const char *string, size_t n)
+{
+    for (size_t i = 0; i < n; i++)
+        if (p[i] != (uint8_t)string[i])
+            return 0;
+    return 1;
+}
+
+/* Writes the n bytes of the string and answers the place after them. */
+static uint8_t *lay(uint8_t *restrict to, const char *restrict string, size_t n)
+{
+    for (size_t i = 0; i < n; i++)
+        to[i] = (uint8_t)string[i];
+    return to + n;
+}
+
+static int is_digit(uint8_t b)
+{
+    return b >= '0' && b <= '9';
+}
+
+/* "Digits are all 0-9." Answers 0 when one isn't, else 1 and their number (up to 16 digits). */
+static int read_digits(const uint8_t *p, size_t n, uint64_t *value)
+{
+    uint64_t v = 0;
+    for (size_t i = 0; i < n; i++) {
+        if (!is_digit(p[i]))
+            return 0;
+        v = v * 10 + (uint64_t)(p[i] - '0');
+    }
+    *value = v;
+    return 1;
+}
+
+static void write_digits(uint8_t *p, size_t n, uint64_t value)
+{
+    while (n > 0) {
+        p[--n] = (uint8_t)('0' + value % 10);
+        value /= 10;
+    }
+}
+
+/* The table of indexes */
+
+enum { NONE, NUMBERED, TEXT, ANGLE, LENGTH, CONSTANT, PAIR };
+
+/* "Each index missing from the table is refused": those are NONE here. */
+static const uint8_t kind_of[100] = {
+    [11] = NUMBERED, [41] = NUMBERED,
+    [12] = TEXT, [13] = TEXT, [16] = TEXT, [18] = TEXT, [19] = TEXT,
+    [42] = TEXT, [43] = TEXT, [44] = TEXT, [45] = TEXT, [46] = TEXT, [47] = TEXT, [48] = TEXT, [49] = TEXT,
+    [52] = TEXT, [53] = TEXT,
+    [71] = TEXT, [72] = TEXT, [73] = TEXT, [74] = TEXT, [75] = TEXT, [76] = TEXT, [77] = TEXT, [78] = TEXT, [79] = TEXT,
+    [21] = ANGLE, [22] = ANGLE, [24] = ANGLE,
+    [31] = LENGTH, [32] = LENGTH, [33] = LENGTH, [34] = LENGTH,
+    [81] = LENGTH, [82] = LENGTH, [83] = LENGTH, [84] = LENGTH, [85] = LENGTH, [86] = LENGTH, [87] = LENGTH, [88] = LENGTH,
+    [58] = CONSTANT, [59] = CONSTANT,
+    [51] = PAIR,
+};
+
+static int is_text(unsigned kind)
+{
+    return kind == NUMBERED || kind == TEXT;
+}
+
+/* Positions 3-6, as the table's third column has them. */
+static int info_right(unsigned kind, const uint8_t *info)
+{
+    uint8_t a = info[0], b = info[1], c = info[2], d = info[3];
+    /* "Mode is a dot or 0-4." */
+    int mode = c == '.' || (c >= '0' && c <= '4');
+
+    switch (kind) {
+    case NUMBERED: /* "four digits (block number) or four dots" */
+        if (a == '.')
+            return b == '.' && c == '.' && d == '.';
+        return is_digit(a) && is_digit(b) && is_digit(c) && is_digit(d);
+    case TEXT: /* "dot, then three of dot or digit" */
+        return a == '.' && (b == '.' || is_digit(b)) && (c == '.' || is_digit(c)) && (d == '.' || is_digit(d));
+    case ANGLE: /* "dot; dot, 0, 1 or 3; mode; unit 2-5" */
+        return a == '.' && (b == '.' || b == '0' || b == '1' || b == '3') && mode && d >= '2' && d <= '5';
+    case LENGTH: /* "dot; dot; mode; unit 0, 1, 6, 7 or 8" */
+        return a == '.' && b == '.' && mode && (d == '0' || d == '1' || (d >= '6' && d <= '8'));
+    case CONSTANT: /* "dot; dot; mode; 6" */
+        return a == '.' && b == '.' && mode && d == '6';
+    case PAIR: /* "dot; dot; mode; dot" */
+        return a == '.' && b == '.' && mode && d == '.';
+    default:
+        return 0;
+    }
+}
+
+/* Angles */
+
+/* "An angle's size is below 40,000,000 (gon), 36,000,000 (degrees) or 64,000,000 (mil); for unit 4 degrees are below
+   360", which is 12,960,000 tenths of a second. */
+static uint64_t angle_limit(uint8_t unit)
+{
+    switch (unit) {
+    case '2':
+        return 40000000;
+    case '3':
+        return 36000000;
+    case '4':
+        return 12960000;
+    default: /* '5' */
+        return 64000000;
+    }
+}
+
+/* The size that the digits, read as one number, give in the unit. Answers 0 when they're out of range. */
+static int angle_size(uint8_t unit, uint64_t digits, uint64_t *size)
+{
+    if (unit == '4') {
+        /* "Unit 4 reads, from the right, one digit of tenths of a second, two of seconds, two of minutes, the rest
+           degrees; its value is degrees x 36,000 + minutes x 600 + seconds x 10 + tenths." */
+        uint64_t tenths = digits % 10, seconds = digits / 10 % 100, minutes = digits / 1000 % 100;
+        uint64_t degrees = digits / 100000;
+        /* "for unit 4 degrees are below 360, minutes and seconds below 60" */
+        if (degrees >= 360 || minutes >= 60 || seconds >= 60)
+            return 0;
+        *size = degrees * 36000 + minutes * 600 + seconds * 10 + tenths;
+        return 1;
+    }
+    *size = digits;
+    return digits < angle_limit(unit);
+}
+
+/* The digits that give the size in the unit: the inverse of angle_size. */
+static uint64_t angle_digits(uint8_t unit, uint64_t size)
+{
+    if (unit != '4')
+        return size;
+    return size / 36000 * 100000 + size / 600 % 60 * 1000 + size / 10 % 60 * 10 + size % 10;
+}
+
+/* The block's reader */
+
+/* Judges one whole word with its blank: "then 5 to 10 in order". Answers that number, or 0 with the record filled. */
+static unsigned read_word(const uint8_t *word, size_t width, ref_word *record)
+{
+    const uint8_t *data = word + 7;
+    unsigned index, kind;
+    uint64_t size = 0, mm = 0;
+    int minus, mm_minus = 0;
+
+    /* 5: "index isn't two digits or isn't in the table" */
+    if (!is_digit(word[0]) || !is_digit(word[1]))
+        return 5;
+    index = (unsigned)(word[0] - '0') * 10 + (unsigned)(word[1] - '0');
+    kind = kind_of[index];
+    if (kind == NONE)
+        return 5;
+
+    /* 6: "information wrong" */
+    if (!info_right(kind, word + 2))
+        return 6;
+
+    /* 7: "sign wrong (position 7)"; text has "sign `+` only" */
+    minus = word[6] == '-';
+    if (word[6] != '+' && (!minus || is_text(kind)))
+        return 7;
+
+    /* 8: "data characters wrong, a pair's inner sign included" */
+    if (is_text(kind)) {
+        /* "Text is bytes 33 to 126" */
+        for (size_t i = 0; i < width; i++)
+            if (data[i] < 33 || data[i] > 126)
+                return 8;
+    } else if (kind == PAIR) {
+        /* "A pair is 4 digits (12 when wide), a sign, 3 digits: ppm, then mm" */
+        const uint8_t *inner = data + width - 4;
+        mm_minus = *inner == '-';
+        if (!read_digits(data, width - 4, &size) || (*inner != '+' && !mm_minus) || !read_digits(inner + 1, 3, &mm))
+            return 8;
+    } else if (!read_digits(data, width, &size)) {
+        return 8;
+    }
+
+    /* 9: "separator isn't a blank" */
+    if (data[width] != ' ')
+        return 9;
+
+    /* 10: "minus before zero, or angle out of range"; "A minus before zero is refused, in either half of a pair too." */
+    if ((minus && size == 0) || (mm_minus && mm == 0))
+        return 10;
+    if (kind == ANGLE && !angle_size(word[5], size, &size))
+        return 10;
+
+    /* "a value, mm or text byte its word doesn't use is 0" */
+    record->index = (uint16_t)index;
+    copy(record->info, word + 2, 4);
+    record->minus = (uint8_t)minus;
+    record->mm_minus = (uint8_t)mm_minus;
+    record->size = size;
+    record->mm = mm;
+    clear(record->text, 16);
+    if (is_text(kind))
+        copy(record->text, data, width);
+    return 0;
+}
+
+uint64_t ref_read(const uint8_t *block, size_t n, ref_word *list, size_t places)
+{
+    /* "After a refusal the lent list and output are untouched": the records wait here until the block is right. */
+    ref_word records[MOST_WORDS];
+    size_t words = 0, at = 0, width = 8, crlf = 0;
+
+    /* 1: "no input bytes" */
+    if (n == 0)
+        return answer(1, 0);
+
+    /* "With `*` the words are 16 wide, otherwise 8 wide." */
+    if (block[0] == '*') {
+        width = 16;
+        at = 1;
+    }
+
+    /* "Words are judged left to right. Where a word would start the order is CR, 4, 2, 11, then 5 to 10 in order." */
+    while (at >= n || block[at] != CR) {
+        unsigned number;
+        /* 4: "no CR after the 32nd word" */
+        if (words == MOST_WORDS)
+            return answer(4, at);
+        /* 2: "fewer bytes remain than a word needs, and the next isn't CR"; "A word with its blank takes 16 or 24 bytes." */
+        if (n - at < width + 8)
+            return answer(2, at);
+        /* 11: "the lent list has no place for the word that would start" */
+        if (words >= places)
+            return answer(11, at);
+        number = read_word(block + at, width, &records[words]);
+        if (number != 0)
+            return answer(number, at);
+        words++;
+        at += width + 8;
+    }
+
+    /* 3: "CR before the first word", telling 0 */
+    if (words == 0)
+        return answer(3, 0);
+
+    /* "If LF follows CR it belongs to the terminator. Bytes after the terminator aren't looked at." */
+    at++;
+    if (at < n && block[at] == LF) {
+        at++;
+        crlf = 1;
+    }
+
+    /* "records beyond the count are as before" */
+    for (size_t i = 0; i < words; i++)
+        list[i] = records[i];
+    return answer(0, at | words << 16 | (uint64_t)(width == 16) << 24 | (uint64_t)crlf << 25);
+}
+
+/* The block's writer */
+
+/* Whether some word of the width gives the record (13: "a record no word of the chosen width gives"). */
+static int record_right(const ref_word *r, size_t width)
+{
+    unsigned kind = r->index < 100 ? kind_of[r->index] : NONE;
+
+    if (kind == NONE || !info_right(kind, r->info))
+        return 0;
+
+    if (is_text(kind)) {
+        if (r->minus != 0 || r->mm_minus != 0 || r->size != 0 || r->mm != 0)
+            return 0;
+        for (size_t i = 0; i < width; i++)
+            if (r->text[i] < 33 || r->text[i] > 126)
+                return 0;
+        return all_zero(r->text + width, 16 - width);
+    }
+
+    /* Signs are 0 or 1, and "a minus before zero is refused, in either half of a pair too". */
+    if (r->minus > 1 || r->mm_minus > 1 || (r->minus && r->size == 0) || (r->mm_minus && r->mm == 0))
+        return 0;
+    /* Only a pair has an mm: elsewhere it is 0, and so is its sign, by the rule just judged. */
+    if (r->mm > (kind == PAIR ? 999u : 0u) || !all_zero(r->text, 16))
+        return 0;
+    switch (kind) {
+    case ANGLE:
+        return r->size < angle_limit(r->info[3]);
+    case PAIR:
+        return r->size <= (width == 16 ? 999999999999u : 9999u);
+    default:
+        return r->size <= (width == 16 ? 9999999999999999u : 99999999u);
+    }
+}
+
+static void write_word(uint8_t *word, size_t width, const ref_word *r)
+{
+    unsigned kind = kind_of[r->index];
+    uint8_t *data = word + 7;
+
+    write_digits(word, 2, r->index);
+    copy(word + 2, r->info, 4);
+    word[6] = r->minus ? '-' : '+';
+    if (is_text(kind)) {
+        copy(data, r->text, width);
+    } else if (kind == PAIR) {
+        write_digits(data, width - 4, r->size);
+        data[width - 4] = r->mm_minus ? '-' : '+';
+        write_digits(data + width - 3, 3, r->mm);
+    } else {
+        write_digits(data, width, kind == ANGLE ? angle_digits(r->info[3], r->size) : r->size);
+    }
+    data[width] = ' ';
+}
+
+uint64_t ref_write(const ref_word *list, size_t words, uint64_t wide, uint64_t crlf, uint8_t *block, size_t room)
+{
+    size_t width = wide ? 16 : 8, need;
+
+    /* "Writer order: 12, 13 (first such record), 14." */
+    if (words == 0 || words > MOST_WORDS)
+        return answer(12, 0);
+    for (size_t i = 0; i < words; i++)
+        if (!record_right(&list[i], width))
+            return answer(13, i);
+    need = (wide ? 1 : 0) + words * (width + 8) + (crlf ? 2 : 1);
+    if (room < need)
+        return answer(14, need);
+
+    if (wide)
+        *block++ = '*';
+    for (size_t i = 0; i < words; i++, block += width + 8)
+        write_word(block, width, &list[i]);
+    block[0] = CR;
+    if (crlf)
+        block[1] = LF;
+    return answer(0, need);
+}
+
+/* The image of a state */
+
+enum {
+    SETTINGS = 19, VALUES = 11, VALUE_BYTES = 11, MOST_ENTRIES = 64, ENTRY_BYTES = 14,
+    AT_SETTINGS = 1, AT_VALUES = 20, AT_COUNT = 141, AT_ENTRIES = 143,
+    IMAGE_BYTES = AT_ENTRIES + MOST_ENTRIES * ENTRY_BYTES,
+    ENTRY_OF_SET = 1, ENTRY_OF_PUT = 2,
+    PLACE_OF_73 = 10,
+};
+
+/* "Settings (000, SET list of TPS100; all equipment fitted), those up to 136 only, as number:highest parameter" and
+   "Factory: 70 is 5, 73 is 1, 103 is 1, the rest 0"; with the sheet's key, "`s` and each setting". */
+static const struct { uint8_t number, highest, factory, key_length; char key[6]; } settings[SETTINGS] = {
+    {30, 1, 0, 4, "s30="}, {32, 3, 0, 4, "s32="}, {34, 1, 0, 4, "s34="}, {40, 2, 0, 4, "s40="},
+    {41, 1, 0, 4, "s41="}, {44, 2, 0, 4, "s44="}, {49, 1, 0, 4, "s49="}, {50, 2, 0, 4, "s50="},
+    {70, 5, 5, 4, "s70="}, {71, 2, 0, 4, "s71="}, {73, 1, 1, 4, "s73="}, {76, 1, 0, 4, "s76="},
+    {80, 1, 0, 4, "s80="}, {81, 2, 0, 4, "s81="}, {95, 1, 0, 4, "s95="}, {102, 1, 0, 5, "s102="},
+    {103, 1, 1, 5, "s103="}, {135, 1, 0, 5, "s135="}, {136, 1, 0, 5, "s136="},
+};
+
+/* The place of a setting, or SETTINGS when it isn't in the list. */
+static unsigned place_of_setting(unsigned number)
+{
+    unsigned place = 0;
+    while (place < SETTINGS && settings[place].number != number)
+        place++;
+    return place;
+}
+
+/* "Values: 11, 16 text; 21, 24 angles, unit 2, 3 or 4; 34 and 83-88 lengths, unit 0 or 1." */
+static const struct { uint8_t kind, unit_from, unit_to; char index[3]; } values[VALUES] = {
+    {TEXT, '.', '.', "11"}, {TEXT, '.', '.', "16"}, {ANGLE, '2', '4', "21"}, {ANGLE, '2', '4', "24"},
+    {LENGTH, '0', '1', "34"}, {LENGTH, '0', '1', "83"}, {LENGTH, '0', '1', "84"}, {LENGTH, '0', '1', "85"},
+    {LENGTH, '0', '1', "86"}, {LENGTH, '0', '1', "87"}, {LENGTH, '0', '1', "88"},
+};
+
+/* The place of the stored value that the two characters name, or VALUES when they name none. */
+static unsigned place_of_value(const uint8_t *index)
+{
+    unsigned place = 0;
+    while (place < VALUES && !same(index, values[place].index, 2))
+        place++;
+    return place;
+}
+
+/* A value is 11 bytes: 1, the unit, 0 or 1 for the sign, the eight characters; or 0 throughout when never put.
+   Answers whether it is "never put or as a PUT can leave it". */
+static int value_right(unsigned place, const uint8_t *v)
+{
+    unsigned kind = values[place].kind;
+    const uint8_t *data = v + 3;
+    uint64_t size;
+
+    if (v[0] == 0)
+        return all_zero(v, VALUE_BYTES);
+    if (v[0] != 1 || v[1] < values[place].unit_from || v[1] > values[place].unit_to || v[2] > 1)
+        return 0;
+    if (kind == TEXT) {
+        for (size_t i = 0; i < 8; i++)
+            if (data[i] < 33 || data[i] > 126)
+                return 0;
+        return v[2] == 0;
+    }
+    if (!read_digits(data, 8, &size) || (v[2] == 1 && size == 0))
+        return 0;
+    return kind != ANGLE || angle_size(v[1], size, &size);
+}
+
+/* "A state is settings in range, each value never put or as a PUT can leave it, and 0 to 64 entries holding the same;
+   taken back newest first, none names a value then never put." */
+static int is_state(const uint8_t *image, size_t n)
+{
+    uint8_t put[VALUES];
+    unsigned count;
+
+    if (n != IMAGE_BYTES || image[0] != 1)
+        return 0;
+    for (unsigned i = 0; i < SETTINGS; i++)
+        if (image[AT_SETTINGS + i] > settings[i].highest)
+            return 0;
+    for (unsigned i = 0; i < VALUES; i++) {
+        const uint8_t *v = image + AT_VALUES + i * VALUE_BYTES;
+        if (!value_right(i, v))
+            return 0;
+        put[i] = v[0];
+    }
+    count = (unsigned)image[AT_COUNT] << 8 | image[AT_COUNT + 1];
+    if (count > MOST_ENTRIES)
+        return 0;
+    /* Entries past the number are 0, so that each state has one image. */
+    if (!all_zero(image + AT_ENTRIES + count * ENTRY_BYTES, (MOST_ENTRIES - count) * ENTRY_BYTES))
+        return 0;
+    while (count > 0) {
+        const uint8_t *e = image + AT_ENTRIES + --count * ENTRY_BYTES;
+        unsigned place = e[1];
+        if (e[0] == ENTRY_OF_SET) {
+            if (place >= SETTINGS || e[2] > settings[place].highest || !all_zero(e + 3, VALUE_BYTES))
+                return 0;
+        } else if (e[0] == ENTRY_OF_PUT) {
+            if (place >= VALUES || e[2] != 0 || !put[place] || !value_right(place, e + 3))
+                return 0;
+            put[place] = e[3];
+        } else {
+            return 0;
+        }
+    }
+    return 1;
+}
+
+uint64_t ref_image_size(void)
+{
+    return IMAGE_BYTES;
+}
+
+/* "Laying down the factory state takes lent bytes of exactly the image's length, with any contents, and refuses 31
+   otherwise." "At the factory no value has been put." */
+uint64_t ref_factory(uint8_t *image, size_t n)
+{
+    if (n != IMAGE_BYTES)
+        return answer(31, 0);
+    clear(image, IMAGE_BYTES);
+    image[0] = 1;
+    for (unsigned i = 0; i < SETTINGS; i++)
+        image[AT_SETTINGS + i] = settings[i].factory;
+    return answer(0, 0);
+}
+
+/* The line machine */
+
+/* What a right line asks for. */
+enum act { ACT_SET, ACT_CONF, ACT_PUT, ACT_GET, ACT_UNDO, ACT_KEEP };
+
+struct request {
+    enum act act;
+    unsigned place;     /* SET, CONF: of the setting; PUT: of the value */
+    unsigned parameter; /* SET */
+    const uint8_t *at;  /* PUT: the word; GET: the first `/WI` */
+    size_t count;       /* GET: the number of indexes */
+};
+
+/* "Numbers have 1 to 4 digits and no leading zero, save `0` itself." Answers the digits taken, 0 when it's no number. */
+static size_t take_number(const uint8_t *p, size_t n, unsigned *number)
+{
+    size_t taken = 0;
+    *number = 0;
+    while (taken < n && is_digit(p[taken])) {
+        if (taken == 4)
+            return 0;
+        *number = *number * 10 + (unsigned)(p[taken++] - '0');
+    }
+    return taken > 1 && p[0] == '0' ? 0 : taken;
+}
+
+/* Judges `SET/number/parameter` and `CONF/number` after their first slash, by 22 to 24 and 28. */
+static unsigned judge_setting(const uint8_t *p, size_t n, unsigned entries, struct request *r)
+{
+    unsigned number;
+    size_t taken = take_number(p, n, &number);
+
+    if (taken == 0)
+        return 22;
+    if (r->act == ACT_SET) {
+        size_t slash = taken;
+        if (slash == n || p[slash] != '/')
+            return 22;
+        taken = take_number(p + slash + 1, n - slash - 1, &r->parameter);
+        if (taken == 0)
+            return 22;
+        taken += slash + 1;
+    }
+    if (taken != n)
+        return 22;
+
+    /* 23: "setting not in the list" */
+    r->place = place_of_setting(number);
+    if (r->place == SETTINGS)
+        return 23;
+    if (r->act == ACT_SET) {
+        /* 24: "parameter above its highest" */
+        if (r->parameter > settings[r->place].highest)
+            return 24;
+        /* 28: "SET or PUT with 64 entries standing" */
+        if (entries == MOST_ENTRIES)
+            return 28;
+    }
+    return 0;
+}
+
+/* Judges the 16 characters of a PUT by 25, 26 and 28. */
+static unsigned judge_put(const uint8_t *word, unsigned entries, struct request *r)
+{
+    ref_word record;
+
+    /* 25: "PUT or GET index not a stored value" */
+    r->place = place_of_value(word);
+    if (r->place == VALUES)
+        return 25;
+    /* 26: "A PUT word has dots at 3-5 (3-6 for text) and otherwise obeys the block rules", with the value's units. */
+    if (word[2] != '.' || word[3] != '.' || word[4] != '.')
+        return 26;
+    if (word[5] < values[r->place].unit_from || word[5] > values[r->place].unit_to)
+        return 26;
+    if (read_word(word, 8, &record) != 0)
+        return 26;
+    if (entries == MOST_ENTRIES)
+        return 28;
+    r->at = word;
+    return 0;
+}
+
+/* Judges what follows `GET/I`: "one or more `/WI` with two digits". */
+static unsigned judge_get(const uint8_t *image, const uint8_t *p, size_t n, struct request *r)
+{
+    if (n == 0 || n % 5 != 0)
+        return 22;
+    for (size_t i = 0; i < n; i += 5)
+        if (!same(p + i, "/WI", 3) || !is_digit(p[i + 3]) || !is_digit(p[i + 4]))
+            return 22;
+    /* "GET judges its first index by 25 then 27, then the next likewise" */
+    for (size_t i = 0; i < n; i += 5) {
+        unsigned place = place_of_value(p + i + 3);
+        if (place == VALUES)
+            return 25;
+        /* 27: "GET of a value never put" */
+        if (image[AT_VALUES + place * VALUE_BYTES] == 0)
+            return 27;
+    }
+    r->at = p;
+    r->count = n / 5;
+    return 0;
+}
+
+/* Judges a line by 20 to 29, in their order; answers 0 with the request filled when it is right. */
+static unsigned judge_line(const uint8_t *image, unsigned entries, const uint8_t *line, size_t m, struct request *r)
+{
+    size_t n = m;
+
+    /* 20: "no CR or CR LF at the end, or a CR or LF earlier" */
+    if (n > 0 && line[n - 1] == LF)
+        n--;
+    if (n == 0 || line[n - 1] != CR)
+        return 20;
+    n--;
+    for (size_t i = 0; i < n; i++)
+        if (line[i] == CR || line[i] == LF)
+            return 20;
+
+    /* 21: "over 100 characters" */
+    if (n > 100)
+        return 21;
+
+    /* 22: "none of the shapes above" */
+    if (n < 4)
+        return 22;
+    if (same(line, "SET/", 4)) {
+        r->act = ACT_SET;
+        return judge_setting(line + 4, n - 4, entries, r);
+    }
+    if (n >= 5 && same(line, "CONF/", 5)) {
+        r->act = ACT_CONF;
+        return judge_setting(line + 5, n - 5, entries, r);
+    }
+    if (n == 20 && same(line, "PUT/", 4)) {
+        /* "`PUT/` and 16 characters: a word 8 wide with its blank" */
+        r->act = ACT_PUT;
+        return judge_put(line + 4, entries, r);
+    }
+    if (n >= 5 && same(line, "GET/I", 5)) {
+        r->act = ACT_GET;
+        return judge_get(image, line + 5, n - 5, r);
+    }
+    if (n == 4 && same(line, "UNDO", 4)) {
+        r->act = ACT_UNDO;
+        /* 29: "UNDO with none standing" */
+        return entries == 0 ? 29 : 0;
+    }
+    if (n == 4 && same(line, "KEEP", 4)) {
+        r->act = ACT_KEEP;
+        return 0;
+    }
+    return 22;
+}
+
+/* The 15 characters of a value that was put: "GET/I answers text words with four dots, others as dot, dot, `1`, the
+   unit; sign and data as put". Answers the place after them. */
+static uint8_t *lay_value(uint8_t *to, unsigned place, const uint8_t *v)
+{
+    to = lay(to, values[place].index, 2);
+    to[0] = '.';
+    to[1] = '.';
+    to[2] = values[place].kind == TEXT ? '.' : '1';
+    to[3] = v[1];
+    to[4] = v[2] ? '-' : '+';
+    copy(to + 5, v + 3, 8);
+    return to + 13;
+}
+
+/* Makes room for an entry at the end of the undo list and answers its place. */
+static uint8_t *add_entry(uint8_t *image, unsigned entries)
+{
+    image[AT_COUNT + 1] = (uint8_t)(entries + 1);
+    return image + AT_ENTRIES + entries * ENTRY_BYTES;
+}
+
+/* Does what an accepted line asks for and writes its reply, all but the end. Answers the place after it. */
+static uint8_t *obey(uint8_t *image, unsigned entries, const struct request *r, uint8_t *reply)
+{
+    uint8_t *e, *v;
+
+    switch (r->act) {
+    case ACT_SET:
+        /* "An accepted SET or PUT adds one, even if nothing altered." */
+        e = add_entry(image, entries);
+        v = image + AT_SETTINGS + r->place;
+        e[0] = ENTRY_OF_SET;
+        e[1] = (uint8_t)r->place;
+        e[2] = *v;
+        *v = (uint8_t)r->parameter;
+        break;
+    case ACT_PUT:
+        e = add_entry(image, entries);
+        v = image + AT_VALUES + r->place * VALUE_BYTES;
+        e[0] = ENTRY_OF_PUT;
+        e[1] = (uint8_t)r->place;
+        copy(e + 3, v, VALUE_BYTES);
+        v[0] = 1;
+        v[1] = r->at[5];
+        v[2] = r->at[6] == '-';
+        copy(v + 3, r->at + 7, 8);
+        break;
+    case ACT_UNDO:
+        /* "UNDO takes the newest back, restoring "never put" too." "Freed entries are used again." */
+        image[AT_COUNT + 1] = (uint8_t)--entries;
+        e = image + AT_ENTRIES + entries * ENTRY_BYTES;
+        if (e[0] == ENTRY_OF_SET)
+            image[AT_SETTINGS + e[1]] = e[2];
+        else
+            copy(image + AT_VALUES + e[1] * VALUE_BYTES, e + 3, VALUE_BYTES);
+        clear(e, ENTRY_BYTES);
+        break;
+    case ACT_KEEP:
+        /* "KEEP empties the list" */
+        image[AT_COUNT + 1] = 0;
+        clear(image + AT_ENTRIES, entries * ENTRY_BYTES);
+        break;
+    case ACT_CONF:
+        /* "Reply both as four digits, `0070/0005`." */
+        write_digits(reply, 4, settings[r->place].number);
+        reply[4] = '/';
+        write_digits(reply + 5, 4, image[AT_SETTINGS + r->place]);
+        return reply + 9;
+    case ACT_GET:
+        /* "Reply: the words in that order, each with its blank; an index may repeat." */
+        for (size_t i = 0; i < r->count; i++) {
+            unsigned place = place_of_value(r->at + i * 5 + 3);
+            reply = lay_value(reply, place, image + AT_VALUES + place * VALUE_BYTES);
+            *reply++ = ' ';
+        }
+        return reply;
+    }
+    return lay(reply, "?", 1);
+}
+
+uint64_t ref_line(uint8_t *image, size_t n, const uint8_t *line, size_t m, uint8_t *reply, size_t room)
+{
+    struct request request = {0};
+    unsigned entries, number;
+    size_t length, ending;
+
+    /* "Order: 31, then 20 to 29 as numbered ..., then 30, which replaces any of them." */
+    if (!is_state(image, n))
+        return answer(31, 0);
+    entries = image[AT_COUNT + 1];
+    number = judge_line(image, entries, line, m, &request);
+
+    /* "Each reply ends as setting 73 said before the line (0 CR, 1 CR LF)." */
+    ending = image[AT_SETTINGS + PLACE_OF_73] ? 2 : 1;
+
+    /* 30: "reply or sheet, `@W127` included, longer than the room: nothing written or changed" */
+    if (number != 0)
+        length = 5;
+    else if (request.act == ACT_GET)
+        length = request.count * 16;
+    else
+        length = request.act == ACT_CONF ? 9 : 1;
+    length += ending;
+    if (length > room)
+        return answer(30, 0);
+
+    /* "A refused line replies `@W127`, with nothing else altered; reply room beyond the reply is untouched." */
+    reply = number != 0 ? lay(reply, "@W127", 5) : obey(image, entries, &request, reply);
+    lay(reply, "\r\n", ending);
+    return answer(number, length);
+}
+
+/* The state sheet */
+
+static const char first_line[] = "series=TPS100\n";
+enum { FIRST_LINE = sizeof first_line - 1, SHORTEST_SHEET = 187 };
+
+uint64_t ref_sheet_write(const uint8_t *image, size_t n, uint8_t *sheet, size_t room)
+{
+    size_t length = SHORTEST_SHEET;
+
+    /* "for writing, 31, then 30" */
+    if (!is_state(image, n))
+        return answer(31, 0);
+    /* "the 15 characters GET/I gives, or nothing when never put. 187 to 352 bytes." */
+    for (unsigned i = 0; i < VALUES; i++)
+        if (image[AT_VALUES + i * VALUE_BYTES])
+            length += 15;
+    if (length > room)
+        return answer(30, 0);
+
+    /* "key=value lines ended by LF: `series=TPS100`, then `s` and each setting in the order above, then `v` and each
+       index" */
+    sheet = lay(sheet, first_line, FIRST_LINE);
+    for (unsigned i = 0; i < SETTINGS; i++) {
+        sheet = lay(sheet, settings[i].key, settings[i].key_length);
+        *sheet++ = (uint8_t)('0' + image[AT_SETTINGS + i]);
+        *sheet++ = LF;
+    }
+    for (unsigned i = 0; i < VALUES; i++) {
+        const uint8_t *v = image + AT_VALUES + i * VALUE_BYTES;
+        *sheet++ = 'v';
+        sheet = lay(sheet, values[i].index, 2);
+        *sheet++ = '=';
+        if (v[0])
+            sheet = lay_value(sheet, i, v);
+        *sheet++ = LF;
+    }
+    return answer(0, length);
+}
+
+/* Takes the n bytes at p for a line `vNN=` of the value, into its 11 bytes. Answers the line's length, 0 when wrong. */
+static size_t take_value_line(const uint8_t *p, size_t n, unsigned place, uint8_t *v)
+{
+    if (n < 5 || p[0] != 'v' || !same(p + 1, values[place].index, 2) || p[3] != '=')
+        return 0;
+    if (p[4] == LF) {
+        clear(v, VALUE_BYTES);
+        return 5;
+    }
+    if (n < 20 || !same(p + 4, values[place].index, 2) || p[6] != '.' || p[7] != '.' || p[19] != LF)
+        return 0;
+    if (p[8] != (values[place].kind == TEXT ? '.' : '1') || (p[10] != '+' && p[10] != '-'))
+        return 0;
+    v[0] = 1;
+    v[1] = p[9];
+    v[2] = p[10] == '-';
+    copy(v + 3, p + 11, 8);
+    return value_right(place, v) ? 20 : 0;
+}
+
+uint64_t ref_sheet_load(uint8_t *image, size_t n, const uint8_t *sheet, size_t m)
+{
+    /* The image up to the undo list's number; it waits here since 40 "leaves the state as it was". */
+    uint8_t fresh[AT_COUNT];
+    size_t at = 0;
+
+    /* "Order: 31 (telling 0), then 40" */
+    if (!is_state(image, n))
+        return answer(31, 0);
+
+    /* "Loading takes exactly the bytes some sheet has"; "otherwise refusal 40 tells the start of the first wrong,
+       missing or surplus line" */
+    if (m < FIRST_LINE || !same(sheet, first_line, FIRST_LINE))
+        return answer(40, 0);
+    fresh[0] = 1;
+    at = FIRST_LINE;
+    for (unsigned i = 0; i < SETTINGS; i++) {
+        const uint8_t *p = sheet + at;
+        size_t key = settings[i].key_length;
+        if (m - at < key + 2 || !same(p, settings[i].key, key) || p[key + 1] != LF)
+            return answer(40, at);
+        if (p[key] < '0' || p[key] > '0' + settings[i].highest)
+            return answer(40, at);
+        fresh[AT_SETTINGS + i] = (uint8_t)(p[key] - '0');
+        at += key + 2;
+    }
+    for (unsigned i = 0; i < VALUES; i++) {
+        size_t taken = take_value_line(sheet + at, m - at, i, fresh + AT_VALUES + i * VALUE_BYTES);
+        if (taken == 0)
+            return answer(40, at);
+        at += taken;
+    }
+    if (at != m)
+        return answer(40, at);
+
+    /* "makes the settings and stored values those it names and empties the undo list" */
+    copy(image, fresh, AT_COUNT);
+    clear(image + AT_COUNT, IMAGE_BYTES - AT_COUNT);
+    return answer(0, 0);
+}

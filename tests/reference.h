@@ -1,0 +1,27 @@
+/* reference.h: a second implementation of document 01 in plain C, which the library is compared with.
+   The functions and the record are those of the C interface, under the prefix ref_. */
+#ifndef REFERENCE_H
+#define REFERENCE_H
+
+#include <stddef.h>
+#include <stdint.h>
+
+typedef struct {
+    uint16_t index;   /* the two-digit number */
+    uint8_t info[4];  /* positions 3-6 */
+    uint8_t minus;    /* 1 when the value (of a pair: ppm) has a minus */
+    uint8_t mm_minus; /* 1 when a pair's mm has a minus */
+    uint64_t size;
+    uint64_t mm;
+    uint8_t text[16];
+} ref_word;
+
+uint64_t ref_read(const uint8_t *block, size_t n, ref_word *list, size_t places);
+uint64_t ref_write(const ref_word *list, size_t words, uint64_t wide, uint64_t crlf, uint8_t *block, size_t room);
+uint64_t ref_image_size(void);
+uint64_t ref_factory(uint8_t *image, size_t n);
+uint64_t ref_line(uint8_t *image, size_t n, const uint8_t *line, size_t m, uint8_t *reply, size_t room);
+uint64_t ref_sheet_write(const uint8_t *image, size_t n, uint8_t *sheet, size_t room);
+uint64_t ref_sheet_load(uint8_t *image, size_t n, const uint8_t *sheet, size_t m);
+
+#endif

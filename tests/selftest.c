@@ -1,0 +1,621 @@
+/* selftest.c: checks the second implementation alone against the worked readings of document 01 and what is easy to
+   slip on. Prints `ok`, or the lines of this file whose reading failed. */
+#include "reference.h"
+
+int printf(const char *, ...);
+int memcmp(const void *, const void *, size_t);
+void *memcpy(void *, const void *, size_t);
+void *memset(void *, int, size_t);
+size_t strlen(const char *);
+
+static int failures;
+
+#define CHECK(condition) \
+    do { \
+        if (!(condition)) { \
+            printf("line %d: %s\n", __LINE__, #condition); \
+            failures++; \
+        } \
+    } while (0)
+
+#define ANSWER(number, told) ((uint64_t)(number) << 32 | (uint64_t)(told))
+#define READ(bytes, words, wide, crlf) \
+    ANSWER(0, (uint64_t)(bytes) | (uint64_t)(words) << 16 | (uint64_t)(wide) << 24 | (uint64_t)(crlf) << 25)
+
+/* Blocks */
+
+static ref_word list[34];
+
+/* Reads with so many places; checks that a refusal leaves the list untouched, and that places beyond the count stay. */
+static uint64_t reading_in(const char *block, size_t n, size_t places)
+{
+    static ref_word before[34];
+    uint64_t got;
+    size_t kept;
+    memset(list, 0xA5, sizeof list);
+    memcpy(before, list, sizeof list);
+    got = ref_read((const uint8_t *)block, n, list, places);
+    kept = got >> 32 ? 0 : (size_t)(got >> 16 & 255);
+    CHECK(memcmp(list + kept, before + kept, (34 - kept) * sizeof(ref_word)) == 0);
+    return got;
+}
+
+static uint64_t reading(const char *block)
+{
+    return reading_in(block, strlen(block), 32);
+}
+
+/* Writes the list in the width and checks that the block comes back, each room but its own being too short or ample. */
+static void writes_back(const char *block, size_t words, int wide, int crlf)
+{
+    uint8_t room[800];
+    size_t n = strlen(block);
+    for (size_t short_room = 0; short_room < n; short_room++) {
+        memset(room, 0x5A, sizeof room);
+        CHECK(ref_write(list, words, (uint64_t)wide, (uint64_t)crlf, room, short_room) == ANSWER(14, n));
+        for (size_t i = 0; i < sizeof room; i++)
+            if (room[i] != 0x5A) {
+                CHECK(!"a refused writer leaves the room untouched");
+                break;
+            }
+    }
+    memset(room, 0x5A, sizeof room);
+    CHECK(ref_write(list, words, (uint64_t)wide, (uint64_t)crlf, room, n + 1) == ANSWER(0, n));
+    CHECK(memcmp(room, block, n) == 0 && room[n] == 0x5A);
+}
+
+static void check_proved_blocks(void)
+{
+    const char *p1 = "110014+00000003 21.324+27952530 22.324+27000430 31..01+00265965 51..1.+0009+000 \r\n";
+    const char *p3 = "*11....+000000000PNC0058 \r";
+
+    /* P1 */
+    CHECK(reading(p1) == READ(82, 5, 0, 1));
+    CHECK(list[0].index == 11 && memcmp(list[0].info, "0014", 4) == 0 && list[0].size == 0);
+    CHECK(memcmp(list[0].text, "00000003\0\0\0\0\0\0\0\0", 16) == 0);
+    CHECK(list[1].index == 21 && list[1].size == 10075730 && list[1].minus == 0);
+    CHECK(list[2].index == 22 && list[2].size == 9720430);
+    CHECK(list[3].index == 31 && list[3].size == 265965);
+    CHECK(list[4].index == 51 && list[4].size == 9 && list[4].mm == 0 && list[4].minus == 0 && list[4].mm_minus == 0);
+    writes_back(p1, 5, 0, 1);
+    /* P2 */
+    CHECK(reading("\r") == ANSWER(3, 0));
+    /* P3 */
+    CHECK(reading(p3) == READ(26, 1, 1, 0));
+    CHECK(memcmp(list[0].text, "000000000PNC0058", 16) == 0);
+    writes_back(p3, 1, 1, 0);
+    /* P4 */
+    CHECK(reading("21.102+39999999 \r") == READ(17, 1, 0, 0) && list[0].size == 39999999);
+    CHECK(reading("21.102+40000000 \r") == ANSWER(10, 0));
+    /* P5 */
+    CHECK(reading("21.104+35959599 \r") == READ(17, 1, 0, 0) && list[0].size == 12959999);
+    writes_back("21.104+35959599 \r", 1, 0, 0);
+    CHECK(reading("21.104+00060000 \r") == ANSWER(10, 0));
+    /* P6 */
+    CHECK(reading("82..00-00213159 \r") == READ(17, 1, 0, 0) && list[0].size == 213159 && list[0].minus == 1);
+    CHECK(reading("82..00-00000000 \r") == ANSWER(10, 0));
+    /* P7 */
+    CHECK(reading("331106+00010198 \r") == ANSWER(6, 0));
+    /* "000's `17920860` is 179.20860 gon" */
+    CHECK(reading("21.102+17920860 \r") == READ(17, 1, 0, 0) && list[0].size == 17920860);
+}
+
+static void check_block_slips(void)
+{
+    char many[33 * 16 + 3];
+
+    CHECK(reading("") == ANSWER(1, 0));
+    /* Nothing left where a word would start. */
+    CHECK(reading("*") == ANSWER(2, 1));
+    CHECK(reading("31..00+00000001 ") == ANSWER(2, 16));
+    /* 15 bytes and no more; a CR as the 16th byte. */
+    CHECK(reading("31..00+00000001") == ANSWER(2, 0));
+    CHECK(reading("31..00+00000001\r") == ANSWER(9, 0));
+    CHECK(reading("31..00+00000001\r\n") == ANSWER(9, 0));
+    /* The `*` is the first byte only; places count it. */
+    CHECK(reading("*\r") == ANSWER(3, 0));
+    CHECK(reading("**1....+000000000PNC0058 \r") == ANSWER(5, 1));
+    CHECK(reading("31..00+00000001 *1..00+00000001 \r") == ANSWER(5, 16));
+    CHECK(reading("*31..00+0000000000000001 31..00+000000000000000x \r") == ANSWER(8, 25));
+    /* 32 words and no CR; fewer places; a CR first with no place. */
+    for (size_t i = 0; i < 33; i++)
+        memcpy(many + i * 16, "31..00+00000001 ", 16);
+    memcpy(many + 528, "\r\n", 3);
+    CHECK(reading_in(many, 530, 34) == ANSWER(4, 512));
+    CHECK(reading_in(many, 512, 34) == ANSWER(4, 512));
+    CHECK(reading_in(many, 511, 34) == ANSWER(2, 496));
+    CHECK(reading_in(many, 530, 31) == ANSWER(11, 496));
+    CHECK(reading_in(many, 530, 32) == ANSWER(4, 512));
+    memcpy(many + 512, "\r\n", 2);
+    CHECK(reading_in(many, 530, 32) == READ(514, 32, 0, 1));
+    CHECK(reading_in(many, 513, 32) == READ(513, 32, 0, 0));
+    CHECK(reading_in(many, 530, 0) == ANSWER(11, 0));
+    CHECK(reading_in("\r", 1, 0) == ANSWER(3, 0));
+    CHECK(reading_in("3", 1, 0) == ANSWER(2, 0));
+    /* LF where a word would start, a CR inside a word, and the terminators. */
+    CHECK(reading("31..00+00000001 \n") == ANSWER(2, 16));
+    CHECK(reading("31..00+00000001 \n123456789012345\r") == ANSWER(5, 16));
+    CHECK(reading("31..00+000\r0001 \r") == ANSWER(8, 0));
+    CHECK(reading("31..00+00000001 \r\r\n") == READ(17, 1, 0, 0));
+    CHECK(reading("31..00+00000001 \r\n\n") == READ(18, 1, 0, 1));
+    /* The order within a word. */
+    CHECK(reading("00abcd*xxxxxxxxx\r") == ANSWER(5, 0));
+    CHECK(reading("1xabcd*xxxxxxxxx\r") == ANSWER(5, 0));
+    CHECK(reading("31..02*xxxxxxxxx\r") == ANSWER(6, 0));
+    CHECK(reading("31..00*xxxxxxxxx\r") == ANSWER(7, 0));
+    CHECK(reading("31..00-0000000xx\r") == ANSWER(8, 0));
+    CHECK(reading("31..00-00000000x\r") == ANSWER(9, 0));
+    CHECK(reading("21.102+40000000x\r") == ANSWER(9, 0));
+    CHECK(reading("51..1.+0009*00x \r") == ANSWER(8, 0));
+    CHECK(reading("51..1.+000x+000 \r") == ANSWER(8, 0));
+    CHECK(reading("51..1.+0001-000 \r") == ANSWER(10, 0));
+    CHECK(reading("51..1.-0000+001 \r") == ANSWER(10, 0));
+    CHECK(reading("51..1.-0009-002 \r") == READ(17, 1, 0, 0) && list[0].minus == 1 && list[0].mm_minus == 1 &&
+          list[0].size == 9 && list[0].mm == 2);
+    CHECK(reading("*51..1.+123456789012-345 \r") == READ(26, 1, 1, 0) && list[0].size == 123456789012 && list[0].mm == 345);
+    CHECK(reading("11....-00000003 \r") == ANSWER(7, 0));
+    CHECK(reading("11....+0000 003 \r") == ANSWER(8, 0));
+    CHECK(reading("11....+!~000003 \r") == READ(17, 1, 0, 0));
+    /* 11 and 41 have no mixture; the three after a text's dot are free. */
+    CHECK(reading("110.14+00000003 \r") == ANSWER(6, 0));
+    CHECK(reading("41...4+00000003 \r") == ANSWER(6, 0));
+    CHECK(reading("419999+00000003 \r") == READ(17, 1, 0, 0));
+    CHECK(reading("42.9.0+00000003 \r") == READ(17, 1, 0, 0));
+    CHECK(reading("4209.0+00000003 \r") == ANSWER(6, 0));
+    /* A unit may never be missing. */
+    CHECK(reading("21.10.+00000003 \r") == ANSWER(6, 0));
+    CHECK(reading("31..0.+00000003 \r") == ANSWER(6, 0));
+    CHECK(reading("58..0.+00000003 \r") == ANSWER(6, 0));
+    CHECK(reading("59..06-00000003 \r") == READ(17, 1, 0, 0));
+    /* "Size": a negative angle is right. Wide angles have the same limits. */
+    CHECK(reading("22..02-39999999 \r") == READ(17, 1, 0, 0) && list[0].minus == 1);
+    CHECK(reading("22..02-40000000 \r") == ANSWER(10, 0));
+    CHECK(reading("24.333+35999999 \r") == READ(17, 1, 0, 0));
+    CHECK(reading("24.333+36000000 \r") == ANSWER(10, 0));
+    CHECK(reading("24.3.5+63999999 \r") == READ(17, 1, 0, 0));
+    CHECK(reading("24.3.5+64000000 \r") == ANSWER(10, 0));
+    CHECK(reading("*24.3.5+0000000063999999 \r") == READ(26, 1, 1, 0));
+    CHECK(reading("*24.3.5+0000000100000000 \r") == ANSWER(10, 1));
+    CHECK(reading("*24.3.4-0000000035959599 \r") == READ(26, 1, 1, 0) && list[0].size == 12959999);
+    CHECK(reading("*24.3.4+0000000036000000 \r") == ANSWER(10, 1));
+    CHECK(reading("*24.3.4+0000000100000000 \r") == ANSWER(10, 1));
+    CHECK(reading("*24.3.4+0000000000000600 \r") == ANSWER(10, 1));
+    CHECK(reading("*31..00-9999999999999999 \r") == READ(26, 1, 1, 0) && list[0].size == 9999999999999999);
+}
+
+static void check_writer(void)
+{
+    uint8_t room[800];
+    ref_word right, r;
+    ref_word many[33];
+
+#define REFUSED(wide, change) \
+    do { \
+        r = right; \
+        change; \
+        CHECK(ref_write(&r, 1, wide, 0, room, sizeof room) == ANSWER(13, 0)); \
+    } while (0)
+#define WRITTEN(wide, change) \
+    do { \
+        r = right; \
+        change; \
+        CHECK(ref_write(&r, 1, wide, 0, room, sizeof room) == ANSWER(0, (wide) ? 26 : 17)); \
+    } while (0)
+
+    CHECK(ref_write(list, 0, 0, 0, room, sizeof room) == ANSWER(12, 0));
+    CHECK(ref_write(list, 33, 0, 0, room, 0) == ANSWER(12, 0));
+
+    CHECK(reading("31..00+00000001 \r") == READ(17, 1, 0, 0));
+    right = list[0];
+    for (size_t i = 0; i < 33; i++)
+        many[i] = right;
+    CHECK(ref_write(many, 32, 0, 0, room, 512) == ANSWER(14, 513));
+    CHECK(ref_write(many, 32, 1, UINT64_C(1) << 32, room, 0) == ANSWER(14, 771));
+    many[31].mm = 1;
+    CHECK(ref_write(many, 32, 0, 0, room, 0) == ANSWER(13, 31));
+    many[3].text[15] = 1;
+    CHECK(ref_write(many, 32, 0, 0, room, 0) == ANSWER(13, 3));
+
+    WRITTEN(0, r.size = 99999999);
+    REFUSED(0, r.size = 100000000);
+    WRITTEN(1, r.size = 9999999999999999);
+    REFUSED(1, r.size = 10000000000000000);
+    WRITTEN(0, r.minus = 1);
+    REFUSED(0, r.minus = 2);
+    REFUSED(0, r.minus = 1; r.size = 0);
+    REFUSED(0, r.mm_minus = 1);
+    REFUSED(0, r.mm = 1);
+    REFUSED(0, r.text[0] = 33);
+    REFUSED(0, r.index = 131);
+    REFUSED(0, r.index = 35);
+    REFUSED(0, r.info[3] = '2');
+
+    CHECK(reading("51..1.+0009+001 \r") == READ(17, 1, 0, 0));
+    right = list[0];
+    WRITTEN(0, r.size = 9999; r.mm = 999);
+    REFUSED(0, r.size = 10000);
+    WRITTEN(1, r.size = 999999999999);
+    REFUSED(1, r.size = 1000000000000);
+    REFUSED(0, r.mm = 1000);
+    WRITTEN(0, r.mm_minus = 1);
+    REFUSED(0, r.mm_minus = 1; r.mm = 0);
+    REFUSED(0, r.mm_minus = 2);
+    REFUSED(0, r.minus = 1; r.size = 0);
+
+    CHECK(reading("21.324+27952530 \r") == READ(17, 1, 0, 0));
+    right = list[0];
+    WRITTEN(0, r.size = 12959999);
+    CHECK(memcmp(room, "21.324+35959599 \r", 17) == 0);
+    REFUSED(0, r.size = 12960000);
+    REFUSED(1, r.size = 12960000);
+
+    CHECK(reading("13..12+ABCDEFGH \r") == READ(17, 1, 0, 0));
+    right = list[0];
+    WRITTEN(0, (void)0);
+    REFUSED(1, (void)0);
+    REFUSED(0, r.text[8] = 'I');
+    REFUSED(0, r.text[7] = 0);
+    REFUSED(0, r.size = 1);
+    REFUSED(0, r.minus = 1);
+    REFUSED(0, r.mm_minus = 1);
+    WRITTEN(1, memcpy(r.text, "!~!~!~!~!~!~!~!~", 16));
+    REFUSED(0, memcpy(r.text, "!~!~!~!~!~!~!~!~", 16));
+#undef REFUSED
+#undef WRITTEN
+}
+
+/* Lines */
+
+static uint8_t image[1039];
+static uint8_t reply[400];
+
+static void fresh(void)
+{
+    memset(image, 0x77, sizeof image);
+    CHECK(ref_factory(image, sizeof image) == 0);
+}
+
+/* Plays one line; checks that only what was told is written, and that a refused line alters no byte of the state. */
+static uint64_t play_in(const char *line, size_t m, size_t room)
+{
+    uint8_t before[1039];
+    uint64_t got;
+    size_t told;
+    memcpy(before, image, sizeof image);
+    memset(reply, 0x5A, sizeof reply);
+    got = ref_line(image, sizeof image, (const uint8_t *)line, m, reply, room);
+    told = (size_t)(got & 0xFFFFFFFF);
+    CHECK(told <= room);
+    for (size_t i = told; i < sizeof reply; i++)
+        if (reply[i] != 0x5A) {
+            CHECK(!"reply room beyond the reply is untouched");
+            break;
+        }
+    if (got >> 32) {
+        CHECK(memcmp(before, image, sizeof image) == 0);
+        if (told)
+            CHECK((told == 6 && memcmp(reply, "@W127\r", 6) == 0) || (told == 7 && memcmp(reply, "@W127\r\n", 7) == 0));
+    }
+    return got;
+}
+
+/* Plays the line with CR LF and answers the number. */
+static unsigned play(const char *body)
+{
+    char line[400];
+    size_t n = strlen(body);
+    memcpy(line, body, n);
+    memcpy(line + n, "\r\n", 2);
+    return (unsigned)(play_in(line, n + 2, 306) >> 32);
+}
+
+static int replied(const char *expected)
+{
+    return memcmp(reply, expected, strlen(expected)) == 0 && reply[strlen(expected)] == 0x5A;
+}
+
+static void check_proved_lines(void)
+{
+    char line[120] = "GET/I";
+    size_t n = 5;
+
+    /* P8 */
+    fresh();
+    CHECK(play("SET/40/2") == 0 && replied("?\r\n"));
+    fresh();
+    CHECK(play("SET/40/3") == 24 && replied("@W127\r\n"));
+    fresh();
+    CHECK(play("SET/33/0") == 23);
+    /* P9 */
+    fresh();
+    CHECK(play("CONF/70") == 0 && replied("0070/0005\r\n"));
+    /* P10 */
+    fresh();
+    CHECK(play("GET/I/WI88") == 27);
+    /* P11 */
+    fresh();
+    CHECK(play("UNDO") == 29);
+
+    /* "64 times SET/30/1, then one more: 28; after UNDO it is accepted." */
+    fresh();
+    for (int i = 0; i < 64; i++)
+        CHECK(play("SET/30/1") == 0);
+    CHECK(play("SET/30/1") == 28);
+    /* With 64 entries a wrong SET or PUT keeps its own number; the others go on. */
+    CHECK(play("SET/30/2") == 24 && play("SET/31/0") == 23 && play("PUT/12....+00000000 ") == 25);
+    CHECK(play("PUT/88...2+00000000 ") == 26 && play("PUT/88...0+00000000 ") == 28);
+    CHECK(play("CONF/30") == 0 && replied("0030/0001\r\n") && play("GET/I/WI88") == 27);
+    CHECK(play("UNDO") == 0 && play("SET/30/1") == 0 && play("SET/30/1") == 28);
+    for (int i = 0; i < 64; i++)
+        CHECK(play("UNDO") == 0);
+    CHECK(play("UNDO") == 29 && play("CONF/30") == 0 && replied("0030/0000\r\n"));
+    {
+        uint8_t now[1039];
+        memcpy(now, image, sizeof now);
+        fresh();
+        CHECK(memcmp(now, image, sizeof now) == 0);
+    }
+    for (int i = 0; i < 64; i++)
+        CHECK(play("SET/30/1") == 0);
+    CHECK(play("KEEP") == 0 && play("KEEP") == 0 && play("UNDO") == 29 && play("SET/30/1") == 0);
+
+    /* "GET/I with 19 indexes is 100 characters, reply 306 bytes; 20 indexes: 21." */
+    fresh();
+    CHECK(play("PUT/88...0+00001550 ") == 0);
+    for (int i = 0; i < 19; i++, n += 5)
+        memcpy(line + n, "/WI88", 5);
+    memcpy(line + n, "\r", 1);
+    CHECK(n == 100 && play_in(line, n + 1, 305) == ANSWER(30, 0));
+    CHECK(play_in(line, n + 1, 306) == ANSWER(0, 306));
+    for (int i = 0; i < 19; i++)
+        CHECK(memcmp(reply + i * 16, "88..10+00001550 ", 16) == 0);
+    CHECK(memcmp(reply + 304, "\r\n", 2) == 0);
+    memcpy(line + n, "/WI88\r", 6);
+    CHECK(play_in(line, n + 6, 306) == ANSWER(21, 7));
+}
+
+static void check_line_slips(void)
+{
+    char line[160];
+
+    fresh();
+    /* 20 before 21; the ends of a line. */
+    memset(line, 'A', sizeof line);
+    CHECK(play_in(line, 150, 306) == ANSWER(20, 7));
+    line[101] = '\r';
+    CHECK(play_in(line, 102, 306) == ANSWER(21, 7));
+    line[100] = '\r';
+    CHECK(play_in(line, 101, 306) == ANSWER(22, 7));
+    CHECK(play_in(line, 102, 306) == ANSWER(20, 7));
+    line[101] = '\n';
+    CHECK(play_in(line, 102, 306) == ANSWER(22, 7));
+    CHECK(play_in("", 0, 306) == ANSWER(20, 7));
+    CHECK(play_in("\r", 1, 306) == ANSWER(22, 7));
+    CHECK(play_in("\r\n", 2, 306) == ANSWER(22, 7));
+    CHECK(play_in("\n", 1, 306) == ANSWER(20, 7));
+    CHECK(play_in("KEEP\n", 5, 306) == ANSWER(20, 7));
+    CHECK(play_in("KEEP\n\r", 6, 306) == ANSWER(20, 7));
+    CHECK(play_in("KEEP\r\r", 6, 306) == ANSWER(20, 7));
+    CHECK(play_in("KEEP\r\n\n", 7, 306) == ANSWER(20, 7));
+    CHECK(play_in("KEEP\rKEEP\r", 10, 306) == ANSWER(20, 7));
+    CHECK(play_in("KEEP", 4, 306) == ANSWER(20, 7));
+    CHECK(play_in("KEEP\r", 5, 306) == ANSWER(0, 3));
+    CHECK(play_in("KEEP\r\n", 6, 306) == ANSWER(0, 3));
+
+    /* Shapes and numbers. */
+    CHECK(play("SET/030/0") == 22 && play("SET/30/00") == 22 && play("SET/00/0") == 22 && play("CONF/00030") == 22);
+    CHECK(play("SET/12345/0") == 22 && play("SET/30/12345") == 22 && play("CONF/12345") == 22 && play("CONF/030") == 22);
+    CHECK(play("SET/30") == 22 && play("SET/30/") == 22 && play("SET//0") == 22 && play("SET/30/0 ") == 22);
+    CHECK(play("SET/30/0/0") == 22 && play("CONF/") == 22 && play("CONF/70/5") == 22 && play("set/30/0") == 22);
+    CHECK(play(" KEEP") == 22 && play("KEEP ") == 22 && play("UNDO/") == 22 && play("Keep") == 22);
+    CHECK(play("SET/30/9999") == 24 && play("SET/0/0") == 23 && play("SET/9999/9999") == 23 && play("SET/30/0") == 0);
+    CHECK(play("CONF/0") == 23 && play("CONF/9999") == 23 && play("CONF/137") == 23 && play("CONF/136") == 0);
+    CHECK(replied("0136/0000\r\n"));
+    CHECK(play("GET/I") == 22 && play("GET/I/") == 22 && play("GET/I/WI8") == 22 && play("GET/I/WI8x") == 22);
+    CHECK(play("GET/M/WI88") == 22 && play("GET/I/WI88/") == 22 && play("GET/I/WI12/WI8x") == 22);
+
+    /* PUT's shape is any 16 bytes; 25 before 26. */
+    CHECK(play("PUT/88...0+00001550") == 22 && play("PUT/88...0+00001550  ") == 22 && play("PUT/") == 22);
+    CHECK(play("PUT/88...0+00001550x") == 26 && play("PUT/xx...0+00001550 ") == 25 && play("PUT/82...0+0000155xx") == 25);
+    CHECK(play("PUT/88..10+00001550 ") == 26 && play("PUT/88...6+00001550 ") == 26 && play("PUT/88...1+00001550 ") == 0);
+    CHECK(play("PUT/11...0+00001550 ") == 26 && play("PUT/110000+00001550 ") == 26 && play("PUT/11....+A-~!*x.0 ") == 0);
+    CHECK(play("PUT/16....-00001550 ") == 26 && play("PUT/16..1.+00001550 ") == 26);
+    CHECK(play("PUT/21...5+00001550 ") == 26 && play("PUT/21...2-39999999 ") == 0 && play("PUT/21...2+40000000 ") == 26);
+    CHECK(play("PUT/21...3+36000000 ") == 26 && play("PUT/21...4+36000000 ") == 26 && play("PUT/21...4+35959599 ") == 0);
+    CHECK(play("PUT/24...4+00060000 ") == 26 && play("PUT/83...0-00000000 ") == 26 && play("PUT/83...0+00000000 ") == 0);
+
+    /* GET: "its first index by 25 then 27, then the next likewise" */
+    CHECK(play("GET/I/WI21/WI11/WI21") == 0 && replied("21..14+35959599 11....+A-~!*x.0 21..14+35959599 \r\n"));
+    CHECK(play("GET/I/WI84/WI12") == 27 && play("GET/I/WI12/WI84") == 25 && play("GET/I/WI83/WI12/WI84") == 25);
+    CHECK(play("GET/I/WI22") == 25 && play("GET/I/WI31") == 25 && play("GET/I/WI51") == 25 && play("GET/I/WI58") == 25);
+    CHECK(play("GET/I/WI81") == 25 && play("GET/I/WI82") == 25 && play("GET/I/WI00") == 25);
+
+    /* "restoring "never put" too" */
+    fresh();
+    CHECK(play("PUT/88...0+00001550 ") == 0 && play("UNDO") == 0 && play("GET/I/WI88") == 27);
+
+    /* "Each reply ends as setting 73 said before the line" */
+    fresh();
+    CHECK(play("SET/73/0") == 0 && replied("?\r\n"));
+    CHECK(play("CONF/73") == 0 && replied("0073/0000\r"));
+    CHECK(play("CONF/74") == 23 && replied("@W127\r"));
+    CHECK(play("UNDO") == 0 && replied("?\r"));
+    CHECK(play("CONF/73") == 0 && replied("0073/0001\r\n"));
+    CHECK(play("UNDO") == 29 && replied("@W127\r\n"));
+
+    /* 30 measures the reply that would be given, and fits at exactly its length. */
+    CHECK(play_in("UNDO\r", 5, 6) == ANSWER(30, 0) && play_in("UNDO\r", 5, 7) == ANSWER(29, 7));
+    CHECK(play_in("SET/30/1\r", 9, 2) == ANSWER(30, 0) && play_in("SET/30/1\r", 9, 3) == ANSWER(0, 3));
+    CHECK(play_in("UNDO\r", 5, 3) == ANSWER(0, 3) && play_in("KEEP\r", 5, 2) == ANSWER(30, 0));
+    CHECK(play_in("CONF/70\r", 8, 10) == ANSWER(30, 0) && play_in("CONF/70\r", 8, 11) == ANSWER(0, 11));
+
+    /* "Settings don't affect one another", nor a value's unit. */
+    fresh();
+    CHECK(play("SET/40/2") == 0 && play("PUT/21...2+10000000 ") == 0 && play("GET/I/WI21") == 0);
+    CHECK(replied("21..12+10000000 \r\n"));
+}
+
+/* Bytes that aren't a state, and a state's entries. */
+static void check_states(void)
+{
+    static uint8_t longer[1040];
+    uint8_t whole[1039];
+
+    CHECK(ref_image_size() == 1039);
+    CHECK(ref_factory(longer, 1038) == ANSWER(31, 0) && ref_factory(longer, 1040) == ANSWER(31, 0));
+    CHECK(ref_factory(longer, 0) == ANSWER(31, 0) && longer[0] == 0);
+
+    fresh();
+    CHECK(play("PUT/88...0+00001550 ") == 0 && play("SET/70/1") == 0);
+    memcpy(whole, image, sizeof whole);
+    CHECK(ref_line(image, 1038, (const uint8_t *)"KEEP\r", 5, reply, 306) == ANSWER(31, 0));
+    /* 31 comes before all others. */
+    CHECK(ref_line(image, 1038, (const uint8_t *)"KEEP", 4, reply, 0) == ANSWER(31, 0));
+    CHECK(image[0] == 1 && image[9] == 1 && image[130] == 1 && image[131] == '0' && image[142] == 2);
+    CHECK(image[143] == 2 && image[144] == 10 && memcmp(image + 145, "\0\0\0\0\0\0\0\0\0\0\0", 12) == 0);
+    CHECK(image[157] == 1 && image[158] == 8 && image[159] == 5);
+#define NO_STATE(change) \
+    do { \
+        memcpy(image, whole, sizeof whole); \
+        change; \
+        CHECK(play("KEEP") == 31); \
+        CHECK(ref_sheet_write(image, sizeof image, reply, 0) == ANSWER(31, 0)); \
+        CHECK(ref_sheet_load(image, sizeof image, reply, 0) == ANSWER(31, 0)); \
+    } while (0)
+    NO_STATE(image[0] = 0);
+    NO_STATE(image[1] = 2);
+    NO_STATE(image[20] = 1);
+    NO_STATE(image[21] = 1);
+    NO_STATE(image[132] = 2);
+    NO_STATE(image[131] = '2');
+    NO_STATE(memcpy(image + 133, "00000000", 8); image[132] = 1);
+    NO_STATE(image[141] = 1);
+    NO_STATE(image[142] = 1);
+    NO_STATE(image[142] = 3);
+    NO_STATE(image[142] = 65);
+    NO_STATE(image[143] = 0);
+    NO_STATE(image[143] = 3);
+    NO_STATE(image[144] = 9);
+    NO_STATE(image[145] = 1);
+    NO_STATE(image[158] = 19);
+    NO_STATE(image[159] = 6);
+    NO_STATE(image[160] = 1);
+    NO_STATE(memset(image + 130, 0, 11));
+    NO_STATE(image[1038] = 1);
+#undef NO_STATE
+    memcpy(image, whole, sizeof whole);
+    CHECK(play("UNDO") == 0 && play("UNDO") == 0 && play("UNDO") == 29);
+}
+
+/* Sheets */
+
+static const char example[] =
+    "series=TPS100\ns30=1\ns32=0\ns34=0\ns40=0\ns41=0\ns44=0\ns49=0\ns50=0\ns70=5\ns71=0\ns73=1\ns76=0\ns80=0\ns81=0\n"
+    "s95=0\ns102=0\ns103=1\ns135=0\ns136=0\nv11=\nv16=\nv21=\nv24=\nv34=\nv83=\nv84=\nv85=\nv86=\nv87=\nv88=88..10+00001550\n";
+
+static uint64_t load(const char *sheet, size_t n)
+{
+    uint8_t before[1039];
+    uint64_t got;
+    memcpy(before, image, sizeof image);
+    got = ref_sheet_load(image, sizeof image, (const uint8_t *)sheet, n);
+    if (got >> 32)
+        CHECK(memcmp(before, image, sizeof image) == 0);
+    return got;
+}
+
+/* Loads the example with the part from `at` of so many bytes replaced. */
+static uint64_t load_with(size_t at, size_t gone, const char *instead)
+{
+    char sheet[500];
+    size_t n = sizeof example - 1, added = strlen(instead);
+    memcpy(sheet, example, at);
+    memcpy(sheet + at, instead, added);
+    memcpy(sheet + at + added, example + at + gone, n - at - gone);
+    return load(sheet, n - gone + added);
+}
+
+/* Runs a text as program sheet does: "cuts after each CR (with LF if next)", "a last piece without CR included". */
+static void run(const char *text)
+{
+    size_t n = strlen(text), from = 0;
+    while (from < n) {
+        size_t to = from;
+        while (to < n && text[to] != '\r')
+            to++;
+        if (to < n)
+            to++;
+        if (to < n && text[to] == '\n')
+            to++;
+        play_in(text + from, to - from, 306);
+        from = to;
+    }
+}
+
+static void check_sheets(void)
+{
+    uint8_t sheet[400];
+    size_t n = sizeof example - 1, at;
+
+    /* The example of program sheet. */
+    fresh();
+    run("SET/30/1\r\nPUT/88...0+00001550 \r\nSET/40/2\r\nUNDO\r\n");
+    memset(sheet, 0x5A, sizeof sheet);
+    CHECK(ref_sheet_write(image, sizeof image, sheet, n - 1) == ANSWER(30, 0) && sheet[0] == 0x5A);
+    CHECK(n == 202 && ref_sheet_write(image, sizeof image, sheet, sizeof sheet) == ANSWER(0, 202));
+    CHECK(memcmp(sheet, example, n) == 0 && sheet[n] == 0x5A);
+    /* A last piece without CR is a line, which 20 refuses. */
+    run("SET/40/2\rKEEP");
+    CHECK(play("CONF/40") == 0 && replied("0040/0002\r\n"));
+
+    /* "187 to 352 bytes" */
+    fresh();
+    CHECK(ref_sheet_write(image, sizeof image, sheet, 187) == ANSWER(0, 187));
+    run("PUT/11....+00000000 \rPUT/16....+00000000 \rPUT/21...2+00000000 \rPUT/24...3-00000001 \rPUT/34...0+00000000 \r"
+        "PUT/83...0+00000000 \rPUT/84...0+00000000 \rPUT/85...0+00000000 \rPUT/86...0+00000000 \rPUT/87...0+00000000 \r"
+        "PUT/88...1+00000000 \r");
+    CHECK(ref_sheet_write(image, sizeof image, sheet, 351) == ANSWER(30, 0));
+    CHECK(ref_sheet_write(image, sizeof image, sheet, 352) == ANSWER(0, 352));
+    CHECK(load((const char *)sheet, 352) == 0 && play("UNDO") == 29 && play("GET/I/WI24") == 0);
+    CHECK(replied("24..13-00000001 \r\n"));
+
+    /* Loading empties the undo list, in mid-trial too. */
+    CHECK(play("SET/30/1") == 0 && load(example, n) == 0 && play("UNDO") == 29 && play("GET/I/WI24") == 27);
+    CHECK(play("GET/I/WI88") == 0 && replied("88..10+00001550 \r\n"));
+
+    /* Cut at each length: the start of the line that isn't whole. */
+    at = 0;
+    for (size_t cut = 0; cut < n; cut++) {
+        CHECK(load(example, cut) == ANSWER(40, at));
+        if (example[cut] == '\n')
+            at = cut + 1;
+    }
+    CHECK(load_with(n, 0, "x") == ANSWER(40, n));
+    CHECK(load_with(n, 0, "\n") == ANSWER(40, n));
+    CHECK(load_with(13, 0, "\r") == ANSWER(40, 0));
+    CHECK(load_with(14, 5, "s30=01") == ANSWER(40, 14));
+    CHECK(load_with(14, 5, "s30=2") == ANSWER(40, 14));
+    CHECK(load_with(14, 6, "") == ANSWER(40, 14));
+    CHECK(load_with(14, 0, "s30=1\n") == ANSWER(40, 20));
+    CHECK(load_with(14, 12, "s32=0\ns30=1\n") == ANSWER(40, 14));
+    CHECK(load_with(n - 16, 15, "88...0+00001550") == ANSWER(40, n - 20));
+    CHECK(load_with(n - 16, 15, "88..10-00000000") == ANSWER(40, n - 20));
+    CHECK(load_with(n - 16, 15, "88..16+00000000") == ANSWER(40, n - 20));
+    CHECK(load_with(n - 16, 15, "87..10+00000000") == ANSWER(40, n - 20));
+    CHECK(load_with(n - 16, 15, "88..11-00000001") == 0);
+    CHECK(load_with(n - 16, 15, "") == 0 && play("GET/I/WI88") == 27);
+}
+
+int main(void)
+{
+    check_proved_blocks();
+    check_block_slips();
+    check_writer();
+    check_proved_lines();
+    check_line_slips();
+    check_states();
+    check_sheets();
+    if (failures == 0)
+        printf("ok\n");
+    return failures != 0;
+}
