@@ -7,3 +7,4 @@ pub mod Determined
 pub mod Steps
 pub mod Rooms
 pub mod Composes
+pub mod Wrong
