@@ -4,10 +4,10 @@ use Prim.Native.Nat.{ℕ}
 use mathlib.Core.Path.{_≡_}
 use mathlib.Core.Bool.{Bool, true, false}
 use mathlib.Core.List.{List, [], _∷_, map}
-use Rattle.words.specs.Counts.{whole}
+use Rattle.units.specs.Counts.{whole}
 use Rattle.words.specs.Records.{typedOf}
-use Rattle.words.specs.declared.counts.Count.{Count}
-use Rattle.words.specs.declared.counts.Count.the-variants.{Text, Gon, Tenth, Metre, Feet, Pair}
+use Rattle.units.specs.declared.counts.Count.{Count}
+use Rattle.units.specs.declared.counts.Count.the-variants.{Text, Gon, Tenth, Metre, Feet, Pair}
 use Rattle.words.specs.declared.reading.Fault.the-variants.{Value, Information}
 use Rattle.blocks.specs.Judging.{judged}
 use Rattle.state.specs.Entries.{factoryState}

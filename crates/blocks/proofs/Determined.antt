@@ -8,7 +8,7 @@ use Rattle.figures.specs.Promises.{Determined}
 use Rattle.figures.proofs.Determined.{by-equation, by-two}
 use Rattle.words.specs.declared.records.Word.{Word}
 use Rattle.blocks.specs.Answers.{refusalNumber, refusalTells}
-use Rattle.blocks.specs.Judging.{judged, filled, noBlock, keptOf}
+use Rattle.blocks.specs.Judging.{judged, filled, keptOf}
 use Rattle.blocks.specs.Composing.{written, listOf, Writes}
 use Rattle.blocks.specs.Lists.{Reads, gathered}
 use Rattle.blocks.specs.declared.answers.Refusal.{Refusal}
@@ -22,9 +22,6 @@ refusal-number-determined = by-equation Refusal ℕ refusalNumber
 
 pub refusal-tells-determined : Determined Refusal ℕ (λ i r. r ≡ refusalTells i)
 refusal-tells-determined = by-equation Refusal ℕ refusalTells
-
-pub no-block-determined : Determined (Unit {0}) Block (λ i r. r ≡ noBlock)
-no-block-determined = by-equation (Unit {0}) Block (λ i. noBlock)
 
 pub judge-determined : Determined (List ℕ × ℕ) Judgement (λ i r. r ≡ keptOf (judged (i .0) (i .1)))
 judge-determined = by-equation (List ℕ × ℕ) Judgement (λ i. keptOf (judged (i .0) (i .1)))

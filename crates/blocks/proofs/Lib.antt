@@ -8,3 +8,4 @@ pub mod Steps
 pub mod Rooms
 pub mod Composes
 pub mod Wrong
+pub mod Enough

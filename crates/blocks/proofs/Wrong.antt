@@ -1,11 +1,12 @@
 -- Readers that the promise of `read` shuts out, as theorems: one that refuses everything, one that gives one answer for all, one that touches
 -- nothing, and one that makes up a word count or the bytes used. Assumes nothing.
 use mathlib.Core.Path.{_≡_, refl, sym, _∙_, ap}
-use mathlib.Core.Bool.{true, false}
+use mathlib.Core.Bool.{false}
 use mathlib.Core.List.{List, [], _∷_}
 use Prim.Native.Nat.{ℕ}
 use native.Mathlib.Omega.{arith}
-use lib.ListN.{length, getD, take}
+use lib.ListN.{length, getD}
+use lib.Seq.{length-take-le}
 use Rattle.figures.specs.Bytes.{among, every}
 use Rattle.figures.specs.Decimal.{numberFrom}
 use Rattle.words.specs.Records.{blank}
@@ -13,7 +14,6 @@ use Rattle.words.specs.declared.records.Word.{Word}
 use Rattle.blocks.specs.Judging.{judged, filled, blockFrom}
 use Rattle.blocks.specs.Composing.{blockBytes}
 use Rattle.blocks.specs.Lists.{Reads}
-use Rattle.blocks.specs.Rules.{readAs}
 use Rattle.blocks.specs.declared.answers.Refusal.{Refusal}
 use Rattle.blocks.specs.declared.answers.Reading.{Reading}
 use Rattle.blocks.specs.declared.answers.Answer.{Answer}
@@ -67,9 +67,18 @@ touches-nothing f all keeps =
     let z : _≡_ {A = ℕ} 0 213159 = ap (λ (l : List Word). getD l 0 blank .size) same ∙ stored in
     omega arith
 
--- the word count and the bytes used are the block's own: one that makes up either does not keep the promise
+-- the word count and the bytes used are the block's own
 pub counts-words : (f : Reader) → Keeps f → (s : List ℕ) (list : List Word) (r : Reading) → f s list .0 ≡ Read r
-    → (r .words ≡ length (judged s (length list) .words)) × (blockBytes (r .wide) (r .crlf) (judged s (length list) .words) ≡ take (r .used) s)
+    → (r .words ≡ length (judged s (length list) .words)) × (r .used ≡ length (blockBytes (r .wide) (r .crlf) (judged s (length list) .words)))
 counts-words f keeps s list r e =
     let a : Accepted s (length list) r (judged s (length list) .words) = accepted s (length list) r (judged s (length list) .words) (λ i. record { answer = (sym (keeps s list .0) ∙ e) i; words = judged s (length list) .words }) in
-    (a .counted, a .bytes)
+    (a .counted, sym (ap length (a .bytes) ∙ length-take-le (r .used) s (a .within)))
+
+-- one that makes up a word count, or the bytes used
+pub invents-words : (f : Reader) (s : List ℕ) (list : List Word) (r : Reading) → f s list .0 ≡ Read r → (r .words ≡ length (judged s (length list) .words) → ⊥)
+    → Keeps f → ⊥
+invents-words f s list r e other keeps = other (counts-words f keeps s list r e .0)
+
+pub invents-bytes : (f : Reader) (s : List ℕ) (list : List Word) (r : Reading) → f s list .0 ≡ Read r
+    → (r .used ≡ length (blockBytes (r .wide) (r .crlf) (judged s (length list) .words)) → ⊥) → Keeps f → ⊥
+invents-bytes f s list r e other keeps = other (counts-words f keeps s list r e .1)

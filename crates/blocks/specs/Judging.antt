@@ -1,6 +1,6 @@
 -- "A block is an optional `*`, 1 to 32 words, then CR or CR LF .. Words are judged left to right."
-use Prim.Native.Nat.{ℕ, zero, suc, _+_, _-_}
-use mathlib.Core.Bool.{Bool, true, false, cond}
+use Prim.Native.Nat.{ℕ, zero, suc, _+_}
+use mathlib.Core.Bool.{Bool, false, cond}
 use mathlib.Core.List.{List, [], _∷_, _++_}
 use lib.Dec.{eqb, leb, ltb}
 use lib.ListN.{length, getD, drop, replicate}
@@ -13,7 +13,6 @@ use Rattle.words.specs.declared.reading.Judged.the-variants.{Right}
 use Rattle.words.specs.declared.reading.OneWord.{OneWord}
 use Rattle.blocks.specs.declared.answers.Refusal.{Refusal}
 use Rattle.blocks.specs.declared.answers.Refusal.the-variants.{Empty, Wrong, NoWord, NoEnd, NoPlace}
-use Rattle.blocks.specs.declared.answers.Reading.{Reading}
 use Rattle.blocks.specs.declared.answers.Answer.{Answer}
 use Rattle.blocks.specs.declared.answers.Answer.the-variants.{Refused, Read}
 use Rattle.blocks.specs.declared.judging.Block.{Block}

@@ -39,7 +39,7 @@ pub struct Stepped {
 }
 
 // The block of no records.
-pub fn no_block() -> Block
+pub(crate) fn no_block() -> Block
     ensures { λ r. ⌜ r ≡ noBlock ⌝ }
 {
     let w = blank_word();

@@ -1,6 +1,6 @@
 -- Laws of decimal digits: a number and its digits say each other.
 use Prim.Native.Nat.{ℕ, zero, suc, _+_, _-_, _*_, _/_, _%_, _^_, _<_, _≤_}
-use mathlib.Core.Path.{_≡_, refl, ap, _∙_}
+use mathlib.Core.Path.{_≡_, refl, _∙_}
 use mathlib.Core.Bool.{true, and-eq-true-iff}
 use mathlib.Core.List.{List, [], _∷_, _++_, append-nil}
 use native.Mathlib.Nat.{add-zero, zero-add, pow-suc, pow-succ', mul-assoc, mul-le-mul-right, lt-of-lt-of-le, one-mul, div-lt-iff-lt-mul, pow-le-pow-right}

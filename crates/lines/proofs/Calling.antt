@@ -10,11 +10,11 @@ use lib.ListN.{length, take}
 use lib.Seq.{length-take-le}
 use Rattle.figures.specs.Bytes.{laid}
 use Rattle.state.specs.Entries.{entriesN}
-use Rattle.state.specs.Image.{imageN, imageOf, encodedIn, stateIn, isImage, decodeOf}
+use Rattle.state.specs.Image.{imageN, imageOf, encodedIn, stateIn, decodeOf}
 use Rattle.state.specs.declared.entries.State.{State}
 use Rattle.state.specs.declared.image.Known.the-variants.{Not, Is}
 use Rattle.state.specs.declared.image.Decoded.{Decoded}
-use Rattle.state.proofs.Images.{image-of}
+use Rattle.state.proofs.Images.{image-of, decoded-is, decoded-not}
 use Rattle.lines.specs.Shapes.{fromEnd, endOf, textOf, isPlain, isEnded, orderOf}
 use Rattle.lines.specs.Verdicts.{isAccepted, orderVerdict}
 use Rattle.lines.specs.Orders.{doneOf}
@@ -58,7 +58,7 @@ end-in (x ∷ y ∷ l) = omega (arith, two (eqb (fromEnd 1 (x ∷ y ∷ l)) 13) 
     two false true = omega arith
     two false false = omega arith
 
-accepted-is : (v : Verdict) → isAccepted v ≡ true → v ≡ Accepted
+pub accepted-is : (v : Verdict) → isAccepted v ≡ true → v ≡ Accepted
 accepted-is Accepted e = refl
 accepted-is Unended e = absurd (false≢true e)
 accepted-is Long e = absurd (false≢true e)
@@ -127,32 +127,20 @@ module _ (s : State) (line : List ℕ) where
 
 -- the image
 
-decoded-by : (b : Bool) (s t : State) (d : Decoded) → d ≡ cond b (record { answer = Is; state = s }) (record { answer = Not; state = t }) → d .answer ≡ Is
-    → (b ≡ true) × (d .state ≡ s)
-decoded-by true s t d e q = (refl, ap (λ (x : Decoded). x .state) e)
-decoded-by false s t d e q = let z : _≡_ {A = ℕ} 0 1 = cc (ap (λ (x : Decoded). x .answer) e) in absurd (omega arith)
-
-none-by : (b : Bool) (s t : State) (d : Decoded) → d ≡ cond b (record { answer = Is; state = s }) (record { answer = Not; state = t }) → d .answer ≡ Not → b ≡ false
-none-by true s t d e q = let z : _≡_ {A = ℕ} 0 1 = cc (ap (λ (x : Decoded). x .answer) e) in absurd (omega arith)
-none-by false s t d e q = refl
-
 module _ (image : List ℕ) (d : Decoded) (e : d ≡ decodeOf image) where
-  decoded : d .answer ≡ Is → (isImage image ≡ true) × (d .state ≡ stateIn image)
-  decoded q = decoded-by (isImage image) (stateIn image) _ d e q
-
   pub decoded-few : d .answer ≡ Is → d .state .count ≤ entriesN
   decoded-few q =
-      let h = decoded q in
+      let h = decoded-is image d e q in
       let few = leb-true (stateIn image .count) entriesN (and-eq-true-iff (leb (stateIn image .count) entriesN) _ .0 (image-of image (h .0) .0) .0) in
       rw (h .1) few
 
   pub call-none : d .answer ≡ Not → (line room : List ℕ) → Calls image line room (told NoState 0) image room
-  call-none q line room = rw (none-by (isImage image) (stateIn image) _ d e q) (refl, (refl, refl))
+  call-none q line room = rw (decoded-not image d e q) (refl, (refl, refl))
 
   pub call-some : d .answer ≡ Is → (line room : List ℕ) (r : Ran) (image′ room′ : List ℕ) → Ends (d .state) (run (d .state) line) room r room′
       → image′ ≡ encodedIn (r .state) image → Calls image line room (r .told) image′ room′
   call-some q line room r image′ room′ h l =
-      let i = decoded q in
+      let i = decoded-is image d e q in
       let s = stateIn image in
       let f = subst (λ (t : State). Ends t (run t line) room r room′) (i .1) h in
       let is : call image line room ≡ played (step s line (length room)) room = ap (λ (b : Bool). cond b (played (step s line (length room)) room) (record { answer = told NoState 0; image = image; room = room })) (i .0) in

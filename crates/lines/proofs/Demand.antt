@@ -16,7 +16,8 @@ use Rattle.lines.specs.Demand.{Call, contentsOf, after, marks, playAll, 
 use Rattle.lines.specs.declared.shapes.Order.the-variants.{Undo}
 use Rattle.lines.specs.declared.verdicts.Verdict.the-variants.{NoEntry, Room}
 use Rattle.lines.specs.Demand.{Start}
-use Rattle.lines.proofs.Runs.{undo-length, undo-none, none-undone}
+use Rattle.lines.proofs.Shape.{order-undo}
+use Rattle.lines.proofs.Runs.{undo-none, none-undone}
 use Rattle.lines.proofs.Tracks.{Tracks, contents, none-stands, none-counts, tracks}
 
 start-tracks : (s : State) → Start s → (cs : List Call) → Tracks (contentsOf s) (after s cs) (marks s cs [])
@@ -32,7 +33,7 @@ fitting s false o f = absurd (f refl)
 
 undo-verdict : (s : State) (line : List ℕ) → isEnded line ≡ true → orderOf (textOf line) ≡ Undo → lineVerdict s line ≡ undoVerdict (s .count)
 undo-verdict s line ended undo =
-    rw (ended, le-leb (length (textOf line)) 100 (omega (arith, undo-length (textOf line) undo))) (ap (orderVerdict s (textOf line)) undo)
+    rw (ended, le-leb (length (textOf line)) 100 (omega (arith, order-undo (textOf line) undo))) (ap (orderVerdict s (textOf line)) undo)
 
 -- an UNDO whose reply fits is refused exactly when no unstruck SET or PUT stands after the last KEEP
 pub undo-refused : (s : State) → Start s → (cs : List Call) (line : List ℕ) (room : ℕ) → isEnded line ≡ true → orderOf (textOf line) ≡ Undo

@@ -9,10 +9,10 @@ use lib.Dec.{leb}
 use lib.ListN.{length, getD, drop, length-drop}
 use lib.Seq.{getD-drop, drop-drop}
 use Rattle.figures.specs.Decimal.{isDigit}
-use Rattle.words.specs.Kinds.{indexOf}
+use Rattle.units.specs.Kinds.{indexOf}
 use Rattle.state.specs.Rows.{seek}
 use Rattle.state.specs.Settings.{row, rows, settingAt}
-use Rattle.state.specs.Values.{unitsOf, stored, valueAt}
+use Rattle.state.specs.Values.{unitsOf, stored, storedAt, valueAt}
 use Rattle.state.specs.Entries.{settingsN, valuesN}
 use Rattle.state.specs.declared.settings.Row.{Row}
 use Rattle.state.specs.declared.settings.Found.the-variants.{Nothing, At}
@@ -46,16 +46,23 @@ pub setting-in : (n i : ℕ) → settingAt n ≡ At i → i < settingsN
 unfolding rows
 setting-in n i e = found-at (λ (r : Row). r .number) rows (row 0 0 0) n i e .0
 
-value-in : (n i : ℕ) → valueAt n ≡ At i → i < valuesN
+pub value-found : (n i : ℕ) → valueAt n ≡ At i → (i < valuesN) × (storedAt i .index ≡ n)
 unfolding stored
-value-in n i e = found-at (λ (r : Stored). r .index) stored (unitsOf 0 0 0) n i e .0
+value-found n i e = found-at (λ (r : Stored). r .index) stored (unitsOf 0 0 0) n i e
 
-place-by : (b : Bool) (n i : ℕ) → cond b (valueAt n) Nothing ≡ At i → i < valuesN
-place-by true n i e = value-in n i e
-place-by false n i e = let z : _≡_ {A = ℕ} 0 1 = cc in absurd (omega arith)
+pub named : (a b i : ℕ) → placeNamed a b ≡ At i → (isDigit a ≡ true) × (isDigit b ≡ true) × (valueAt (indexOf a b) ≡ At i)
+named a b i e = go (isDigit a) (isDigit b) refl refl e
+  where
+    none : {A : Type 0} → Nothing ≡ At i → A
+    none q = let z : _≡_ {A = ℕ} 0 1 = cc in absurd (omega arith)
+
+    go : (d d′ : Bool) → isDigit a ≡ d → isDigit b ≡ d′ → cond (d && d′) (valueAt (indexOf a b)) Nothing ≡ At i → (isDigit a ≡ true) × (isDigit b ≡ true) × (valueAt (indexOf a b) ≡ At i)
+    go false d′ p p′ e = none e
+    go true false p p′ e = none e
+    go true true p p′ e = (p, p′, e)
 
 pub place-in : (tens ones i : ℕ) → placeNamed tens ones ≡ At i → i < valuesN
-place-in tens ones i e = place-by (isDigit tens && isDigit ones) (indexOf tens ones) i e
+place-in tens ones i e = value-found (indexOf tens ones) i (named tens ones i e .2) .0
 
 -- the groups of GET
 

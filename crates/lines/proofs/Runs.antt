@@ -1,36 +1,31 @@
 -- What a call comes to: the state as it was, or an accepted order that is done; and what acceptance says of a SET, a PUT and an UNDO.
-use Prim.Native.Nat.{ℕ, zero, suc, _+_, _<_, _≤_}
-use mathlib.Core.Path.{_≡_, refl, sym, ap, subst, _∙_}
-use mathlib.Core.Bool.{Bool, true, false, cond, _&&_, false≢true, and-eq-true-iff}
+use Prim.Native.Nat.{ℕ, zero, suc, _<_, _≤_}
+use mathlib.Core.Path.{_≡_, refl}
+use mathlib.Core.Bool.{Bool, true, false, cond, _&&_, and-eq-true-iff}
 use mathlib.Core.List.{List, [], _∷_}
 use native.Mathlib.Omega.{arith}
 use borrow.Author.Tests.{eqb-true, eqb-false, eq-eqb, leb-true, leb-false, lt-leb, le-ltb, ltb-false}
 use lib.Dec.{eqb, leb, ltb}
-use lib.ListN.{length, getD, take, drop}
-use Rattle.figures.specs.Bytes.{startsWith, sameBytes}
-use Rattle.figures.specs.Decimal.{isDigit}
-use Rattle.figures.proofs.Bytes.{same-true}
-use Rattle.words.specs.Kinds.{indexOf}
+use lib.ListN.{length, getD}
+use Rattle.units.specs.Kinds.{indexOf}
 use Rattle.words.specs.Reading.{pos}
 use Rattle.state.specs.Settings.{rows, row, rowAt, settingAt}
-use Rattle.state.specs.Values.{stored, unitsOf, storedAt, valueAt, putRight, putKept, keptRight}
+use Rattle.state.specs.Values.{putRight, putKept, keptRight}
 use Rattle.state.specs.Entries.{settingsN, valuesN, entriesN}
 use Rattle.state.specs.declared.settings.Row.{Row}
 use Rattle.state.specs.declared.settings.Found.{Found}
 use Rattle.state.specs.declared.settings.Found.the-variants.{Nothing, At}
-use Rattle.state.specs.declared.values.Stored.{Stored}
 use Rattle.state.specs.declared.entries.State.{State}
-use Rattle.state.proofs.Seek.{found-at}
 use Rattle.state.proofs.Kept.{put-kept-right}
-use Rattle.lines.specs.Shapes.{isEnded, textOf, orderOf, numberRight, slashAt, groupsRight, groupsIn, set-slash, conf-slash, put-slash, get-i, undo-word, keep-word}
+use Rattle.lines.specs.Shapes.{isEnded, textOf, orderOf}
 use Rattle.lines.specs.Verdicts.{isAccepted, setBy, setVerdict, fullVerdict, placeNamed, putBy, putVerdict, undoVerdict, orderVerdict, lineVerdict}
 use Rattle.lines.specs.Orders.{setOf, putOf, setDone, putDone, doneOf}
 use Rattle.lines.specs.Replies.{replyOf}
 use Rattle.lines.specs.Machine.{Outcome, outcome, step}
-use Rattle.lines.specs.declared.shapes.Order.{Order}
-use Rattle.lines.specs.declared.shapes.Order.the-variants as order
 use Rattle.lines.specs.declared.verdicts.Verdict.{Verdict}
-use Rattle.lines.specs.declared.verdicts.Verdict.the-variants.{Accepted, Unended, Long, Shape, Setting, Parameter, Index, Word, NeverPut, Full, NoEntry, Room, NoState}
+use Rattle.lines.specs.declared.verdicts.Verdict.the-variants.{Accepted, Unended, Long, Parameter, Word, Full, NoEntry, Room}
+use Rattle.lines.proofs.Lookups.{setting-in, value-found, named}
+use Rattle.lines.proofs.Calling.{accepted-is}
 
 pub clash : _≡_ {A = ℕ} 0 1 → ⊥
 clash e = omega arith
@@ -46,28 +41,12 @@ judged false short v e = absurd (clash (cc))
 judged true false v e = absurd (clash (cc))
 judged true true v e = e
 
--- a verdict that isn't 0 is a refusal
-accepted : (v : Verdict) → (isAccepted v ≡ false → ⊥) → v ≡ Accepted
-accepted Accepted f = refl
-accepted Unended f = absurd (f refl)
-accepted Long f = absurd (f refl)
-accepted Shape f = absurd (f refl)
-accepted Setting f = absurd (f refl)
-accepted Parameter f = absurd (f refl)
-accepted Index f = absurd (f refl)
-accepted Word f = absurd (f refl)
-accepted NeverPut f = absurd (f refl)
-accepted Full f = absurd (f refl)
-accepted NoEntry f = absurd (f refl)
-accepted Room f = absurd (f refl)
-accepted NoState f = absurd (f refl)
-
 comes-by : (s : State) (line : List ℕ) (fits : Bool) (v : Verdict) (reply : List ℕ) (b : Bool) → isAccepted v ≡ b
     → (v ≡ Accepted → orderVerdict s (textOf line) (orderOf (textOf line)) ≡ Accepted)
     → Comes s line (cond fits (outcome v reply (cond b (doneOf s (textOf line) (orderOf (textOf line))) s)) (outcome Room [] s))
 comes-by s line false v reply b e f = stays refl refl
 comes-by s line true v reply false e f = stays e refl
-comes-by s line true v reply true e f = runs e (f (accepted v (λ n. false≢true (sym n ∙ e)))) refl
+comes-by s line true v reply true e f = runs e (f (accepted-is v e)) refl
 
 pub comes : (s : State) (line : List ℕ) (room : ℕ) → Comes s line (step s line room)
 comes s line room =
@@ -103,10 +82,6 @@ pub record SetRuns (s : State) (n p : ℕ) : Type 0 where
   pub high : p ≤ rowAt at .highest
   pub free : s .count < entriesN
 
-setting-below : (n i : ℕ) → settingAt n ≡ At i → i < settingsN
-unfolding rows
-setting-below n i e = found-at (λ (r : Row). r .number) rows (row 0 0 0) n i e .0
-
 pub set-runs : (s : State) (n p : ℕ) → setVerdict (s .count) n p ≡ Accepted → SetRuns s n p
 set-runs s n p e = go (settingAt n) refl e
   where
@@ -118,7 +93,7 @@ set-runs s n p e = go (settingAt n) refl e
     go Nothing f e = absurd (clash (cc))
     go (At i) f e =
         let h = low i (ltb (rowAt i .highest) p) refl e in
-        record { at = i; found = f; place = setting-below n i f; high = h .0; free = h .1 }
+        record { at = i; found = f; place = setting-in n i f; high = h .0; free = h .1 }
 
 pub set-done : (s : State) (n p : ℕ) (r : SetRuns s n p) → setDone s n p ≡ setOf s (r .at) p
 set-done s n p r = rw (r .found, lt-leb settingsN (r .at) (r .place), le-ltb 255 p (omega (arith, r .high, rows-high (r .at))), lt-leb entriesN (s .count) (r .free))
@@ -131,18 +106,6 @@ pub record PutRuns (s : State) (word : List ℕ) : Type 0 where
   pub place : at < valuesN
   pub right : length word ≡ 16 → keptRight at (putKept word) ≡ true
   pub free : s .count < entriesN
-
-value-found : (n i : ℕ) → valueAt n ≡ At i → (i < valuesN) × (storedAt i .index ≡ n)
-unfolding stored
-value-found n i e = found-at (λ (r : Stored). r .index) stored (unitsOf 0 0 0) n i e
-
-named : (a b i : ℕ) → placeNamed a b ≡ At i → (isDigit a ≡ true) × (isDigit b ≡ true) × (valueAt (indexOf a b) ≡ At i)
-named a b i e = go (isDigit a) (isDigit b) refl refl e
-  where
-    go : (d d′ : Bool) → isDigit a ≡ d → isDigit b ≡ d′ → cond (d && d′) (valueAt (indexOf a b)) Nothing ≡ At i → (isDigit a ≡ true) × (isDigit b ≡ true) × (valueAt (indexOf a b) ≡ At i)
-    go false d′ p p′ e = absurd (clash (cc))
-    go true false p p′ e = absurd (clash (cc))
-    go true true p p′ e = (p, p′, e)
 
 pub put-runs : (s : State) (word : List ℕ) → putVerdict (s .count) word ≡ Accepted → PutRuns s word
 put-runs s word e = go (placeNamed (pos 1 word) (pos 2 word)) refl e
@@ -180,36 +143,3 @@ undo-none n e = judge (eqb n 0) refl e
 
 pub none-undone : (n : ℕ) → n ≡ 0 → undoVerdict n ≡ NoEntry
 none-undone n e = rw (eq-eqb n 0 e)
-
--- the length of a PUT and of an UNDO
-
-abbrev Sized : List ℕ → Order → Type 0
-Sized t order.Not = Unit {0}
-Sized t (order.Set n p) = Unit {0}
-Sized t (order.Conf n) = Unit {0}
-Sized t order.Put = length t ≡ 20
-Sized t order.Get = Unit {0}
-Sized t order.Undo = length t ≡ 4
-Sized t order.Keep = Unit {0}
-
-either : (P : Order → Type 0) (b : Bool) (x y : Order) → (b ≡ true → P x) → P y → P (cond b x y)
-either P true x y f g = f refl
-either P false x y f g = g
-
-sized : (t : List ℕ) → Sized t (orderOf t)
-sized t =
-    let w = drop 4 t in
-    let numbers = ltb (slashAt w) (length w) && (numberRight (take (slashAt w) w) && numberRight (drop (slashAt w + 1) w)) in
-    let groups = ltb 0 (length (drop 5 t)) && groupsRight (groupsIn (drop 5 t)) (drop 5 t) in
-    either (Sized t) (startsWith set-slash t) _ _ (λ _. either (Sized t) numbers _ _ (λ _. tt) tt)
-    (either (Sized t) (startsWith conf-slash t) _ _ (λ _. either (Sized t) (numberRight (drop 5 t)) _ _ (λ _. tt) tt)
-    (either (Sized t) (startsWith put-slash t) _ _ (λ _. either (Sized t) (eqb (length t) 20) _ _ (eqb-true (length t) 20) tt)
-    (either (Sized t) (startsWith get-i t) _ _ (λ _. either (Sized t) groups _ _ (λ _. tt) tt)
-    (either (Sized t) (sameBytes t undo-word) _ _ (λ e. ap length (same-true t undo-word e))
-    (either (Sized t) (sameBytes t keep-word) _ _ (λ _. tt) tt)))))
-
-pub put-length : (t : List ℕ) → orderOf t ≡ order.Put → length t ≡ 20
-put-length t e = subst (Sized t) e (sized t)
-
-pub undo-length : (t : List ℕ) → orderOf t ≡ order.Undo → length t ≡ 4
-undo-length t e = subst (Sized t) e (sized t)

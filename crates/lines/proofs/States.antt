@@ -18,7 +18,8 @@ use Rattle.lines.specs.declared.shapes.Order.the-variants.{Not, Set, Con
 use Rattle.lines.specs.declared.verdicts.Verdict.the-variants.{Accepted}
 use Rattle.lines.proofs.Parts.{Parts, parts, whole}
 use Rattle.lines.proofs.Lasting.{set-parts, put-parts, undo-parts, keep-parts}
-use Rattle.lines.proofs.Runs.{Comes, stays, runs, comes, set-runs, set-done, put-runs, put-done, put-length}
+use Rattle.lines.proofs.Shape.{order-put}
+use Rattle.lines.proofs.Runs.{Comes, stays, runs, comes, set-runs, set-done, put-runs, put-done}
 
 done-parts : (s : State) (t : List ℕ) (o : Order) → orderOf t ≡ o → orderVerdict s t o ≡ Accepted → Parts s → Parts (doneOf s t o)
 done-parts s t Not e v p = p
@@ -29,7 +30,7 @@ done-parts s t (Conf n) e v p = p
 done-parts s t Put e v p =
     let r = put-runs s (drop 4 t) v in
     subst Parts (sym (put-done s (drop 4 t) r))
-    (put-parts s (r .at) (putKept (drop 4 t)) p (r .free) (r .place) refl (r .right (omega (arith, length-drop 4 t, put-length t e))))
+    (put-parts s (r .at) (putKept (drop 4 t)) p (r .free) (r .place) refl (r .right (omega (arith, length-drop 4 t, order-put t e))))
 done-parts s t Get e v p = p
 done-parts s t Undo e v p = undo-parts s p
 done-parts s t Keep e v p = keep-parts s p

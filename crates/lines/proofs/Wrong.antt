@@ -155,3 +155,13 @@ once-fails = fails once (set-30 ∷ set-32 ∷ []) 1 refl
 pub no-undo-fails : Plays no-undo → ⊥
 unfolding calls computing
 no-undo-fails = fails no-undo (set-30 ∷ undo-line ∷ []) 0 refl
+
+-- what fails demand 3 isn't what `step` says either
+pub inexact : (m : Machine) → (Plays m → ⊥) → Exact m → ⊥
+inexact m fails exact = fails (exact-plays m exact)
+
+pub once-inexact : Exact once → ⊥
+once-inexact = inexact once once-fails
+
+pub no-undo-inexact : Exact no-undo → ⊥
+no-undo-inexact = inexact no-undo no-undo-fails

@@ -1,7 +1,7 @@
 -- What an accepted line does to the state: "An accepted SET or PUT adds one, even if nothing altered. UNDO takes the newest back, restoring
 -- "never put" too. KEEP empties the list".
 use Prim.Native.Nat.{ℕ, _+_, _-_}
-use mathlib.Core.Bool.{Bool, cond, _||_}
+use mathlib.Core.Bool.{cond, _||_}
 use mathlib.Core.List.{List}
 use lib.Dec.{eqb, leb, ltb}
 use lib.ListN.{getD, set, drop, replicate}

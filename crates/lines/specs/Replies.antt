@@ -1,5 +1,5 @@
 -- The reply to a line. "Each reply ends as setting 73 said before the line (0 CR, 1 CR LF). A refused line replies `@W127`".
-use Prim.Native.Nat.{ℕ, zero, suc, _+_, _≤_}
+use Prim.Native.Nat.{ℕ, zero, suc, _≤_}
 use mathlib.Core.Path.{_≡_}
 use mathlib.Core.Bool.{Bool, true, cond, not}
 use mathlib.Core.List.{List, [], _∷_, _++_}

@@ -1,11 +1,11 @@
 -- Refusals 20 to 31: "Order: 31, then 20 to 29 as numbered (GET judges its first index by 25 then 27, then the next likewise), then 30".
 use Prim.Native.Nat.{ℕ, zero, suc}
-use mathlib.Core.Bool.{Bool, true, false, cond, not, _&&_}
+use mathlib.Core.Bool.{Bool, cond, _&&_}
 use mathlib.Core.List.{List}
 use lib.Dec.{eqb, leb, ltb}
 use lib.ListN.{length, getD, drop}
 use Rattle.figures.specs.Decimal.{isDigit}
-use Rattle.words.specs.Kinds.{indexOf}
+use Rattle.units.specs.Kinds.{indexOf}
 use Rattle.words.specs.Reading.{pos}
 use Rattle.state.specs.Settings.{rowAt, settingAt}
 use Rattle.state.specs.Values.{valueAt, putRight, isPut}

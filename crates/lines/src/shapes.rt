@@ -21,7 +21,7 @@ pub enum Order {
 }
 
 // The length of a line's end: 1 for CR, 2 for CR LF, 0 for none.
-pub fn end_of(line: &[u8]) -> usize
+pub(crate) fn end_of(line: &[u8]) -> usize
     ensures { λ r. ⌜ r ≡ endOf (now (line .entry)) ⌝ }
 {
     let n = line.len();
@@ -44,7 +44,7 @@ pub fn end_of(line: &[u8]) -> usize
 }
 
 // Whether there is no CR and no LF.
-pub fn is_plain(s: &[u8]) -> bool
+pub(crate) fn is_plain(s: &[u8]) -> bool
     ensures { λ r. ⌜ r ≡ isPlain (now (s .entry)) ⌝ }
 {
     let mut i = 0;
@@ -157,7 +157,7 @@ fn get_order(s: &[u8]) -> Order
 }
 
 // The shape of a line without its end.
-pub fn order_of(text: &[u8]) -> Order
+pub(crate) fn order_of(text: &[u8]) -> Order
     ensures { λ r. ⌜ r ≡ orderOf (now (text .entry)) ⌝ }
 {
     if starts(text, b"SET/") {

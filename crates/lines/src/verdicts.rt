@@ -55,7 +55,7 @@ pub fn verdict_number(verdict: Verdict) -> u64
     }
 }
 
-pub fn is_accepted(verdict: Verdict) -> bool
+pub(crate) fn is_accepted(verdict: Verdict) -> bool
     ensures { λ r. ⌜ r ≡ isAccepted verdict ⌝ }
 {
     match verdict {

@@ -9,23 +9,15 @@ use Rattle.figures.specs.Promises.{Determined}
 use Rattle.figures.specs.Bytes.{laid}
 use Rattle.figures.proofs.Determined.{by-equation, by-two}
 use Rattle.sheets.specs.Answers.{sheetNumber, sheetTells}
-use Rattle.sheets.specs.Keys.{settingKey, valueKey}
 use Rattle.sheets.specs.Loading.{loaded, writtenSheet, Loads, WritesSheet}
 use Rattle.sheets.specs.Playing.{printed, Plays}
 use Rattle.sheets.specs.declared.answers.Sheeted.{Sheeted}
-use Rattle.sheets.specs.declared.keys.Key.{Key}
 
 pub sheet-number-determined : Determined Sheeted ℕ (λ i r. r ≡ sheetNumber i)
 sheet-number-determined = by-equation Sheeted ℕ sheetNumber
 
 pub sheet-tells-determined : Determined Sheeted ℕ (λ i r. r ≡ sheetTells i)
 sheet-tells-determined = by-equation Sheeted ℕ sheetTells
-
-pub setting-key-determined : Determined ℕ Key (λ i r. r ≡ settingKey i)
-setting-key-determined = by-equation ℕ Key settingKey
-
-pub value-key-determined : Determined ℕ Key (λ i r. r ≡ valueKey i)
-value-key-determined = by-equation ℕ Key valueKey
 
 -- an image and a sheet go in; the answer and the image come out
 pub load-determined : Determined (List ℕ × List ℕ) (Sheeted × List ℕ) (λ i o. Loads (i .0) (i .1) (o .0) (o .1))

@@ -6,7 +6,7 @@ pub mod Sizes
 pub mod Images
 pub mod Starts
 pub mod Determined
-pub mod Pieces
+pub mod Turns
 pub mod Reached
 pub mod Played
 pub mod Held

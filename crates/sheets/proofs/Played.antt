@@ -10,7 +10,8 @@ use Rattle.lines.proofs.Starts.{factory-start}
 use Rattle.lines.proofs.Demand.{played}
 use Rattle.sheets.specs.Sheet.{sheetOf}
 use Rattle.sheets.specs.Loading.{startOf}
-use Rattle.sheets.specs.Playing.{pieces, callOf, printed}
+use Rattle.pieces.specs.Pieces.{pieces}
+use Rattle.sheets.specs.Playing.{callOf, printed}
 use Rattle.sheets.proofs.Sheets.{sheet-contents}
 use Rattle.sheets.proofs.Reached.{reached, printed-sheet}
 

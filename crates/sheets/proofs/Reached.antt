@@ -17,11 +17,12 @@ use Rattle.lines.specs.Demand.{after}
 use Rattle.lines.proofs.States.{step-state, after-state}
 use Rattle.sheets.specs.Sheet.{sheetOf}
 use Rattle.sheets.specs.Loading.{Written·room, fitted, writtenSheet, WritesSheet}
-use Rattle.sheets.specs.Playing.{pieces, callOf, refusedInput, printed, Plays, runBy}
+use Rattle.pieces.specs.Pieces.{pieces}
+use Rattle.sheets.specs.Playing.{callOf, refusedInput, printed, Plays, runBy}
 use Rattle.sheets.specs.declared.answers.Sheeted.{Sheeted}
 use Rattle.sheets.specs.declared.answers.Sheeted.the-variants.{NoState, Room, Wrong, Written, Loaded}
 use Rattle.sheets.proofs.Images.{image-writes}
-use Rattle.sheets.proofs.Pieces.{calledBy}
+use Rattle.sheets.proofs.Turns.{calledBy}
 
 -- a call on a state's image gives the image of the next state
 call-image : (s : State) (line : List ℕ) → isState s ≡ true → call (imageOf s) line (replicate 306 0) .image ≡ imageOf (step s line 306 .next)

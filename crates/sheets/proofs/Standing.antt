@@ -11,7 +11,7 @@ use lib.ListN.{length, getD, drop, replicate, length-append, length-take, length
 use lib.Seq.{take-all, drop-append-le}
 use Rattle.figures.specs.Bytes.{within, startsWith, laid}
 use Rattle.figures.proofs.Bytes.{within-bounds, laid-fits, starts-true}
-use Rattle.words.specs.Information.{signOf}
+use Rattle.units.specs.Information.{signOf}
 use Rattle.state.specs.Values.{putKept, eightOf}
 use Rattle.state.specs.declared.values.Kept.the-variants.{Put}
 use Rattle.sheets.specs.Loading.{settingStands, neverStands, charactersRight, charactersIn, valueStands}

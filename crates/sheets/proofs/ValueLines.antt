@@ -11,7 +11,7 @@ use lib.ListN.{length, getD, take, drop, length-append, take-append-drop}
 use lib.Seq.{append-snoc, take-at, getD-at, getD-append-add, drop-append-add, drop-append-seam}
 use Rattle.figures.specs.Bytes.{startsWith, sameBytes}
 use Rattle.figures.proofs.Bytes.{starts-append, starts-true, same-refl, same-true}
-use Rattle.words.specs.Information.{signByte, signOf}
+use Rattle.units.specs.Information.{signByte, signOf}
 use Rattle.state.specs.Values.{storedAt, putRight, putKept, keptRight, getWord, valueWord}
 use Rattle.state.specs.Entries.{valueOf, valuesRight}
 use Rattle.state.specs.declared.values.Eight.{Eight}

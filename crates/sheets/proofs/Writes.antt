@@ -12,9 +12,9 @@ use Rattle.figures.proofs.Bytes.{length-laid}
 use Rattle.state.specs.Entries.{isState}
 use Rattle.state.specs.Image.{stateIn, isImage, decodeOf}
 use Rattle.state.specs.declared.entries.State.{State}
-use Rattle.state.specs.declared.image.Known.the-variants.{Not, Is}
+use Rattle.state.specs.declared.image.Known.the-variants.{Is}
 use Rattle.state.specs.declared.image.Decoded.{Decoded}
-use Rattle.state.proofs.Images.{image-of}
+use Rattle.state.proofs.Images.{image-of, decoded-is}
 use Rattle.sheets.specs.Sheet.{sheetOf, sheetPut}
 use Rattle.sheets.specs.Loading.{Written·room, fitted, writtenSheet, WritesSheet}
 use Rattle.sheets.specs.declared.writing.Sheet.{Sheet}
@@ -23,26 +23,9 @@ use Rattle.sheets.specs.declared.answers.Sheeted.the-variants as answer
 use Rattle.sheets.proofs.Sizes.{sheet-most}
 use Rattle.sheets.proofs.Lines.{sheet-on}
 
--- what `decode` tells
-
-is-by : (b : Bool) (s t : State) (d : Decoded) → d ≡ cond b (record { answer = Is; state = s }) (record { answer = Not; state = t }) → d .answer ≡ Is
-    → (b ≡ true) × (d .state ≡ s)
-is-by true s t d e a = (refl, ap (λ (x : Decoded). x .state) e)
-is-by false s t d e a = let z : _≡_ {A = ℕ} 0 1 = cc (ap (λ (x : Decoded). x .answer) e) in absurd (omega arith)
-
-not-by : (b : Bool) (s t : State) (d : Decoded) → d ≡ cond b (record { answer = Is; state = s }) (record { answer = Not; state = t }) → d .answer ≡ Not → b ≡ false
-not-by true s t d e a = let z : _≡_ {A = ℕ} 0 1 = cc (ap (λ (x : Decoded). x .answer) e) in absurd (omega arith)
-not-by false s t d e a = refl
-
-pub is-image : (l : List ℕ) (d : Decoded) → d ≡ decodeOf l → d .answer ≡ Is → (isImage l ≡ true) × (d .state ≡ stateIn l)
-is-image l d e a = is-by (isImage l) (stateIn l) _ d e a
-
-pub no-image : (l : List ℕ) (d : Decoded) → d ≡ decodeOf l → d .answer ≡ Not → isImage l ≡ false
-no-image l d e a = not-by (isImage l) (stateIn l) _ d e a
-
 pub is-state : (l : List ℕ) (d : Decoded) → d ≡ decodeOf l → d .answer ≡ Is → isState (d .state) ≡ true
 is-state l d e a =
-    let is = is-image l d e a in
+    let is = decoded-is l d e a in
     ap isState (is .1) ∙ image-of l (is .0) .0
 
 -- a state's sheet as the code keeps it

@@ -1,17 +1,16 @@
 -- Loading a sheet: "exactly the bytes some sheet has .. otherwise refusal 40 tells the start of the first wrong, missing or surplus line".
 use Prim.Native.Nat.{ℕ, _+_, _-_}
 use mathlib.Core.Path.{_≡_}
-use mathlib.Core.Bool.{Bool, true, false, cond, _&&_, _||_}
+use mathlib.Core.Bool.{Bool, cond, _&&_}
 use mathlib.Core.List.{List, [], _∷_, _++_}
 use lib.Dec.{eqb, leb}
 use lib.ListN.{length, getD, take, drop, replicate}
 use Rattle.figures.specs.Bytes.{within, laid, startsWith, sameBytes}
-use Rattle.state.specs.Settings.{rows, rowAt}
+use Rattle.state.specs.Settings.{rows}
 use Rattle.state.specs.Values.{putKept, keptRight, getWord}
 use Rattle.state.specs.Entries.{settingsN, valuesN, entriesN, valueOf, blankEntry}
 use Rattle.state.specs.Image.{imageOf, stateIn, isImage}
 use Rattle.state.specs.declared.settings.Row.{Row}
-use Rattle.state.specs.declared.values.Kept.{Kept}
 use Rattle.state.specs.declared.values.Kept.the-variants.{Never}
 use Rattle.state.specs.declared.values.Value.{Value}
 use Rattle.state.specs.declared.entries.State.{State}

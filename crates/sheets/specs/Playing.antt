@@ -1,29 +1,17 @@
 -- The program sheet: it "cuts after each CR (with LF if next), runs each line with 306 bytes of reply room, a last piece without CR included,
 -- and prints the sheet".
-use Prim.Native.Nat.{ℕ, zero, suc, _+_}
+use Prim.Native.Nat.{ℕ}
 use mathlib.Core.Path.{_≡_}
-use mathlib.Core.Bool.{Bool, true, false, cond}
+use mathlib.Core.Bool.{cond}
 use mathlib.Core.List.{List, [], _∷_, map}
-use lib.Dec.{eqb, leb}
-use lib.ListN.{length, take, drop, replicate}
-use Rattle.figures.specs.Bytes.{laid, startsWith}
+use lib.Dec.{leb}
+use lib.ListN.{length, replicate}
+use Rattle.figures.specs.Bytes.{laid}
 use Rattle.state.specs.Entries.{factoryState}
 use Rattle.lines.specs.Machine.{call}
 use Rattle.lines.specs.Demand.{Call, after}
+use Rattle.pieces.specs.Pieces.{pieces}
 use Rattle.sheets.specs.Sheet.{sheetOf}
-
--- the length of the first piece
-unfoldable pub cutOf : List ℕ → ℕ
-cutOf [] = 0
-cutOf (b ∷ l) = cond (eqb b 13) (cond (startsWith (10 ∷ []) l) 2 1) (cutOf l + 1)
-
--- the pieces, at most n of them: an input has no more pieces than bytes
-unfoldable pub piecesBy : ℕ → List ℕ → List (List ℕ)
-piecesBy zero l = []
-piecesBy (suc n) l = cond (eqb (length l) 0) [] (take (cutOf l) l ∷ piecesBy n (drop (cutOf l) l))
-
-abbrev pub pieces : List ℕ → List (List ℕ)
-pieces l = piecesBy (length l) l
 
 -- a line with 306 bytes of reply room
 abbrev pub callOf : List ℕ → Call

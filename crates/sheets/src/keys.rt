@@ -27,7 +27,7 @@ fn least(n: usize) -> usize
 }
 
 // The key of the setting at a place; none past the last.
-pub fn setting_key(place: usize) -> Key
+pub(crate) fn setting_key(place: usize) -> Key
     ensures { λ r. ⌜ r ≡ settingKey place ⌝ }
 {
     match place {
@@ -55,7 +55,7 @@ pub fn setting_key(place: usize) -> Key
 }
 
 // The key of the stored value at a place; none past the last.
-pub fn value_key(place: usize) -> Key
+pub(crate) fn value_key(place: usize) -> Key
     ensures { λ r. ⌜ r ≡ valueKey place ⌝ }
 {
     match place {

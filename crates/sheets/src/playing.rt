@@ -3,36 +3,17 @@ ghost use mathlib.Core.Path.{_≡_};
 ghost use Prim.Native.Nat.{_≤_, _<_};
 ghost use lib.ListN.{length, drop};
 ghost use Rattle.state.specs.Image.{imageN};
-ghost use Rattle.sheets.specs.Playing.{cutOf, Plays, Runs};
+ghost use Rattle.sheets.specs.Playing.{Plays, Runs};
 use crate::answers::Sheeted;
 use crate::writing::write;
 use lines::machine::line;
+use pieces::cut;
 use state::entries::factory;
 use state::image::IMAGE;
 use state::image::encode;
 
 // The most bytes that an input may have.
 pub const MOST: usize = 65_536;
-
-// The length of the first piece: up to a CR, with an LF that follows it, or all.
-fn cut(s: &[u8]) -> usize
-    ensures { λ r. ⌜ (r ≡ cutOf (now (s .entry))) × (r ≤ length (now (s .entry))) ⌝ }
-{
-    let mut i = 0;
-    while i < s.len() {
-        if s[i] == 13 {
-            let past = i + 1;
-            if past < s.len() {
-                if s[past] == 10 {
-                    return past + 1;
-                }
-            }
-            return past;
-        }
-        i += 1;
-    }
-    i
-}
 
 // Runs each piece of the input on the image, with 306 bytes of room for its reply.
 fn run(input: &[u8], image: &mut [u8])

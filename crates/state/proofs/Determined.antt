@@ -5,13 +5,12 @@ use mathlib.Core.List.{List}
 use Prim.Native.Nat.{ℕ}
 use Rattle.figures.specs.Promises.{Determined}
 use Rattle.figures.proofs.Determined.{by-equation}
-use Rattle.state.specs.Settings.{rows, rowAt, settingAt, factorySettings, inRanges}
-use Rattle.state.specs.Values.{storedAt, valueAt, isPut, putRight, putKept, keptRight, getWord}
-use Rattle.state.specs.Entries.{blankEntry, factoryState, blankState, isState}
+use Rattle.state.specs.Settings.{rowAt, settingAt}
+use Rattle.state.specs.Values.{valueAt, isPut, putRight, putKept, keptRight, getWord}
+use Rattle.state.specs.Entries.{blankEntry, factoryState}
 use Rattle.state.specs.Image.{encodedIn, decodeOf}
 use Rattle.state.specs.declared.settings.Row.{Row}
 use Rattle.state.specs.declared.settings.Found.{Found}
-use Rattle.state.specs.declared.values.Stored.{Stored}
 use Rattle.state.specs.declared.values.Kept.{Kept}
 use Rattle.state.specs.declared.entries.Entry.{Entry}
 use Rattle.state.specs.declared.entries.State.{State}
@@ -22,15 +21,6 @@ row-at-determined = by-equation ℕ Row rowAt
 
 pub setting-at-determined : Determined ℕ Found (λ i r. r ≡ settingAt i)
 setting-at-determined = by-equation ℕ Found settingAt
-
-pub factory-settings-determined : Determined (Unit {0}) (List ℕ) (λ i r. r ≡ factorySettings)
-factory-settings-determined = by-equation (Unit {0}) (List ℕ) (λ i. factorySettings)
-
-pub in-ranges-determined : Determined (List ℕ) Bool (λ i r. r ≡ inRanges rows i)
-in-ranges-determined = by-equation (List ℕ) Bool (inRanges rows)
-
-pub stored-at-determined : Determined ℕ Stored (λ i r. r ≡ storedAt i)
-stored-at-determined = by-equation ℕ Stored storedAt
 
 pub value-at-determined : Determined ℕ Found (λ i r. r ≡ valueAt i)
 value-at-determined = by-equation ℕ Found valueAt
@@ -55,12 +45,6 @@ blank-entry-determined = by-equation (Unit {0}) Entry (λ i. blankEntry)
 
 pub factory-determined : Determined (Unit {0}) State (λ i r. r ≡ factoryState)
 factory-determined = by-equation (Unit {0}) State (λ i. factoryState)
-
-pub blank-state-determined : Determined (Unit {0}) State (λ i r. r ≡ blankState)
-blank-state-determined = by-equation (Unit {0}) State (λ i. blankState)
-
-pub is-state-determined : Determined State Bool (λ i r. r ≡ isState i)
-is-state-determined = by-equation State Bool isState
 
 pub encode-determined : Determined (State × List ℕ) (List ℕ) (λ i image. image ≡ encodedIn (i .0) (i .1))
 encode-determined = by-equation (State × List ℕ) (List ℕ) (λ i. encodedIn (i .0) (i .1))

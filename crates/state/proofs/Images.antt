@@ -158,6 +158,22 @@ refused l b e h = ap (chosen false (stateIn l)) e ∙ ap (λ (t : Bool). chosen 
 pub accepted : (l : List ℕ) (s : State) → s ≡ stateIn l → isImage l ≡ true → record { answer = Is; state = s } ≡ decodeOf l
 accepted l s e h = ap (λ (t : State). chosen true t blankState) e ∙ ap (λ (t : Bool). chosen t (stateIn l) blankState) (sym h)
 
+-- and what `decode` tells of the bytes
+
+told : (t : Bool) (s b : State) (d : Decoded) → d ≡ chosen t s b → d .answer ≡ Is → (t ≡ true) × (d .state ≡ s)
+told true s b d e q = (refl, ap (λ (x : Decoded). x .state) e)
+told false s b d e q = let z : _≡_ {A = ℕ} 0 1 = cc (ap (λ (x : Decoded). x .answer) e) in absurd (omega arith)
+
+told-not : (t : Bool) (s b : State) (d : Decoded) → d ≡ chosen t s b → d .answer ≡ Not → t ≡ false
+told-not true s b d e q = let z : _≡_ {A = ℕ} 0 1 = cc (ap (λ (x : Decoded). x .answer) e) in absurd (omega arith)
+told-not false s b d e q = refl
+
+pub decoded-is : (l : List ℕ) (d : Decoded) → d ≡ decodeOf l → d .answer ≡ Is → (isImage l ≡ true) × (d .state ≡ stateIn l)
+decoded-is l d e q = told (isImage l) (stateIn l) blankState d e q
+
+pub decoded-not : (l : List ℕ) (d : Decoded) → d ≡ decodeOf l → d .answer ≡ Not → isImage l ≡ false
+decoded-not l d e q = told-not (isImage l) (stateIn l) blankState d e q
+
 pub image-is : (s : State) → isState s ≡ true → isImage (imageOf s) ≡ true
 image-is s e =
     ap (λ (t : State). eqb (length (imageOf s)) imageN && (sameBytes (imageOf s) (imageOf t) && isState t)) (image-back s e)

@@ -11,10 +11,10 @@ use lib.Seq.{drop-cons, getD-drop}
 use Rattle.figures.specs.Bytes.{within}
 use Rattle.figures.specs.Decimal.{isDigit}
 use Rattle.figures.proofs.Bytes.{within-bounds, bounds-within}
-use Rattle.words.specs.Kinds.{isTextual, indexOf, indexRight}
-use Rattle.words.specs.Information.{isDot, infoRight, signByte, signOf, signRight}
+use Rattle.units.specs.Kinds.{isTextual, indexOf, indexRight}
+use Rattle.units.specs.Information.{isDot, infoRight, signByte, signOf, signRight}
 use Rattle.words.specs.Reading.{pos, wordOf, kindAt, dataIn, dataRight, isCounted, valueIn, recordIn, unless, rightWord, wordSize}
-use Rattle.words.specs.declared.kinds.Kind.{Kind}
+use Rattle.units.specs.declared.kinds.Kind.{Kind}
 use Rattle.words.specs.declared.reading.Fault.the-variants.{Short, Index, Information, Sign, Characters, Separator, Value}
 use Rattle.words.specs.declared.records.Word.{Word}
 use Rattle.state.specs.Settings.{rows, inRanges}

@@ -5,7 +5,7 @@ use mathlib.Core.List.{List, [], _∷_, _++_}
 use lib.Dec.{eqb, leb}
 use lib.ListN.{getD, drop, replicate}
 use Rattle.figures.specs.Bytes.{within}
-use Rattle.words.specs.Information.{isDot, signByte, signOf}
+use Rattle.units.specs.Information.{isDot, signByte, signOf}
 use Rattle.words.specs.Reading.{pos, wordOf}
 use Rattle.words.specs.declared.reading.Judged as one
 use Rattle.state.specs.Rows.{seek}

@@ -78,7 +78,7 @@ pub fn factory() -> State
 }
 
 // The state of noughts, for bytes that are no state.
-pub fn blank_state() -> State
+pub(crate) fn blank_state() -> State
     ensures { λ r. ⌜ r ≡ blankState ⌝ }
 {
     with_settings([0; SETTINGS])
@@ -225,7 +225,7 @@ fn sound_back(values: [Value; VALUES], undo: [Entry; ENTRIES], count: usize) -> 
 }
 
 // Whether it is a state.
-pub fn is_state(s: State) -> bool
+pub(crate) fn is_state(s: State) -> bool
     ensures { λ r. ⌜ r ≡ isState s ⌝ }
 {
     let settings = s.settings;

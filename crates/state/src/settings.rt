@@ -147,7 +147,7 @@ pub fn setting_at(number: u16) -> Found
 }
 
 // The parameters of the factory.
-pub fn factory_settings() -> [u8; SETTINGS]
+pub(crate) fn factory_settings() -> [u8; SETTINGS]
     ensures { λ r. ⌜ r ≡ factorySettings ⌝ }
 {
     let mut settings = [0; SETTINGS];
@@ -161,7 +161,7 @@ pub fn factory_settings() -> [u8; SETTINGS]
 }
 
 // Whether each parameter is in its setting's range.
-pub fn in_ranges(settings: [u8; SETTINGS]) -> bool
+pub(crate) fn in_ranges(settings: [u8; SETTINGS]) -> bool
     ensures { λ r. ⌜ r ≡ inRanges rows settings ⌝ }
 {
     let mut i = 0;

@@ -1,7 +1,7 @@
 // The stored values: constant rows of index and units, what a PUT leaves, and the word that GET answers.
 ghost use mathlib.Core.Path.{_≡_};
 ghost use Prim.Native.Nat.{_+_, _%_};
-ghost use Rattle.words.specs.Information.{signByte};
+ghost use Rattle.units.specs.Information.{signByte};
 ghost use Rattle.state.specs.Values.{storedAt, valueAt, putRight, putKept, valueWord, keptRight, getWord, isPut};
 use crate::settings::Found;
 use words::reading::Judged;
@@ -98,7 +98,7 @@ const STORED: [Stored; VALUES] = [
 ];
 
 // The row at a place; one of noughts past the last.
-pub fn stored_at(place: usize) -> Stored
+pub(crate) fn stored_at(place: usize) -> Stored
     ensures { λ r. ⌜ r ≡ storedAt place ⌝ }
 {
     if VALUES <= place {

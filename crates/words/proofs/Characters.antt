@@ -11,16 +11,17 @@ use Rattle.figures.specs.Bytes.{every, laid}
 use Rattle.figures.specs.Decimal.{isDigit, numberOf, digitsOf}
 use Rattle.figures.proofs.Bytes.{within-bounds, laid-fits}
 use Rattle.figures.proofs.Decimal.{digits-length, digits-are, number-digits, digits-number, number-below}
-use Rattle.words.specs.Information.{signByte, isSign}
+use Rattle.units.specs.Information.{signByte, isSign}
 use Rattle.words.specs.Records.{width, isGraphic, isZero, textRight}
 use Rattle.words.specs.Reading.{ppmIn, underIn, mmIn, dataRight, figuresIn, textOf}
 use Rattle.words.specs.Writing.{dataOf}
-use Rattle.words.specs.declared.kinds.Kind.{Kind}
-use Rattle.words.specs.declared.kinds.Kind.the-variants as kind
-use Rattle.words.specs.declared.counts.Figures.{Figures}
-use Rattle.words.specs.declared.counts.Figures.the-variants as figures
+use Rattle.units.specs.declared.kinds.Kind.{Kind}
+use Rattle.units.specs.declared.kinds.Kind.the-variants as kind
+use Rattle.units.specs.declared.counts.Figures.{Figures}
+use Rattle.units.specs.declared.counts.Figures.the-variants as figures
 use Rattle.words.proofs.Checks.{width-bounds}
-use Rattle.words.proofs.Positions.{both, sign-back, sign-is, sign-on, sign-small}
+use Rattle.figures.proofs.Tests.{both}
+use Rattle.units.proofs.Positions.{sign-back, sign-byte-is, sign-on, sign-small}
 
 -- figures that n characters of a word of that kind can say
 pub data Fit (n : ℕ) : Kind → Figures → Type 0 where
@@ -188,7 +189,7 @@ spelt wide t (of-pair {p} {s} {q} hp hs hq) kept =
     let lb : length b ≡ 3 = digits-length 3 q in
     let j = halves-of a (signByte s) b lb in (
       length-append a (signByte s ∷ b) ∙ omega arith,
-      rw (j .ppm, j .under, j .mm, digits-are (width wide - 4) p, sign-is s, digits-are 3 q),
+      rw (j .ppm, j .under, j .mm, digits-are (width wide - 4) p, sign-byte-is s, digits-are 3 q),
       rw (j .ppm, j .under, j .mm, number-digits (width wide - 4) p hp, sign-on s hs, number-digits 3 q hq),
       none-spelt wide t kept,
     )

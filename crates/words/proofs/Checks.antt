@@ -13,23 +13,23 @@ use Rattle.figures.specs.Bytes.{every}
 use Rattle.figures.specs.Decimal.{isDigit, numberOf, numberIn}
 use Rattle.figures.specs.declared.Said.{Said}
 use Rattle.figures.specs.declared.Said.the-variants as said
-use Rattle.words.specs.Kinds.{isTextual, kindOf, indexOf, indexRight, indexAt}
-use Rattle.words.specs.Information.{signRight, signOf, signAt}
+use Rattle.units.specs.Kinds.{isTextual, kindOf, indexOf, indexRight, indexAt}
+use Rattle.units.specs.Information.{signRight, signOf, signAt}
 use Rattle.words.specs.Records.{width, textRight, isGraphic, isZero}
 use Rattle.words.specs.Reading.{wordSize, dataIn, dataRight, ppmIn, underIn, mmIn, figuresIn, pairAt, spelledAt}
-use Rattle.words.specs.declared.kinds.Kind.{Kind}
-use Rattle.words.specs.declared.kinds.Indexed.{Indexed}
-use Rattle.words.specs.declared.counts.Figures.{Figures}
+use Rattle.units.specs.declared.kinds.Kind.{Kind}
+use Rattle.units.specs.declared.kinds.Indexed.{Indexed}
+use Rattle.units.specs.declared.counts.Figures.{Figures}
 use Rattle.words.specs.declared.reading.Spelled.{Spelled}
 use Rattle.words.specs.declared.reading.Parted.{Parted}
-use Rattle.words.specs.declared.information.Informed.{Informed}
-use Rattle.words.specs.declared.information.Signed.{Signed}
-use Rattle.words.specs.declared.kinds.Kind.the-variants as kind
-use Rattle.words.specs.declared.kinds.Indexed.the-variants as indexed
+use Rattle.units.specs.declared.information.Informed.{Informed}
+use Rattle.units.specs.declared.information.Signed.{Signed}
+use Rattle.units.specs.declared.kinds.Kind.the-variants as kind
+use Rattle.units.specs.declared.kinds.Indexed.the-variants as indexed
 use Rattle.words.specs.declared.reading.Spelled.the-variants as spelled
 use Rattle.words.specs.declared.reading.Parted.the-variants as parted
-use Rattle.words.specs.declared.information.Informed.the-variants as informed
-use Rattle.words.specs.declared.information.Signed.the-variants as signed
+use Rattle.units.specs.declared.information.Informed.the-variants as informed
+use Rattle.units.specs.declared.information.Signed.the-variants as signed
 
 -- a check that answers by a Bool
 pub failed : {r b : Bool} → r ≡ b → not r ≡ true → b ≡ false

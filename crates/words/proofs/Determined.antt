@@ -5,19 +5,14 @@ use mathlib.Core.List.{List}
 use Prim.Native.Nat.{ℕ}
 use Rattle.figures.specs.Promises.{Determined}
 use Rattle.figures.proofs.Determined.{by-equation}
-use Rattle.words.specs.Kinds.{kindOf}
 use Rattle.words.specs.Records.{width, blank, isRight, typedOf}
 use Rattle.words.specs.Reading.{faultNumber, wordOf}
 use Rattle.words.specs.Writing.{spellingOf}
-use Rattle.words.specs.declared.kinds.Kind.{Kind}
-use Rattle.words.specs.declared.counts.Count.{Count}
+use Rattle.units.specs.declared.counts.Count.{Count}
 use Rattle.words.specs.declared.records.Word.{Word}
 use Rattle.words.specs.declared.reading.Fault.{Fault}
 use Rattle.words.specs.declared.reading.OneWord.{OneWord}
 use Rattle.words.specs.declared.writing.Spelling.{Spelling}
-
-pub kind-of-determined : Determined ℕ Kind (λ i r. r ≡ kindOf i)
-kind-of-determined = by-equation ℕ Kind kindOf
 
 pub blank-word-determined : Determined (Unit {0}) Word (λ i r. r ≡ blank)
 blank-word-determined = by-equation (Unit {0}) Word (λ i. blank)

@@ -1,7 +1,4 @@
-pub mod Tests
 pub mod Checks
-pub mod Sexagesimal
-pub mod Positions
 pub mod Characters
 pub mod Values
 pub mod Places

@@ -9,13 +9,13 @@ use lib.Dec.{eqb}
 use lib.ListN.{length, getD, take, drop, length-append, take-append-drop}
 use lib.Seq.{take-at, getD-at, getD-drop, drop-drop, drop-cons, length-take-le}
 use Rattle.figures.specs.Decimal.{isDigit}
-use Rattle.words.specs.Kinds.{kindOf, isListed, indexOf}
-use Rattle.words.specs.Information.{infoRight, signOf, signRight}
-use Rattle.words.specs.Counts.{valueAt}
+use Rattle.units.specs.Kinds.{kindOf, isListed, indexOf}
+use Rattle.units.specs.Information.{infoRight, signOf, signRight}
+use Rattle.units.specs.Counts.{valueAt}
 use Rattle.words.specs.Records.{width, recordOf}
 use Rattle.words.specs.Reading.{wordSize, pos, dataIn, dataRight, figuresIn, textOf, isCounted, countOr, rightWord, unless, wordOf}
-use Rattle.words.specs.declared.counts.Count.{Count}
-use Rattle.words.specs.declared.counts.Valued.{Valued}
+use Rattle.units.specs.declared.counts.Count.{Count}
+use Rattle.units.specs.declared.counts.Valued.{Valued}
 use Rattle.words.specs.declared.records.Word.{Word}
 use Rattle.words.specs.declared.reading.Fault.the-variants.{Index, Information, Sign, Characters, Separator, Value}
 use Rattle.words.specs.declared.reading.OneWord.{OneWord}

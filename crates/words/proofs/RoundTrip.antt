@@ -9,23 +9,24 @@ use lib.Dec.{eqb, leb}
 use lib.ListN.{length, getD, take, drop, drop-of-length-le}
 use lib.Seq.{drop-cons}
 use Rattle.figures.specs.Decimal.{isDigit, digitsOf}
-use Rattle.words.specs.Kinds.{kindOf, isListed}
-use Rattle.words.specs.Information.{infoRight, signByte, signOf, signRight}
-use Rattle.words.specs.Counts.{whole, firstOf, secondOf, figuresOf}
+use Rattle.units.specs.Kinds.{kindOf, isListed}
+use Rattle.units.specs.Information.{infoRight, signByte, signOf, signRight}
+use Rattle.units.specs.Counts.{whole, firstOf, secondOf, figuresOf}
 use Rattle.words.specs.Records.{width, kindIn, unitIn, countOf, countRight, textRight, sameWhole, isRight}
 use Rattle.words.specs.Reading.{wordSize, dataRight, isCounted, countOr, rightWord, unless, wordOf}
 use Rattle.words.specs.Writing.{dataOf, bytesOf}
-use Rattle.words.specs.declared.counts.Whole.{Whole}
-use Rattle.words.specs.declared.counts.Count.{Count}
-use Rattle.words.specs.declared.counts.Valued.{Valued}
-use Rattle.words.specs.declared.counts.Valued.the-variants.{Not, Counted}
+use Rattle.units.specs.declared.counts.Whole.{Whole}
+use Rattle.units.specs.declared.counts.Count.{Count}
+use Rattle.units.specs.declared.counts.Valued.{Valued}
+use Rattle.units.specs.declared.counts.Valued.the-variants.{Not, Counted}
 use Rattle.words.specs.declared.records.Word.{Word}
 use Rattle.words.specs.declared.reading.Fault.{Fault}
 use Rattle.words.specs.declared.reading.Fault.the-variants.{Short, Index, Information, Sign, Characters, Separator, Value}
 use Rattle.words.specs.declared.reading.Judged.the-variants.{Right, Wrong}
 use Rattle.words.specs.declared.reading.OneWord.{OneWord}
 use Rattle.words.proofs.Checks.{width-bounds, data-length}
-use Rattle.words.proofs.Positions.{both, index-back, index-digits, index-on, info-listed, tens-digit, ones-digit, tensOf, onesOf, sign-back, sign-of, sign-on, sign-right}
+use Rattle.figures.proofs.Tests.{both}
+use Rattle.units.proofs.Positions.{index-back, index-digits, index-on, info-listed, tens-digit, ones-digit, tensOf, onesOf, sign-back, sign-of, sign-on, sign-right}
 use Rattle.words.proofs.Characters.{fit-read, data-back, text-read, spelt}
 use Rattle.words.proofs.Values.{value-told, value-on}
 use Rattle.words.proofs.Places.{Places, indexBy, spread, placesIn, rules, valueBy, recordBy, wordAt, wordBy, spread-places, word-spread, spread-on, size-spread, take-spread}

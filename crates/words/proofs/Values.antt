@@ -8,24 +8,25 @@ use native.Mathlib.Nat.{lt-of-lt-of-le, pow-le-pow-right}
 use native.Mathlib.Omega.{arith}
 use borrow.Author.Tests.{eqb-true, eq-eqb, leb-true, le-leb, ltb-true, lt-ltb, not-true}
 use lib.Dec.{eqb, leb, ltb}
-use Rattle.words.specs.Counts.{whole, minusZero, degrees, minutes, seconds, tenthsOf, sexagesimal, counted, gonAt, degreeAt, tenthAt, milAt, angleAt, angleOf, lengthOf, constantOf, valueAt, firstOf, figuresOf}
+use Rattle.units.specs.Counts.{whole, minusZero, degrees, minutes, seconds, tenthsOf, sexagesimal, counted, gonAt, degreeAt, tenthAt, milAt, angleAt, angleOf, lengthOf, constantOf, valueAt, firstOf, figuresOf}
 use Rattle.words.specs.Records.{width, recordOf, unitIn, countBy, wholeRight, countRight}
 use Rattle.words.specs.Reading.{isCounted, countOr}
-use Rattle.words.specs.declared.kinds.Kind.{Kind}
-use Rattle.words.specs.declared.kinds.Kind.the-variants as kind
-use Rattle.words.specs.declared.counts.Whole.{Whole}
-use Rattle.words.specs.declared.counts.Count.{Count}
-use Rattle.words.specs.declared.counts.Count.the-variants.{Gon, Degree, Tenth, Mil, Metre, Feet, Ppm}
-use Rattle.words.specs.declared.counts.Count.the-variants as count
-use Rattle.words.specs.declared.counts.Figures.{Figures}
-use Rattle.words.specs.declared.counts.Figures.the-variants as figures
-use Rattle.words.specs.declared.counts.Valued.{Valued}
-use Rattle.words.specs.declared.counts.Valued.the-variants.{Not, Counted}
+use Rattle.units.specs.declared.kinds.Kind.{Kind}
+use Rattle.units.specs.declared.kinds.Kind.the-variants as kind
+use Rattle.units.specs.declared.counts.Whole.{Whole}
+use Rattle.units.specs.declared.counts.Count.{Count}
+use Rattle.units.specs.declared.counts.Count.the-variants.{Gon, Degree, Tenth, Mil, Metre, Feet, Ppm}
+use Rattle.units.specs.declared.counts.Count.the-variants as count
+use Rattle.units.specs.declared.counts.Figures.{Figures}
+use Rattle.units.specs.declared.counts.Figures.the-variants as figures
+use Rattle.units.specs.declared.counts.Valued.{Valued}
+use Rattle.units.specs.declared.counts.Valued.the-variants.{Not, Counted}
 use Rattle.words.specs.declared.records.Word.{Word}
 use Rattle.words.proofs.Checks.{width-bounds}
-use Rattle.words.proofs.Positions.{both, by-test, SignFor}
+use Rattle.figures.proofs.Tests.{both, by-test}
+use Rattle.units.proofs.Positions.{SignFor}
 use Rattle.words.proofs.Characters.{Fit, of-numbered, of-text, of-angle, of-length, of-constant, of-pair}
-use Rattle.words.proofs.Sexagesimal.{InRange, in-range, tenths-back, sexagesimal-back, sexagesimal-below, tenths-below}
+use Rattle.units.proofs.Sexagesimal.{InRange, in-range, tenths-back, sexagesimal-back, sexagesimal-below, tenths-below}
 
 -- a whole number
 

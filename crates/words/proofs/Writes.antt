@@ -14,17 +14,17 @@ use Rattle.figures.specs.Decimal.{digitsOf}
 use Rattle.figures.specs.Bytes.{laid}
 use Rattle.figures.proofs.Bytes.{length-on, length-mid, laid-cut, fill-on}
 use Rattle.figures.proofs.Decimal.{digits-on, digits-length}
-use Rattle.words.specs.Counts.{whole, minusZero, angleOf, lengthOf, constantOf, firstOf, secondOf, figuresOf}
-use Rattle.words.specs.Information.{infoRight, signByte}
+use Rattle.units.specs.Counts.{whole, minusZero, angleOf, lengthOf, constantOf, firstOf, secondOf, figuresOf}
+use Rattle.units.specs.Information.{infoRight, signByte}
 use Rattle.words.specs.Records.{width, kindIn, unitIn, countBy, countOf, tenTo, wholeRight, countRight, textRight, sameWhole, isRight}
 use Rattle.words.specs.Reading.{wordSize}
 use Rattle.words.specs.Writing.{dataOf, bytesIn}
-use Rattle.words.specs.declared.kinds.Kind.{Kind}
-use Rattle.words.specs.declared.counts.Whole.{Whole}
-use Rattle.words.specs.declared.counts.Count.{Count}
+use Rattle.units.specs.declared.kinds.Kind.{Kind}
+use Rattle.units.specs.declared.counts.Whole.{Whole}
+use Rattle.units.specs.declared.counts.Count.{Count}
 use Rattle.words.specs.declared.records.Word.{Word}
-use Rattle.words.specs.declared.kinds.Kind.the-variants as kind
-use Rattle.words.specs.declared.counts.Count.the-variants as count
+use Rattle.units.specs.declared.kinds.Kind.the-variants as kind
+use Rattle.units.specs.declared.counts.Count.the-variants as count
 
 -- one byte after done
 pub byte-on : (done room₀ room : List ℕ) (a b : ℕ) → a ≡ length done → length done < length room₀ → room ≡ done ++ drop (length done) room₀

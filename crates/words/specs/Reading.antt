@@ -1,27 +1,26 @@
 -- One word: "positions 1-2 index; 3-6 information; 7 sign; 8-15 (or 8-23) data; one blank, also after the last word."
 use Prim.Native.Nat.{ℕ, _+_, _-_}
-use mathlib.Core.Bool.{Bool, true, false, cond, not, _&&_, _||_}
+use mathlib.Core.Bool.{Bool, true, false, cond, _&&_}
 use mathlib.Core.List.{List, [], _∷_}
 use lib.Dec.{eqb, leb}
 use lib.ListN.{length, getD, take, drop, replicate}
 use Rattle.figures.specs.Bytes.{every, laid}
 use Rattle.figures.specs.Decimal.{isDigit, numberOf}
-use Rattle.words.specs.Kinds.{kindOf, indexOf, indexRight, isTextual}
-use Rattle.words.specs.Information.{infoRight, isSign, signOf, signRight}
-use Rattle.words.specs.Counts.{valueAt}
+use Rattle.units.specs.Kinds.{kindOf, indexOf, indexRight, isTextual}
+use Rattle.units.specs.Information.{infoRight, isSign, signOf, signRight}
+use Rattle.units.specs.Counts.{valueAt}
 use Rattle.words.specs.Records.{width, blank, recordOf, isGraphic}
-use Rattle.words.specs.declared.kinds.Kind.{Kind}
-use Rattle.words.specs.declared.kinds.Kind.the-variants as kind
-use Rattle.words.specs.declared.counts.Count.{Count}
-use Rattle.words.specs.declared.counts.Count.the-variants as count
-use Rattle.words.specs.declared.counts.Figures.{Figures}
-use Rattle.words.specs.declared.counts.Figures.the-variants as figures
-use Rattle.words.specs.declared.counts.Valued.{Valued}
-use Rattle.words.specs.declared.counts.Valued.the-variants as valued
+use Rattle.units.specs.declared.kinds.Kind.{Kind}
+use Rattle.units.specs.declared.kinds.Kind.the-variants as kind
+use Rattle.units.specs.declared.counts.Count.{Count}
+use Rattle.units.specs.declared.counts.Count.the-variants as count
+use Rattle.units.specs.declared.counts.Figures.{Figures}
+use Rattle.units.specs.declared.counts.Figures.the-variants as figures
+use Rattle.units.specs.declared.counts.Valued.{Valued}
+use Rattle.units.specs.declared.counts.Valued.the-variants as valued
 use Rattle.words.specs.declared.records.Word.{Word}
 use Rattle.words.specs.declared.reading.Fault.{Fault}
 use Rattle.words.specs.declared.reading.Fault.the-variants.{Short, Index, Information, Sign, Characters, Separator, Value}
-use Rattle.words.specs.declared.reading.Judged.{Judged}
 use Rattle.words.specs.declared.reading.Judged.the-variants.{Right, Wrong}
 use Rattle.words.specs.declared.reading.OneWord.{OneWord}
 use Rattle.words.specs.declared.reading.Spelled.{Spelled}

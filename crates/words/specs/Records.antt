@@ -5,14 +5,14 @@ use mathlib.Core.List.{List}
 use lib.Dec.{eqb, leb, ltb}
 use lib.ListN.{length, getD, take, drop, replicate}
 use Rattle.figures.specs.Bytes.{within, every}
-use Rattle.words.specs.Kinds.{kindOf, isTextual}
-use Rattle.words.specs.Information.{infoRight}
-use Rattle.words.specs.Counts.{whole, minusZero, angleOf, lengthOf, constantOf, firstOf, secondOf}
-use Rattle.words.specs.declared.kinds.Kind.{Kind}
-use Rattle.words.specs.declared.kinds.Kind.the-variants as kind
-use Rattle.words.specs.declared.counts.Whole.{Whole}
-use Rattle.words.specs.declared.counts.Count.{Count}
-use Rattle.words.specs.declared.counts.Count.the-variants.{Nothing, Text, Gon, Degree, Tenth, Mil, Metre, Feet, Ppm, Pair}
+use Rattle.units.specs.Kinds.{kindOf, isTextual}
+use Rattle.units.specs.Information.{infoRight}
+use Rattle.units.specs.Counts.{whole, minusZero, angleOf, lengthOf, constantOf, firstOf, secondOf}
+use Rattle.units.specs.declared.kinds.Kind.{Kind}
+use Rattle.units.specs.declared.kinds.Kind.the-variants as kind
+use Rattle.units.specs.declared.counts.Whole.{Whole}
+use Rattle.units.specs.declared.counts.Count.{Count}
+use Rattle.units.specs.declared.counts.Count.the-variants.{Nothing, Text, Gon, Degree, Tenth, Mil, Metre, Feet, Ppm, Pair}
 use Rattle.words.specs.declared.records.Word.{Word}
 
 -- "With `*` the words are 16 wide, otherwise 8 wide."

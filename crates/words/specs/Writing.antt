@@ -2,14 +2,14 @@
 use Prim.Native.Nat.{ℕ, _-_}
 use mathlib.Core.Bool.{Bool, cond}
 use mathlib.Core.List.{List, [], _∷_, _++_}
-use lib.ListN.{length, take, drop, replicate}
+use lib.ListN.{take, replicate}
 use Rattle.figures.specs.Decimal.{digitsOf}
-use Rattle.words.specs.Information.{signByte}
-use Rattle.words.specs.Counts.{figuresOf}
+use Rattle.units.specs.Information.{signByte}
+use Rattle.units.specs.Counts.{figuresOf}
 use Rattle.words.specs.Records.{width, countOf, isRight}
 use Rattle.words.specs.Reading.{wordSize}
-use Rattle.words.specs.declared.counts.Figures.{Figures}
-use Rattle.words.specs.declared.counts.Figures.the-variants.{Text, Number, Pair}
+use Rattle.units.specs.declared.counts.Figures.{Figures}
+use Rattle.units.specs.declared.counts.Figures.the-variants.{Text, Number, Pair}
 use Rattle.words.specs.declared.records.Word.{Word}
 use Rattle.words.specs.declared.writing.Spelt.the-variants.{Not, Right}
 use Rattle.words.specs.declared.writing.Spelling.{Spelling}

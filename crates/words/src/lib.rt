@@ -1,8 +1,5 @@
-// One word of a GSI block: what its index makes of it, its information, its count, the record that it gives, and the bytes that a record
-// has. Everything above reads and writes words through this crate.
-pub mod counts;
-pub mod information;
-pub mod kinds;
+// One word of a GSI block: its bytes, the record that it gives, and the bytes that a record has. Everything above reads and writes words through
+// this crate.
 pub mod reading;
 pub mod records;
 pub mod writing;

@@ -3,20 +3,20 @@
 ghost use mathlib.Core.Path.{_≡_};
 ghost use Rattle.words.specs.Records.{width};
 ghost use Rattle.words.specs.Reading.{faultNumber, faulty, digitsAt, pairAt, spelledAt, partedAt, textOf, wordOf};
-use crate::counts::Figures;
-use crate::counts::Valued;
-use crate::counts::value_at;
-use crate::information::Informed;
-use crate::information::Signed;
-use crate::information::informed_by;
-use crate::information::sign_at;
-use crate::kinds::Indexed;
-use crate::kinds::Kind;
-use crate::kinds::index_at;
-use crate::kinds::textual;
 use crate::records::Word;
 use crate::records::blank_word;
 use crate::records::record_of;
+use units::counts::Figures;
+use units::counts::Valued;
+use units::counts::value_at;
+use units::information::Informed;
+use units::information::Signed;
+use units::information::informed_by;
+use units::information::sign_at;
+use units::kinds::Indexed;
+use units::kinds::Kind;
+use units::kinds::index_at;
+use units::kinds::textual;
 
 // Why a word is refused.
 pub enum Fault {

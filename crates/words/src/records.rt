@@ -1,18 +1,18 @@
 // The record that a word gives, as a host in C lends it, and the count that a record holds.
 ghost use mathlib.Core.Path.{_≡_};
 ghost use Rattle.words.specs.Records.{blank, recordOf, countOf, tenTo, wholeRight, countRight, textRight, sameWhole, isRight, typedOf};
-use crate::counts::Count;
-use crate::counts::Whole;
-use crate::counts::angle_of;
-use crate::counts::constant_of;
-use crate::counts::first_of;
-use crate::counts::length_of;
-use crate::counts::second_of;
-use crate::information::Informed;
-use crate::information::informed_by;
-use crate::kinds::Kind;
-use crate::kinds::kind_of;
-use crate::kinds::textual;
+use units::counts::Count;
+use units::counts::Whole;
+use units::counts::angle_of;
+use units::counts::constant_of;
+use units::counts::first_of;
+use units::counts::length_of;
+use units::counts::second_of;
+use units::information::Informed;
+use units::information::informed_by;
+use units::kinds::Kind;
+use units::kinds::kind_of;
+use units::kinds::textual;
 
 // index, information, the value's sign and size, mm's sign and size, text. A sign is 0 or 1; what a word doesn't use is 0.
 #[repr(C)]

@@ -3,15 +3,16 @@ ghost use mathlib.Core.Path.{_≡_};
 ghost use Prim.Native.Nat.{_<_, _≤_, _^_};
 ghost use mathlib.Core.Logic.{_⊎_};
 ghost use lib.ListN.{length};
-ghost use Rattle.words.specs.Counts.{firstOf};
-ghost use Rattle.words.specs.Information.{signByte};
+ghost use Rattle.units.specs.Counts.{firstOf, figuresOf};
+ghost use Rattle.units.specs.Information.{signByte};
 ghost use Rattle.words.specs.Writing.{dataOf, spellingOf, bytesIn};
-use crate::counts::Figures;
-use crate::counts::figures_of;
 use crate::reading::width_of;
 use crate::records::Word;
 use crate::records::count_of;
 use crate::records::right;
+use units::counts::Count;
+use units::counts::Figures;
+use units::counts::first_of;
 
 // Whether a word of the width gives the record.
 pub enum Spelt {
@@ -49,6 +50,27 @@ fn put_figures(says: Figures, text: [u8; 16], out: &mut [u8])
             figures::put_number(ppm, &mut out[0..at]);
             out[at] = sign_byte(under);
             figures::put_number(mm, &mut out[from..]);
+        }
+    }
+}
+
+// The figures of a count that a word can have.
+fn figures_of(count: Count) -> Figures
+    requires { ⌜ firstOf count .size < 10 ^ 16 ⌝ }
+    ensures { λ r. ⌜ r ≡ figuresOf count ⌝ }
+{
+    match count {
+        Count::Nothing => Figures::Text,
+        Count::Text => Figures::Text,
+        Count::Tenth(c) => {
+            let w = c.0;
+            let n = w.size;
+            Figures::Number(n / 36_000 * 100_000 + n / 600 % 60 * 1_000 + n / 10 % 60 * 10 + n % 10)
+        }
+        Count::Pair(ppm, mm) => Figures::Pair(ppm.size, mm.minus, mm.size),
+        _ => {
+            let w = first_of(count);
+            Figures::Number(w.size)
         }
     }
 }

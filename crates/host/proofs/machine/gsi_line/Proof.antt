@@ -1,5 +1,5 @@
 -- `gsi_line` meets its contract: the machine's call, its answer packed.
-use mathlib.Core.Path.{_≡_, ap, _∙_}
+use mathlib.Core.Path.{ap, _∙_}
 use borrow.Author.Needs.{needs}
 use Rattle.host.specs.Machine.{toldLine}
 use Rattle.host.proofs.machine.gsi_line.Statement.{statement}

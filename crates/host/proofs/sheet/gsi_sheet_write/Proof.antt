@@ -1,5 +1,5 @@
 -- `gsi_sheet_write` meets its contract: the sheet written, the answer packed.
-use mathlib.Core.Path.{_≡_, ap, _∙_}
+use mathlib.Core.Path.{ap, _∙_}
 use borrow.Author.Needs.{needs}
 use Rattle.host.specs.Machine.{toldSheet}
 use Rattle.host.proofs.sheet.gsi_sheet_write.Statement.{statement}

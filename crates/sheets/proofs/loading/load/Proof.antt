@@ -12,7 +12,7 @@ use Rattle.sheets.specs.declared.loading.Came.the-variants.{To}
 use Rattle.sheets.specs.declared.loading.Settings.{Settings}
 use Rattle.sheets.specs.declared.loading.Values.{Values}
 use Rattle.sheets.specs.declared.answers.Sheeted.the-variants as answer
-use Rattle.sheets.proofs.Writes.{is-image, no-image}
+use Rattle.state.proofs.Images.{decoded-is, decoded-not}
 use Rattle.sheets.proofs.Loads.{settings-within, settings-got, values-got, wrong-setting, wrong-value, wrong-end, all-right, loads-none, loads-wrong, loads-right}
 use Rattle.sheets.proofs.loading.load.Statement.{statement}
 use Rattle.sheets.proofs.loading.load.Tie as tie
@@ -20,7 +20,7 @@ use Rattle.sheets.proofs.loading.load.Tie as tie
 image-is : (c : tie.After-enum-told) → isImage (c .before .before .before .before .before .before .args .image .now) ≡ true
 image-is c =
     let d = c .before .before .decode in
-    is-image (c .before .before .before .before .before .before .args .image .now) (d .result) (d .ensures) (c .enum-told .given .1) .0
+    decoded-is (c .before .before .before .before .before .before .args .image .now) (d .result) (d .ensures) (c .enum-told .given .1) .0
 
 wrongly : (c : tie.After-enum-told) (at : ℕ) → loadingOf (c .before .before .before .before .before .before .args .sheet .now) ≡ wrong at
     → Loads (c .before .before .before .before .before .before .args .image .now) (c .before .before .before .before .before .before .args .sheet .now) (answer.Wrong at) (c .before .before .before .before .before .before .args .image .now)
@@ -32,7 +32,7 @@ returns : tie.Need-returns
 returns c =
     let given = c .before .before .before .before .before .before .args in
     let d = c .before .before .decode in
-    loads-none (given .image .now) (given .sheet .now) (no-image (given .image .now) (d .result) (d .ensures) (c .enum-told2 .given .1))
+    loads-none (given .image .now) (given .sheet .now) (decoded-not (given .image .now) (d .result) (d .ensures) (c .enum-told2 .given .1))
 
 returns-2 : tie.Need-returns-2
 returns-2 c =

@@ -7,7 +7,8 @@ use denote.Enum.Declared.{tagOf}
 use borrow.Author.Needs.{needs}
 use Rattle.state.specs.Entries.{factoryState}
 use Rattle.state.specs.Image.{imageOf}
-use Rattle.sheets.specs.Playing.{pieces, runBy, Plays}
+use Rattle.pieces.specs.Pieces.{pieces}
+use Rattle.sheets.specs.Playing.{runBy, Plays}
 use Rattle.sheets.specs.declared.answers.Sheeted.{Sheeted}
 use Rattle.sheets.specs.declared.answers.Sheeted.the-variants.{NoState, Room, Wrong, Written, Loaded}
 use Rattle.sheets.proofs.Reached.{writtenN, plays-printed, plays-short, plays-refused}

@@ -4,8 +4,9 @@ use mathlib.Core.Path.{_≡_, refl, sym, _∙_}
 use native.Mathlib.Omega.{arith}
 use borrow.Author.Needs.{needs}
 use lib.ListN.{length, drop, replicate}
-use Rattle.sheets.specs.Playing.{pieces, runBy}
-use Rattle.sheets.proofs.Pieces.{run-turn, run-none}
+use Rattle.pieces.specs.Pieces.{pieces}
+use Rattle.sheets.specs.Playing.{runBy}
+use Rattle.sheets.proofs.Turns.{run-turn, run-none}
 use Rattle.sheets.proofs.playing.run.Statement.{statement}
 use Rattle.sheets.proofs.playing.run.Tie as tie
 

@@ -10,7 +10,8 @@ use Rattle.figures.specs.Bytes.{laid}
 use Rattle.state.specs.Image.{stateIn, isImage}
 use Rattle.state.proofs.Images.{image-of}
 use Rattle.sheets.specs.Sheet.{sheetOf, sheetPut}
-use Rattle.sheets.proofs.Writes.{is-image, no-image, is-state, sheet-kept, writes-none, writes-room, writes-sheet}
+use Rattle.state.proofs.Images.{decoded-is, decoded-not}
+use Rattle.sheets.proofs.Writes.{is-state, sheet-kept, writes-none, writes-room, writes-sheet}
 use Rattle.sheets.proofs.writing.write.Statement.{statement}
 use Rattle.sheets.proofs.writing.write.Tie as tie
 
@@ -18,7 +19,7 @@ returns : tie.Need-returns
 returns c =
     let given = c .before .before .before .before .before .before .args in
     let d = c .before .before .before .decode in
-    writes-none (given .image .now) (given .room .now) (no-image (given .image .now) (d .result) (d .ensures) (c .enum-told2 .given .1))
+    writes-none (given .image .now) (given .room .now) (decoded-not (given .image .now) (d .result) (d .ensures) (c .enum-told2 .given .1))
 
 put-sheet-requires : tie.Need-put-sheet-requires
 put-sheet-requires c κs =
@@ -32,7 +33,7 @@ known : (c : tie.After-enum-told)
     × (c .before .before .before .decode .result .state ≡ stateIn (c .before .before .before .before .before .before .args .image .now))
 known c =
     let d = c .before .before .before .decode in
-    is-image (c .before .before .before .before .before .before .args .image .now) (d .result) (d .ensures) (c .enum-told .given .1)
+    decoded-is (c .before .before .before .before .before .before .args .image .now) (d .result) (d .ensures) (c .enum-told .given .1)
 
 sheet : (c : tie.After-put-sheet)
     → (c .put-sheet .result .n ≡ length (sheetOf (stateIn (c .before .before .before .before .before .before .before .args .image .now))))

@@ -10,7 +10,7 @@ use Rattle.words.specs.declared.reading.Judged.{Judged}
 use Rattle.words.specs.declared.reading.Judged.the-variants.{Right, Wrong}
 use Rattle.words.specs.declared.reading.OneWord.{OneWord}
 use Rattle.words.proofs.reading.Judged.{the-type}
-use Rattle.words.specs.Information.{isDot}
+use Rattle.units.specs.Information.{isDot}
 use Rattle.words.specs.Reading.{pos}
 use Rattle.state.specs.Values.{isRead, putRight}
 use Rattle.state.proofs.Kept.{put-read}

@@ -3,9 +3,9 @@ use mathlib.Core.Bool.{true}
 use mathlib.Core.Path.{_≡_, sym, _∙_}
 use borrow.Author.Needs.{needs}
 use Rattle.figures.specs.Decimal.{numberOf}
-use Rattle.words.specs.Information.{signRight, signOf}
+use Rattle.units.specs.Information.{signRight, signOf}
 use Rattle.words.specs.Reading.{ppmIn, underIn, mmIn}
-use Rattle.words.specs.declared.kinds.Kind.the-variants as kind
+use Rattle.units.specs.declared.kinds.Kind.the-variants as kind
 use Rattle.words.proofs.Checks.{said-not, said-number, sign-not, sign-is, ppm-in, mm-in, pair-by, pair-short, isNumber}
 use Rattle.words.proofs.reading.pair_at.Statement.{statement}
 use Rattle.words.proofs.reading.pair_at.Tie as tie

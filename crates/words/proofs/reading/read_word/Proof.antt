@@ -8,7 +8,7 @@ use borrow.Author.Tests.{lt-leb}
 use borrow.Author.Needs.{needs}
 use lib.Dec.{eqb}
 use lib.ListN.{length, getD}
-use Rattle.words.specs.Information.{infoRight}
+use Rattle.units.specs.Information.{infoRight}
 use Rattle.words.specs.Records.{width}
 use Rattle.words.specs.Reading.{wordSize, pos, kindAt, dataIn, isCounted, textOf, recordIn, rightWord}
 use Rattle.words.proofs.Checks.{index-not, informed-not, sign-not, spelled-not, parted-not, width-bounds, data-part}

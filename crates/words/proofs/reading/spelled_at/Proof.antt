@@ -10,12 +10,12 @@ use denote.Enum.Declared.{tagOf}
 use Rattle.figures.specs.Bytes.{every}
 use Rattle.words.specs.Records.{isGraphic}
 use Rattle.words.specs.Reading.{spelledAt}
-use Rattle.words.specs.declared.kinds.Kind.{Kind}
-use Rattle.words.specs.declared.kinds.Kind.the-variants as kind
-use Rattle.words.specs.declared.counts.Figures.the-variants as figures
+use Rattle.units.specs.declared.kinds.Kind.{Kind}
+use Rattle.units.specs.declared.kinds.Kind.the-variants as kind
+use Rattle.units.specs.declared.counts.Figures.the-variants as figures
 use Rattle.words.specs.declared.reading.Spelled.the-variants as spelled
 use Rattle.words.proofs.Checks.{failed, passed}
-use Rattle.words.proofs.kinds.Kind.{the-type}
+use Rattle.units.proofs.kinds.Kind.{the-type}
 use Rattle.words.proofs.reading.spelled_at.Statement.{statement}
 use Rattle.words.proofs.reading.spelled_at.Tie as tie
 

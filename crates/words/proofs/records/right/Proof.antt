@@ -6,10 +6,10 @@ use borrow.Author.Needs.{needs}
 use lib.Dec.{eqb}
 use lib.ListN.{length, getD}
 use Rattle.words.specs.declared.records.Word.{Word}
-use Rattle.words.specs.Information.{infoRight}
-use Rattle.words.specs.declared.information.Informed.the-variants.{Not, Right}
+use Rattle.units.specs.Information.{infoRight}
+use Rattle.units.specs.declared.information.Informed.the-variants.{Not, Right}
 use Rattle.words.specs.Records.{kindIn, unitIn, countOf, countRight, sameWhole}
-use Rattle.words.specs.Counts.{firstOf, secondOf}
+use Rattle.units.specs.Counts.{firstOf, secondOf}
 use Rattle.words.proofs.Checks.{failed, passed, informed-not, informed-right}
 use Rattle.words.proofs.records.right.Statement.{statement}
 use Rattle.words.proofs.records.right.Tie as tie

@@ -6,7 +6,7 @@ use native.Mathlib.Omega.{arith}
 use borrow.Rule.Slice.PartMut.{same-len-mid}
 use borrow.Author.Needs.{needs}
 use lib.ListN.{length, replicate}
-use Rattle.words.specs.Counts.{figuresOf}
+use Rattle.units.specs.Counts.{figuresOf}
 use Rattle.words.specs.Records.{kindIn, countOf}
 use Rattle.words.specs.Writing.{dataOf}
 use Rattle.words.proofs.Checks.{width-bounds}

@@ -7,8 +7,8 @@ use native.Mathlib.Omega.{arith}
 use borrow.Author.Tests.{le-leb}
 use lib.Dec.{eqb, leb}
 use lib.ListN.{length, getD}
-use Rattle.words.specs.Kinds.{indexRight}
-use Rattle.words.specs.Information.{infoRight, informedOf, signRight, signOf, signAt}
+use Rattle.units.specs.Kinds.{indexRight}
+use Rattle.units.specs.Information.{infoRight, informedOf, signRight, signOf, signAt}
 use Rattle.words.specs.Records.{width}
 use Rattle.words.specs.Reading.{wordSize, pos, indexIn, kindAt, dataIn, dataRight, figuresIn, spelledAt, partedAt, valueIn, isCounted, countOr}
 use Rattle.words.proofs.Checks.{index-is, informed-right, sign-is, spelled-says, parted-blank, data-part}

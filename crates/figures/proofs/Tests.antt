@@ -1,0 +1,52 @@
+-- Tests and what they say; and tests of a number: what a function computes at each number of a run, it is there, and a number above all of a list is none of it.
+use Prim.Native.Nat.{ℕ, zero, suc, _+_, _-_, _<_, _≤_}
+use mathlib.Core.Path.{_≡_, refl}
+use mathlib.Core.Bool.{Bool, true, false, cond, _&&_, and-eq-true-iff}
+use mathlib.Core.List.{List, [], _∷_}
+use mathlib.Core.Logic.{⊎-elim}
+use native.Mathlib.Nat.{eq-or-lt-of-le}
+use native.Mathlib.Omega.{arith}
+use borrow.Author.Tests.{ne-eqb, leb-true}
+use lib.Dec.{eqb, leb}
+use lib.ListN.{replicate}
+use Rattle.figures.specs.Bytes.{among, every}
+
+pub both : (a b : Bool) → a && b ≡ true → (a ≡ true) × (b ≡ true)
+both a b = and-eq-true-iff a b .0
+
+pub by-test : {A : Type 0} (b : Bool) → (b ≡ true → A) → (b ≡ false → A) → A
+by-test true f g = f refl
+by-test false f g = g refl
+
+-- f at k numbers from low on
+abbrev pub run : {A : Type 0} → (ℕ → A) → ℕ → ℕ → List A
+run f low zero = []
+run f low (suc k) = f low ∷ run f (suc low) k
+
+-- f is a at each number from low to below high
+abbrev pub Even : {A : Type 0} → (ℕ → A) → A → ℕ → ℕ → Type 0
+Even f a low high = run f low (high - low) ≡ replicate (high - low) a
+
+in-run : {A : Type 0} (f : ℕ → A) {a : A} (low k n : ℕ) → run f low k ≡ replicate k a → low ≤ n → n < low + k → a ≡ f n
+in-run f low zero n e hl hh = absurd (omega arith)
+in-run f {a} low (suc k) n e hl hh =
+    let here : a ≡ f low = cc in
+    let later : run f (suc low) k ≡ replicate k a = cc in
+    ⊎-elim (λ is. rw (← is) here) (λ h. in-run f (suc low) k n later h (omega arith)) (eq-or-lt-of-le hl)
+
+pub along : {A : Type 0} (f : ℕ → A) {a : A} (low high : ℕ) {n : ℕ} → Even f a low high → low ≤ n → n < high → a ≡ f n
+along f low high {n} e hl hh = in-run f low (high - low) n e hl (omega arith)
+
+-- the same, but at one number
+pub along-but : {A : Type 0} (f : ℕ → A) {a : A} (low high but : ℕ) {n : ℕ} → Even (λ x. cond (eqb x but) a (f x)) a low high
+    → low ≤ n → n < high → (n ≡ but → ⊥) → a ≡ f n
+along-but f {a} low high but {n} e hl hh hn =
+    rw (ne-eqb n but hn) at (along (λ x. cond (eqb x but) a (f x)) low high e hl hh)
+
+pub among-above : (high : ℕ) (l : List ℕ) → every (λ x. leb x high) l ≡ true → (n : ℕ) → high < n → among n l ≡ false
+unfolding among every
+among-above high [] e n h = refl
+among-above high (x ∷ l) e n h =
+    let parts = both (leb x high) (every (λ y. leb y high) l) e in
+    let low = leb-true x high (parts .0) in
+    rw (among, ne-eqb n x (λ is. omega arith)) (among-above high l (parts .1) n h)

@@ -1,0 +1,19 @@
+-- The promises of this crate's public functions determine what comes out.
+use mathlib.Core.Path.{_≡_}
+use mathlib.Core.Bool.{false}
+use mathlib.Core.List.{List}
+use Prim.Native.Nat.{ℕ}
+use Rattle.figures.specs.Promises.{Determined}
+use Rattle.figures.proofs.Determined.{by-equation, by-three}
+use Rattle.port.specs.Port.{quietPort, heard, Turns}
+use Rattle.port.specs.declared.Port.{Port}
+use Rattle.port.specs.declared.Turn.{Turn}
+
+pub quiet-determined : Determined (Unit {0}) Port (λ i r. r ≡ quietPort false)
+quiet-determined = by-equation (Unit {0}) Port (λ i. quietPort false)
+
+-- image, port, byte and room go in; the turn, the image and the room come out
+pub hear-determined : Determined (List ℕ × Port × ℕ × List ℕ) (Turn × (List ℕ × List ℕ)) (λ i o. Turns (i .0) (i .1) (i .2) (i .3) (o .0) (o .1 .0) (o .1 .1))
+hear-determined =
+    by-three (List ℕ × Port × ℕ × List ℕ) Turn (List ℕ) (List ℕ) (λ i. heard (i .0) (i .1) (i .2) (i .3) .turn) (λ i. heard (i .0) (i .1) (i .2) (i .3) .image)
+    (λ i. heard (i .0) (i .1) (i .2) (i .3) .room)

@@ -1,0 +1,4 @@
+pub mod Hearing
+pub mod Alike
+pub mod Heard
+pub mod Determined

@@ -1,0 +1,87 @@
+-- The instrument's port: "a line is run at its CR, an LF right after it is swallowed", however long it is.
+use Prim.Native.Nat.{ℕ, _+_}
+use mathlib.Core.Path.{_≡_}
+use mathlib.Core.Bool.{Bool, true, false, cond, _&&_, _||_}
+use mathlib.Core.List.{List, [], _∷_, _++_}
+use lib.Dec.{eqb, ltb}
+use lib.ListN.{take, set, replicate}
+use Rattle.lines.specs.Machine.{Called, call}
+use Rattle.port.specs.declared.Port.{Port}
+use Rattle.port.specs.declared.Turn.{Turn}
+
+-- the bytes of a line that are kept: enough that 20 and 21 are judged of it as of the whole line
+abbrev pub most : ℕ
+most = 101
+
+abbrev pub isEnd : ℕ → Bool
+isEnd b = eqb b 13 || eqb b 10
+
+abbrev pub quietPort : Bool → Port
+quietPort after = record { bytes = replicate most 0; n = 0; after = after }
+
+abbrev pub keptBy : Port → ℕ → Port
+keptBy p b =
+    cond (ltb (p .n) most) (record { bytes = set (p .bytes) (p .n) b; n = p .n + 1; after = false })
+    (record { bytes = cond (isEnd b) (set (p .bytes) 100 b) (p .bytes); n = p .n; after = false })
+
+-- the line that is run for what came in
+abbrev pub lineOf : Port → List ℕ
+lineOf p = take (p .n) (p .bytes) ++ (13 ∷ [])
+
+abbrev pub Answers : List ℕ → Port → List ℕ → ℕ → List ℕ → List ℕ → Type 0
+Answers image p room r image′ room′ =
+    let c = call image (lineOf p) room in (r ≡ c .answer .count) × ((image′ ≡ c .image) × (room′ ≡ c .room))
+
+-- one byte
+pub record Heard : Type 0 where
+  pub turn : Turn
+  pub image : List ℕ
+  pub room : List ℕ
+
+abbrev pub waits : Port → List ℕ → List ℕ → Heard
+waits p image room = record { turn = record { port = p; count = 0 }; image = image; room = room }
+
+abbrev pub runs : Called → Heard
+runs c = record { turn = record { port = quietPort true; count = c .answer .count }; image = c .image; room = c .room }
+
+abbrev pub heard : List ℕ → Port → ℕ → List ℕ → Heard
+heard image p b room =
+    cond (eqb b 13) (runs (call image (lineOf p) room))
+    (cond (eqb b 10 && p .after) (waits (record { bytes = p .bytes; n = p .n; after = false }) image room)
+    (waits (keptBy p b) image room))
+
+abbrev pub Turns : List ℕ → Port → ℕ → List ℕ → Turn → List ℕ → List ℕ → Type 0
+Turns image p b room r image′ room′ =
+    let h = heard image p b room in (r ≡ h .turn) × ((image′ ≡ h .image) × (room′ ≡ h .room))
+
+-- What that comes to, said of the lines themselves (proofs/Heard.antt): the lines of all that came in, whole, each with its CR
+unfoldable pub linesFrom : List ℕ → Bool → List ℕ → List (List ℕ)
+linesFrom line after [] = []
+linesFrom line after (b ∷ s) =
+    cond (eqb b 13) ((line ++ (13 ∷ [])) ∷ linesFrom [] true s)
+    (cond (eqb b 10 && after) (linesFrom line false s)
+    (linesFrom (line ++ (b ∷ [])) false s))
+
+abbrev pub linesOf : List ℕ → List (List ℕ)
+linesOf = linesFrom [] false
+
+-- what goes out for bytes that come in, each with a room of its own, and the image then
+pub record Spoken : Type 0 where
+  pub image : List ℕ
+  pub out : List ℕ
+
+-- each byte at the port
+unfoldable pub spokenBy : List ℕ → Port → List ℕ → List ℕ → Spoken
+spokenBy room p image [] = record { image = image; out = [] }
+spokenBy room p image (b ∷ s) =
+    let h = heard image p b room in
+    let later = spokenBy room (h .turn .port) (h .image) s in
+    record { image = later .image; out = take (h .turn .count) (h .room) ++ later .out }
+
+-- each line by itself
+unfoldable pub calledBy : List ℕ → List ℕ → List (List ℕ) → Spoken
+calledBy room image [] = record { image = image; out = [] }
+calledBy room image (l ∷ ls) =
+    let c = call image l room in
+    let later = calledBy room (c .image) ls in
+    record { image = later .image; out = take (c .answer .count) (c .room) ++ later .out }

@@ -1,0 +1,3 @@
+pub mod Positions
+pub mod Sexagesimal
+pub mod Determined

@@ -1,0 +1,106 @@
+-- Positions 1-2 and 7: an index and its two digits, and a sign and its byte, say each other.
+use Prim.Native.Nat.{ℕ, _+_, _/_, _%_, _<_, _≤_}
+use mathlib.Core.Path.{_≡_, refl, sym, ap, _∙_}
+use mathlib.Core.Bool.{true, false, not, false≢true}
+use mathlib.Core.List.{List, [], _∷_}
+use native.Mathlib.Omega.{arith}
+use borrow.Author.Tests.{eqb-true, eqb-false, leb-true, leb-false}
+use lib.Dec.{eqb, leb}
+use Rattle.figures.specs.Bytes.{among, every}
+use Rattle.figures.specs.Decimal.{isDigit, digitsOf}
+use Rattle.figures.proofs.Bytes.{within-bounds, bounds-within, above-within}
+use Rattle.units.specs.Kinds.{kindOf, isListed, isTextual, indexOf}
+use Rattle.units.specs.Information.{infoRight, signByte, signOf, isSign, signRight}
+use Rattle.units.specs.declared.kinds.Kind.{Kind}
+use Rattle.units.specs.declared.kinds.Kind.the-variants.{Missing, Numbered, Text, Angle, Length, Constant, Pair}
+use Rattle.figures.proofs.Tests.{both, by-test, among-above}
+
+-- the index
+
+-- no index of the table is above 88
+pub none-above : (n : ℕ) → 88 < n → kindOf n ≡ Missing
+unfolding every
+none-above n h =
+    let none : (l : List ℕ) → every (λ x. leb x 88) l ≡ true → among n l ≡ false = λ l e. among-above 88 l e n h in
+    rw (
+      none (11 ∷ 41 ∷ []) refl,
+      none (12 ∷ 13 ∷ 16 ∷ 18 ∷ 19 ∷ 52 ∷ 53 ∷ []) refl,
+      above-within 42 49 n (omega arith) (omega arith),
+      above-within 71 79 n (omega arith) (omega arith),
+      none (21 ∷ 22 ∷ 24 ∷ []) refl,
+      above-within 31 34 n (omega arith) (omega arith),
+      above-within 81 88 n (omega arith) (omega arith),
+      none (58 ∷ 59 ∷ []) refl,
+      none (51 ∷ []) refl,
+    )
+
+pub index-below : (n : ℕ) → isListed (kindOf n) ≡ true → n < 100
+index-below n e =
+    by-test (leb n 88) (λ q. omega (arith, leb-true n 88 q)) (λ q. absurd (false≢true (ap isListed (sym (none-above n (leb-false n 88 q))) ∙ e)))
+
+pub index-back : (tens ones : ℕ) → isDigit tens ≡ true → isDigit ones ≡ true → digitsOf 2 (indexOf tens ones) ≡ tens ∷ ones ∷ []
+unfolding digitsOf
+index-back tens ones et eo =
+    let t = within-bounds 48 57 tens et in
+    let o = within-bounds 48 57 ones eo in
+    let e : 48 + indexOf tens ones / 10 % 10 ≡ tens = omega arith in
+    let f : 48 + indexOf tens ones % 10 ≡ ones = omega arith in
+    rw (e, f)
+
+-- the two digits of an index of the table
+abbrev pub tensOf : ℕ → ℕ
+tensOf n = 48 + n / 10 % 10
+
+abbrev pub onesOf : ℕ → ℕ
+onesOf n = 48 + n % 10
+
+pub index-digits : (n : ℕ) → digitsOf 2 n ≡ tensOf n ∷ onesOf n ∷ []
+unfolding digitsOf
+index-digits n = refl
+
+pub index-on : (n : ℕ) → isListed (kindOf n) ≡ true → indexOf (tensOf n) (onesOf n) ≡ n
+index-on n e = let h = index-below n e in omega arith
+
+pub tens-digit : (n : ℕ) → isDigit (tensOf n) ≡ true
+tens-digit n = bounds-within 48 57 (tensOf n) (omega arith) (omega arith)
+
+pub ones-digit : (n : ℕ) → isDigit (onesOf n) ≡ true
+ones-digit n = bounds-within 48 57 (onesOf n) (omega arith) (omega arith)
+
+pub info-listed : (k : Kind) (a b c d : ℕ) → infoRight k a b c d ≡ true → isListed k ≡ true
+info-listed Missing a b c d e = e
+info-listed Numbered a b c d e = refl
+info-listed Text a b c d e = refl
+info-listed Angle a b c d e = refl
+info-listed Length a b c d e = refl
+info-listed Constant a b c d e = refl
+info-listed Pair a b c d e = refl
+
+-- the sign
+
+-- a plus or a minus; text has a plus only
+pub record SignFor (k : Kind) (m : ℕ) : Type 0 where
+  pub small : m ≤ 1
+  pub plus : isTextual k ≡ true → m ≡ 0
+
+pub sign-small : (b : ℕ) → signOf b ≤ 1
+sign-small b = by-test (eqb b 43) (λ q. rw q (omega arith)) (λ q. rw q (omega arith))
+
+pub sign-back : (b : ℕ) → isSign b ≡ true → signByte (signOf b) ≡ b
+sign-back b e = by-test (eqb b 43) (λ q. rw q (sym (eqb-true b 43 q))) (λ q. rw q (sym (eqb-true b 45 (rw q at e))))
+
+pub sign-byte-is : (m : ℕ) → isSign (signByte m) ≡ true
+sign-byte-is m = by-test (eqb m 0) (λ q. rw q) (λ q. rw q)
+
+pub sign-on : (m : ℕ) → m ≤ 1 → signOf (signByte m) ≡ m
+sign-on m h = by-test (eqb m 0) (λ q. rw q (sym (eqb-true m 0 q))) (λ q. rw q (omega (arith, eqb-false m 0 q)))
+
+pub sign-of : (k : Kind) (b : ℕ) → signRight k b ≡ true → (isSign b ≡ true) × SignFor k (signOf b)
+sign-of k b e =
+    by-test (eqb b 43) (λ q. (rw q, record { small = sign-small b; plus = λ t. rw q }))
+    (λ q.
+    let minus = both (eqb b 45) (not (isTextual k)) (rw q at e) in
+    (rw q (minus .0), record { small = sign-small b; plus = λ t. absurd (false≢true (rw t at (minus .1))) }))
+
+pub sign-right : (k : Kind) (m : ℕ) → SignFor k m → signRight k (signByte m) ≡ true
+sign-right k m h = by-test (eqb m 0) (λ q. rw q) (λ q. by-test (isTextual k) (λ t. absurd (eqb-false m 0 q (h .plus t))) (λ t. rw (q, t)))

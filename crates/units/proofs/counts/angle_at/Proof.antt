@@ -1,0 +1,30 @@
+-- `angle_at` meets its contract: its arms are the units of the definition.
+use borrow.Author.Tests.{ne-eqb}
+use borrow.Author.Needs.{needs}
+use Rattle.units.proofs.counts.angle_at.Statement.{statement}
+use Rattle.units.proofs.counts.angle_at.Tie as tie
+
+returns : tie.Need-returns
+returns c = rw (c .before .match .keys1) (c .gon-at .ensures)
+
+returns-2 : tie.Need-returns-2
+returns-2 c = rw (c .before .match .keys2) (c .degree-at .ensures)
+
+returns-3 : tie.Need-returns-3
+returns-3 c = rw (c .before .match .keys3) (c .tenth-at .ensures)
+
+returns-4 : tie.Need-returns-4
+returns-4 c = rw (ne-eqb _ _ (c .before .match .rest .0 .0 .1), ne-eqb _ _ (c .before .match .rest .0 .1), ne-eqb _ _ (c .before .match .rest .1)) (c .mil-at .ensures)
+
+pub angle-at-spec : {M : Type 1} → statement M
+angle-at-spec =
+    tie.close
+    (tie.spec
+    (λ c κs. search needs)
+    (λ c κs. search needs)
+    (λ c κs. search needs)
+    (λ c κs. search needs)
+    returns
+    returns-2
+    returns-3
+    returns-4)

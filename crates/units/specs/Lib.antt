@@ -1,0 +1,3 @@
+pub mod Kinds
+pub mod Information
+pub mod Counts

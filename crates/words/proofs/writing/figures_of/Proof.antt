@@ -1,0 +1,73 @@
+-- `figures_of` meets its contract: the last arm has the counts of one number that is written as it is, and a number of at most sixteen
+-- digits leaves room for its sexagesimal digits.
+use Prim.Native.Nat.{_<_, _^_}
+use native.Mathlib.Omega.{arith}
+use mathlib.Core.Path.{_≡_, refl}
+use mathlib.Core.List.{[], _∷_}
+use types.Run.{OneOf, miss}
+use denote.Enum.Declared.{tagOf}
+use borrow.Author.Needs.{needs}
+use Rattle.units.specs.Counts.{firstOf, figuresOf}
+use Rattle.units.specs.declared.counts.Figures.the-variants.{Number}
+use Rattle.units.specs.declared.counts.Count.{Count}
+use Rattle.units.specs.declared.counts.Count.the-variants.{Nothing, Text, Gon, Degree, Tenth, Mil, Metre, Feet, Ppm, Pair}
+use Rattle.units.proofs.counts.Count.{the-type}
+use Rattle.words.proofs.writing.figures_of.Statement.{statement}
+use Rattle.words.proofs.writing.figures_of.Tie as tie
+
+rest : (x : Count) → OneOf (2 ∷ 3 ∷ 5 ∷ 6 ∷ 7 ∷ 8 ∷ []) (tagOf the-type x) → Number (firstOf x .size) ≡ figuresOf x
+rest Nothing h = absurd (miss (2 ∷ 3 ∷ 5 ∷ 6 ∷ 7 ∷ 8 ∷ []) 0 tt h)
+rest Text h = absurd (miss (2 ∷ 3 ∷ 5 ∷ 6 ∷ 7 ∷ 8 ∷ []) 1 tt h)
+rest (Gon c) h = refl
+rest (Degree c) h = refl
+rest (Tenth c) h = absurd (miss (2 ∷ 3 ∷ 5 ∷ 6 ∷ 7 ∷ 8 ∷ []) 4 tt h)
+rest (Mil c) h = refl
+rest (Metre c) h = refl
+rest (Feet c) h = refl
+rest (Ppm c) h = refl
+rest (Pair p q) h = absurd (miss (2 ∷ 3 ∷ 5 ∷ 6 ∷ 7 ∷ 8 ∷ []) 9 tt h)
+
+small : (c : tie.After-w) → c .before .before .count .given .0 .0 .0 .size < 10 ^ 16
+small c = rw (c .before .before .count .given .1) at (c .before .before .before .before .pre)
+
+mul-t10 : tie.Need-mul-t10
+mul-t10 c = omega (arith, small c)
+
+add-t14 : tie.Need-add-t14
+add-t14 c = omega (arith, small c)
+
+add-t18 : tie.Need-add-t18
+add-t18 c = omega (arith, small c)
+
+add-t20 : tie.Need-add-t20
+add-t20 c = omega (arith, small c)
+
+returns-3 : tie.Need-returns-3
+returns-3 c = rw (c .before .before .count .given .1)
+
+returns-4 : tie.Need-returns-4
+returns-4 c = rw (c .before .count2 .given .1)
+
+returns-5 : tie.Need-returns-5
+returns-5 c = rw (c .first-of .ensures) (rest (c .before .before .args .count) (c .before .match .keys5))
+
+pub figures-of-spec : {M : Type 1} → statement M
+figures-of-spec =
+    tie.close
+    (tie.spec
+    (λ c. search needs)
+    (λ c. search needs)
+    (λ c. search needs)
+    mul-t10
+    (λ c. search needs)
+    add-t14
+    (λ c. search needs)
+    add-t18
+    add-t20
+    (λ c. search needs)
+    (λ c κs. search needs)
+    (λ c. search needs)
+    (λ c. search needs)
+    returns-3
+    returns-4
+    returns-5)
