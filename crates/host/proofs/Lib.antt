@@ -1,3 +1,4 @@
 pub mod Told
 pub mod Whole
+pub mod Answered
 pub mod Determined

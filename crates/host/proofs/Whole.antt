@@ -17,14 +17,17 @@ use Rattle.blocks.specs.declared.answers.Refusal.{Refusal}
 use Rattle.blocks.specs.declared.answers.Refusal.the-variants.{Count, Record, Room}
 use Rattle.blocks.specs.declared.answers.Answer.the-variants as answer
 use Rattle.blocks.specs.declared.answers.Wrote.the-variants as wrote
-use Rattle.blocks.specs.Answers.{refusalTells}
+use Rattle.blocks.specs.Answers.{refusalNumber, refusalTells}
 use Rattle.blocks.specs.Judging.{Judgement, isAt, endedAt, judged}
 use Rattle.blocks.specs.Composing.{starBytes, endBytes, wordsBytes, blockBytes, unlessWrong, Written·room, refusedRoom, fitted, written}
 use Rattle.blocks.proofs.Counts.{size-le, judged-by}
-use Rattle.host.specs.Answers.{refusedTold, refusedWhole, readTold, readWhole, wroteTold, wroteWhole, isYes, ReadsC, WritesC}
+use Rattle.host.specs.Answers.{packed, refusedTold, refusedWhole, readTold, readWhole, wroteTold, wroteWhole, isYes, ReadsC, WritesC}
+
+pub packed-whole : (number told : ℕ) → told ≤ 771 → packed number told ≡ number * 4294967296 + told
+packed-whole number told h = let fits : told < 4294967296 = omega arith in rw (mod-eq-of-lt fits)
 
 refused-whole : (r : Refusal) → refusalTells r ≤ 771 → refusedTold r ≡ refusedWhole r
-refused-whole r h = let fits : refusalTells r < 4294967296 = omega arith in rw (mod-eq-of-lt fits)
+refused-whole r h = packed-whole (refusalNumber r) (refusalTells r) h
 
 -- a block that was judged
 ended-whole : (wide : Bool) (at : ℕ) (rest : List ℕ) (n : ℕ) → at ≤ 769 → n ≤ 32 → readTold (endedAt wide at rest n) ≡ readWhole (endedAt wide at rest n)
@@ -49,7 +52,7 @@ end-le : (crlf : Bool) → length (endBytes crlf) ≤ 2
 end-le true = omega arith
 end-le false = omega arith
 
-cond-when : {A : Type 0} (P : A → Type 0) (t : Bool) (a b : A) → (t ≡ true → P a) → P b → P (cond t a b)
+pub cond-when : {A : Type 0} (P : A → Type 0) (t : Bool) (a b : A) → (t ≡ true → P a) → P b → P (cond t a b)
 cond-when P true a b h k = h refl
 cond-when P false a b h k = k
 

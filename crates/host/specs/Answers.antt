@@ -16,7 +16,7 @@ use Rattle.blocks.specs.Answers.{refusalNumber, refusalTells}
 use Rattle.blocks.specs.Judging.{judged, filled}
 use Rattle.blocks.specs.Composing.{written}
 
--- the low 32 bits of what is told, so that any answer has a number; of a block that was read or written they are all of it (proofs/Whole.antt)
+-- the low 32 bits of what is told, so that any answer has a number; they are all of it (proofs/Whole.antt, Answered.antt)
 abbrev pub packed : ℕ → ℕ → ℕ
 packed number told = number * 4294967296 + told % 4294967296
 

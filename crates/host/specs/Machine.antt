@@ -1,5 +1,5 @@
 -- What the stand-in's C functions answer and leave: the machine's own definitions, with number and told packed.
-use Prim.Native.Nat.{ℕ, _*_}
+use Prim.Native.Nat.{ℕ, _+_, _*_}
 use mathlib.Core.Path.{_≡_}
 use mathlib.Core.Bool.{cond}
 use mathlib.Core.List.{List}
@@ -20,6 +20,13 @@ toldLine t = packed (verdictNumber (t .verdict)) (t .count)
 
 abbrev pub toldSheet : Sheeted → ℕ
 toldSheet a = packed (sheetNumber a) (sheetTells a)
+
+-- the same with nothing cut off
+abbrev pub lineWhole : Told → ℕ
+lineWhole t = verdictNumber (t .verdict) * 4294967296 + t .count
+
+abbrev pub sheetWhole : Sheeted → ℕ
+sheetWhole a = sheetNumber a * 4294967296 + sheetTells a
 
 -- "Laying down the factory state takes lent bytes of exactly the image's length, with any contents, and refuses 31 otherwise."
 abbrev pub LaysFactory : List ℕ → ℕ → List ℕ → Type 0

@@ -11,4 +11,5 @@ pub mod Shape
 pub mod Lookups
 pub mod Replying
 pub mod Calling
+pub mod Longest
 pub mod Determined

@@ -36,10 +36,10 @@ pub data Comes (s : State) (line : List ℕ) (o : Outcome) : Type 0 where
   stays : isAccepted (o .verdict) ≡ false → o .next ≡ s → Comes s line o
   runs : isAccepted (o .verdict) ≡ true → orderVerdict s (textOf line) (orderOf (textOf line)) ≡ Accepted → o .next ≡ doneOf s (textOf line) (orderOf (textOf line)) → Comes s line o
 
-judged : (ended short : Bool) (v : Verdict) → cond ended (cond short v Long) Unended ≡ Accepted → v ≡ Accepted
+pub judged : (ended short : Bool) (v : Verdict) → cond ended (cond short v Long) Unended ≡ Accepted → (short ≡ true) × (v ≡ Accepted)
 judged false short v e = absurd (clash (cc))
 judged true false v e = absurd (clash (cc))
-judged true true v e = e
+judged true true v e = (refl, e)
 
 comes-by : (s : State) (line : List ℕ) (fits : Bool) (v : Verdict) (reply : List ℕ) (b : Bool) → isAccepted v ≡ b
     → (v ≡ Accepted → orderVerdict s (textOf line) (orderOf (textOf line)) ≡ Accepted)
@@ -52,7 +52,7 @@ pub comes : (s : State) (line : List ℕ) (room : ℕ) → Comes s line (step s 
 comes s line room =
     let v = lineVerdict s line in
     comes-by s line (leb (length (replyOf s (textOf line) (orderOf (textOf line)) v)) room) v (replyOf s (textOf line) (orderOf (textOf line)) v) (isAccepted v) refl
-    (judged (isEnded line) (leb (length (textOf line)) 100) (orderVerdict s (textOf line) (orderOf (textOf line))))
+    (λ e. judged (isEnded line) (leb (length (textOf line)) 100) (orderVerdict s (textOf line) (orderOf (textOf line))) e .1)
 
 -- SET
 

@@ -1,0 +1,35 @@
+-- `reading::turns::feed` meets its contract: the byte joins the piece, or the piece is told and the byte starts the next.
+use mathlib.Core.Path.{refl, sym, _∙_}
+use borrow.Author.Needs.{needs}
+use Rattle.reading.proofs.Turning.{feeds-on, feeds-next}
+use Rattle.reading.proofs.turns.feed.Statement.{statement}
+use Rattle.reading.proofs.turns.feed.Tie as tie
+
+returns : tie.Need-returns
+returns c =
+    let join = c .before .before in
+    let joins = join .before .before .before in
+    let a = joins .before .before .before .args in
+    feeds-on (a .room .now) (a .progress) (a .b) (a .text .now) _ _ _ (sym (joins .joins .ensures) ∙ join .before .before .if1 .taken) (join .join .ensures .0) refl (join .join .ensures .1) refl
+
+returns-2 : tie.Need-returns-2
+returns-2 c =
+    let join = c .before .before in
+    let tell = join .before .before .before .before .before in
+    let joins = tell .before .before .before .before in
+    let a = joins .before .before .before .args in
+    feeds-next (a .room .now) (a .progress) (a .b) (a .text .now) _ _ _ (tell .tell .result) (sym (joins .joins .ensures) ∙ tell .before .before .before .if1 .left) (tell .tell .ensures .0) (rw (join .join2 .ensures .0)) (join .join2 .ensures .1) (tell .tell .ensures .1)
+
+pub feed-spec : {M : Type 1} → statement M
+feed-spec =
+    tie.close
+    (tie.spec
+    (λ c κs. search needs)
+    (λ c κs. search needs)
+    (λ c. search needs)
+    returns
+    (λ c κs. search needs)
+    (λ c κs. search needs)
+    (λ c. search needs)
+    (λ c. search needs)
+    returns-2)

@@ -1,0 +1,140 @@
+// A file read byte by byte: the piece that comes in is kept, and reported when it has ended.
+ghost use mathlib.Core.Path.{_≡_};
+ghost use mathlib.Core.List.{_∷_, []};
+ghost use Prim.Native.Nat.{_≤_};
+ghost use lib.ListN.{length};
+ghost use Rattle.reports.specs.Rooms.{putAt};
+ghost use Rattle.reading.specs.Turns.{moreOf, started, joined, told, toldText, Feeds, finished, finishedText};
+use pieces::Mark;
+use pieces::after;
+use pieces::joins;
+use reports::piece::report;
+use reports::rooms::put;
+
+// Of a piece so many bytes are kept. A block is at most 771 bytes long, so that the piece is judged as if all of it were.
+pub const KEPT: usize = 800;
+
+// How far the file is read: of the piece that comes in its mark, how many of its bytes are kept and where it starts; the place of the next byte;
+// and the blocks before it.
+pub struct Progress {
+    pub mark: Mark,
+    pub kept: usize,
+    pub place: u64,
+    pub next: u64,
+    pub blocks: u64,
+    pub accepted: u64,
+    pub refused: u64,
+}
+
+// How far it is read then, and how many bytes of report there are.
+pub struct Turn {
+    pub progress: Progress,
+    pub count: usize,
+}
+
+pub fn start() -> Progress
+    ensures { λ r. ⌜ r ≡ started ⌝ }
+{
+    Progress {
+        mark: Mark::Open,
+        kept: 0,
+        place: 0,
+        next: 0,
+        blocks: 0,
+        accepted: 0,
+        refused: 0,
+    }
+}
+
+// One more, up to the largest count.
+fn more(n: u64) -> u64
+    ensures { λ r. ⌜ r ≡ moreOf n ⌝ }
+{
+    if n < u64::MAX {
+        return n + 1;
+    }
+    n
+}
+
+// The piece's next byte.
+fn join(room: &mut [u8], progress: Progress, b: u8) -> Progress
+    ensures { λ r. ⌜ (r ≡ joined (length (now (room .entry))) progress b) × (now (room .exit) ≡ putAt (now (room .entry)) (progress .kept) (b ∷ [])) ⌝ }
+{
+    let kept = put(room, progress.kept, &[b]);
+    let mark = progress.mark;
+    let next = after(mark, b);
+    Progress {
+        mark: next,
+        kept: kept,
+        place: progress.place,
+        next: more(progress.next),
+        blocks: progress.blocks,
+        accepted: progress.accepted,
+        refused: progress.refused,
+    }
+}
+
+// The report of the piece, which has ended.
+fn tell(room: &[u8], progress: Progress, text: &mut [u8]) -> Turn
+    requires { ⌜ progress .kept ≤ length (now room) ⌝ }
+    ensures { λ r. ⌜ (r ≡ told (now (room .entry)) progress (length (now (text .entry)))) × (now (text .exit) ≡ toldText (now (room .entry)) progress (now (text .entry))) ⌝ }
+{
+    let kept = progress.kept;
+    let blocks = more(progress.blocks);
+    let reported = report(blocks, progress.place, &room[..kept], text);
+    let mut accepted = progress.accepted;
+    let mut refused = progress.refused;
+    if reported.accepted {
+        accepted = more(accepted);
+    } else {
+        refused = more(refused);
+    }
+    Turn {
+        progress: Progress {
+            mark: Mark::Open,
+            kept: 0,
+            place: progress.next,
+            next: progress.next,
+            blocks: blocks,
+            accepted: accepted,
+            refused: refused,
+        },
+        count: reported.count,
+    }
+}
+
+// The next byte of the file. Where it starts a piece, the report of the one before is put.
+pub fn feed(room: &mut [u8], progress: Progress, b: u8, text: &mut [u8]) -> Turn
+    requires { ⌜ progress .kept ≤ length (now room) ⌝ }
+    ensures { λ r. ⌜ Feeds (now (room .entry)) progress b (now (text .entry)) r (now (room .exit)) (now (text .exit)) ⌝ }
+{
+    let mark = progress.mark;
+    if joins(mark, b) {
+        let next = join(room, progress, b);
+        return Turn {
+            progress: next,
+            count: 0,
+        };
+    }
+    let turn = tell(room, progress, text);
+    let ended = turn.progress;
+    let next = join(room, ended, b);
+    Turn {
+        progress: next,
+        count: turn.count,
+    }
+}
+
+// The end of the file. Where it ends a piece, the report of that is put.
+pub fn finish(room: &[u8], progress: Progress, text: &mut [u8]) -> Turn
+    requires { ⌜ progress .kept ≤ length (now room) ⌝ }
+    ensures { λ r. ⌜ (r ≡ finished (now (room .entry)) progress (length (now (text .entry)))) × (now (text .exit) ≡ finishedText (now (room .entry)) progress (now (text .entry))) ⌝ }
+{
+    if progress.kept == 0 {
+        return Turn {
+            progress: progress,
+            count: 0,
+        };
+    }
+    tell(room, progress, text)
+}

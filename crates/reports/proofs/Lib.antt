@@ -1,0 +1,4 @@
+pub mod Putting
+pub mod Places
+pub mod Words
+pub mod Reporting

@@ -1,0 +1,3 @@
+pub mod Rooms
+pub mod Measures
+pub mod Piece

@@ -1,0 +1,87 @@
+#!/bin/sh
+# The program reading on its example, however the bytes come in; on a large file with overlong pieces; and at the edges of its input.
+set -eu
+cd "$(dirname "$0")/.."
+work=$(mktemp -d)
+trap 'rm -rf "$work"' EXIT
+
+fail() {
+    echo "tests/reading.sh: $1" >&2
+    exit 1
+}
+
+# same FILE WHAT: what the program prints of standard input is the file
+same() {
+    ./gsi reading >"$work/out"
+    cmp -s "$1" "$work/out" || fail "$2: $(cmp "$1" "$work/out" 2>&1 || :)"
+    echo "$2" >>"$work/passed"
+}
+
+# the bytes of a file, so many at a time
+slowly() {
+    i=0
+    n=$(($(wc -c <"$1") / $2))
+    while [ $i -le $n ]; do
+        dd if="$1" bs="$2" skip=$i count=1 2>/dev/null
+        i=$((i + 1))
+    done
+}
+
+# N times a text
+repeat() { awk -v n="$1" -v text="$2" 'BEGIN { for (i = 0; i < n; i++) printf "%s", text }'; }
+
+example=crates/reading/stdin
+same crates/reading/stdout "the example" <"$example"
+slowly "$example" 7 | same crates/reading/stdout "the example, 7 bytes at a time"
+slowly "$example" 800 | same crates/reading/stdout "the example, 800 bytes at a time"
+
+printf 'blocks=0 accepted=0 refused=0\n' >"$work/none"
+same "$work/none" "empty input" </dev/null
+
+printf 'block=1 at=0 width=8 end=CRLF words=1 bytes=18\nword=1 index=11 info=.... text=00000058\nblocks=1 accepted=1 refused=0\n' >"$work/apart"
+(printf '11....+00000058 \r' && sleep 1 && printf '\n') | same "$work/apart" "an LF that comes later than its CR"
+
+# The longest block, 771 bytes, and one word more.
+(printf '*' && repeat 32 '71....+0123456789ABCDEF ' && printf '\r\n*' && repeat 33 '71....+0123456789ABCDEF ' && printf '\r\n') >"$work/long"
+awk 'BEGIN {
+    print "block=1 at=0 width=16 end=CRLF words=32 bytes=771"
+    for (i = 1; i <= 32; i++) print "word=" i " index=71 info=.... text=0123456789ABCDEF"
+    print "block=2 at=771 refused=4 place=769"
+    print "blocks=2 accepted=1 refused=1"
+}' >"$work/words"
+same "$work/words" "32 and 33 wide words" <"$work/long"
+
+# 5 MB of blocks, in their midst 200,000 bytes without CR: first no words, then words.
+block='110014+00000003 82..00-00213159 \r\n'
+(repeat 70000 "$block" && repeat 200000 x && printf '\r\n' && repeat 70000 "$block" && repeat 12500 '11....+00000058 ' && printf '\r' && repeat 10000 "$block") >"$work/large"
+awk 'function blocks(n) {
+    while (n-- > 0) {
+        print "block=" ++k " at=" at " width=8 end=CRLF words=2 bytes=34"
+        print "word=1 index=11 info=0014 text=00000003"
+        print "word=2 index=82 info=..00 count=-213159 step=1/1000m reads=-213.159m"
+        at += 34
+    }
+}
+BEGIN {
+    at = 0
+    blocks(70000)
+    print "block=" ++k " at=" at " refused=5 place=0"
+    at += 200002
+    blocks(70000)
+    print "block=" ++k " at=" at " refused=4 place=512"
+    at += 200001
+    blocks(10000)
+    print "blocks=150002 accepted=150000 refused=2"
+}' >"$work/lines"
+same "$work/lines" "5 MB of blocks with two overlong pieces" <"$work/large"
+cat "$work/large" | same "$work/lines" "the same through a pipe"
+
+# A read that fails isn't the end of a file, and nothing is counted up.
+: >"$work/nothing"
+same "$work/nothing" "a folder for the file" <"$work"
+
+if [ -c /dev/full ]; then
+    ./gsi reading <"$work/large" >/dev/full || fail "it stumbles where nothing can be written"
+    echo "no room" >>"$work/passed"
+fi
+echo "reading: $(wc -l <"$work/passed") checks passed"
