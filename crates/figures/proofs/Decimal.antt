@@ -97,9 +97,6 @@ one-digit-more n d i h e = rw (add-one i, pow-suc 10 i) (omega arith)
 pub number-in : (s : List ℕ) → length s ≤ 16 → every isDigit s ≡ true → numberIn s ≡ Number (numberOf s)
 number-in s h e = rw (le-leb (length s) 16 h, e)
 
-pub said-digits : (k n : ℕ) → k ≤ 16 → n < 10 ^ k → numberIn (digitsOf k n) ≡ Number n
-said-digits k n h e = number-in (digitsOf k n) (rw (digits-length k n) h) (digits-are k n) ∙ rw (number-digits k n e)
-
 -- `put_number` filled the k bytes after done
 pub digits-on : (done room₀ room last : List ℕ) (a k n : ℕ) → a ≡ length done → length done + k ≤ length room₀
     → room ≡ done ++ drop (length done) room₀ → last ≡ digitsOf (length (midOf a k room)) n

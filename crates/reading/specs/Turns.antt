@@ -1,15 +1,15 @@
 -- A file read byte by byte: the piece that comes in is kept, and reported when it has ended.
-use Prim.Native.Nat.{ℕ, suc, _+_, _≤_, min}
+use Prim.Native.Nat.{ℕ, _+_, _≤_, min}
 use mathlib.Core.Path.{_≡_}
-use mathlib.Core.Bool.{Bool, true, false, cond}
-use mathlib.Core.List.{List, [], _∷_, _++_}
+use mathlib.Core.Bool.{Bool, true, cond}
+use mathlib.Core.List.{List, [], _∷_}
 use lib.Dec.{eqb, ltb}
 use lib.ListN.{length, take}
 use Rattle.blocks.specs.Judging.{judged}
-use Rattle.pieces.specs.Pieces.{isJoined, markAfter, pieces}
+use Rattle.pieces.specs.Pieces.{isJoined, markAfter}
 use Rattle.pieces.specs.declared.Mark.the-variants.{Open}
 use Rattle.reports.specs.Rooms.{putAt}
-use Rattle.reports.specs.Piece.{reportOf, isRead, tallyText}
+use Rattle.reports.specs.Piece.{reportOf, isRead}
 use Rattle.reading.specs.declared.turns.Progress.{Progress}
 use Rattle.reading.specs.declared.turns.Turn.{Turn}
 use Rattle.reading.specs.declared.Next.{Next}

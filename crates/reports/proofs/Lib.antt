@@ -2,3 +2,6 @@ pub mod Putting
 pub mod Places
 pub mod Words
 pub mod Reporting
+pub mod Example
+pub mod Fits
+pub mod Determined

@@ -29,11 +29,18 @@ wordsText k wide (w ∷ ws) = wordText k wide w ++ wordsText (suc k) wide ws
 abbrev pub headText : ℕ → ℕ → List ℕ
 headText number at = (98 ∷ 108 ∷ 111 ∷ 99 ∷ 107 ∷ 61 ∷ []) ++ (decimalOf number ++ ((32 ∷ 97 ∷ 116 ∷ 61 ∷ []) ++ decimalOf at))
 
+-- ` width=16` or ` width=8`
+abbrev pub widthText : Bool → List ℕ
+widthText wide = cond wide (32 ∷ 119 ∷ 105 ∷ 100 ∷ 116 ∷ 104 ∷ 61 ∷ 49 ∷ 54 ∷ []) (32 ∷ 119 ∷ 105 ∷ 100 ∷ 116 ∷ 104 ∷ 61 ∷ 56 ∷ [])
+
+-- ` end=CRLF` or ` end=CR`
+abbrev pub endText : Bool → List ℕ
+endText crlf = cond crlf (32 ∷ 101 ∷ 110 ∷ 100 ∷ 61 ∷ 67 ∷ 82 ∷ 76 ∷ 70 ∷ []) (32 ∷ 101 ∷ 110 ∷ 100 ∷ 61 ∷ 67 ∷ 82 ∷ [])
+
 -- ` width=8 end=CRLF words=5 bytes=82` and LF
 abbrev pub readingText : Reading → List ℕ
 readingText r =
-    cond (r .wide) (32 ∷ 119 ∷ 105 ∷ 100 ∷ 116 ∷ 104 ∷ 61 ∷ 49 ∷ 54 ∷ []) (32 ∷ 119 ∷ 105 ∷ 100 ∷ 116 ∷ 104 ∷ 61 ∷ 56 ∷ []) ++ (cond (r .crlf) (32 ∷ 101 ∷ 110 ∷ 100 ∷ 61 ∷ 67 ∷ 82 ∷ 76 ∷ 70 ∷ []) (32 ∷ 101 ∷ 110 ∷ 100 ∷ 61 ∷ 67 ∷ 82 ∷ [])
-    ++ ((32 ∷ 119 ∷ 111 ∷ 114 ∷ 100 ∷ 115 ∷ 61 ∷ []) ++ (decimalOf (r .words) ++ ((32 ∷ 98 ∷ 121 ∷ 116 ∷ 101 ∷ 115 ∷ 61 ∷ []) ++ (decimalOf (r .used) ++ (10 ∷ []))))))
+    widthText (r .wide) ++ (endText (r .crlf) ++ ((32 ∷ 119 ∷ 111 ∷ 114 ∷ 100 ∷ 115 ∷ 61 ∷ []) ++ (decimalOf (r .words) ++ ((32 ∷ 98 ∷ 121 ∷ 116 ∷ 101 ∷ 115 ∷ 61 ∷ []) ++ (decimalOf (r .used) ++ (10 ∷ []))))))
 
 -- ` refused=10 place=16` and LF
 abbrev pub refusalText : Refusal → List ℕ

@@ -179,9 +179,6 @@ image-is s e =
     ap (λ (t : State). eqb (length (imageOf s)) imageN && (sameBytes (imageOf s) (imageOf t) && isState t)) (image-back s e)
     ∙ rw (eq-eqb (length (imageOf s)) imageN (image-length s e), same-refl (imageOf s), e)
 
-pub decode-image : (s : State) → isState s ≡ true → decodeOf (imageOf s) ≡ record { answer = Is; state = s }
-decode-image s e = sym (accepted (imageOf s) s (sym (image-back s e)) (image-is s e))
-
 -- an image is of one state
 
 pub one-state : (s t : State) → isState s ≡ true → isState t ≡ true → imageOf s ≡ imageOf t → s ≡ t

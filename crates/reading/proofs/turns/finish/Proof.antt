@@ -1,5 +1,4 @@
 -- `reading::turns::finish` meets its contract: a piece is there exactly where bytes of it are kept.
-use mathlib.Core.Path.{refl}
 use borrow.Author.Needs.{needs}
 use borrow.Author.Tests.{eq-eqb, ne-eqb}
 use Rattle.reading.proofs.turns.finish.Statement.{statement}

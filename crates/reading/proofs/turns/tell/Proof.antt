@@ -1,5 +1,5 @@
 -- `reading::turns::tell` meets its contract: the piece is counted as the report says that it was judged.
-use mathlib.Core.Path.{refl, sym, ap, _∙_}
+use mathlib.Core.Path.{sym}
 use borrow.Author.Needs.{needs}
 use lib.Seq.{length-take-le}
 use Rattle.reading.proofs.Turning.{told-so, told-text-so}

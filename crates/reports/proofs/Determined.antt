@@ -1,0 +1,26 @@
+-- The promises of this crate's public functions determine what comes out.
+use Prim.Native.Nat.{ℕ, _+_, min}
+use mathlib.Core.Path.{_≡_}
+use mathlib.Core.List.{List}
+use lib.ListN.{length}
+use Rattle.figures.specs.Promises.{Determined}
+use Rattle.figures.proofs.Determined.{by-two}
+use Rattle.reports.specs.Rooms.{putAt, Puts}
+use Rattle.reports.specs.Piece.{reportOf, Reports, tallyText}
+use Rattle.reports.specs.declared.piece.Reported.{Reported}
+
+-- a room, a place in it and a text go in; where the next part begins and the room come out
+pub put-determined : Determined (List ℕ × ℕ × List ℕ) (ℕ × List ℕ) (λ i o. Puts (i .0) (i .1) (i .2) (o .0) (o .1))
+put-determined =
+    by-two (List ℕ × ℕ × List ℕ) ℕ (List ℕ) (λ i. min (i .1 + length (i .2)) (length (i .0))) (λ i. putAt (i .0) (i .1) (i .2))
+
+-- a piece's number, its place and its bytes, and a room go in; the count, whether it was accepted, and the room come out
+pub report-determined : Determined (ℕ × ℕ × List ℕ × List ℕ) (Reported × List ℕ) (λ i o. Reports (i .0) (i .1) (i .2) (i .3) (o .0) (o .1))
+report-determined i a b p q =
+    let put = put-determined (i .3, 0, reportOf (i .0) (i .1) (i .2)) (a .0 .count, a .1) (b .0 .count, b .1) (p .0) (q .0) in
+    let accepted : a .0 .accepted ≡ b .0 .accepted = cc in
+    λ k. (record { count = put k .0; accepted = accepted k }, put k .1)
+
+-- the three counts and a room go in; the count of bytes and the room come out
+pub tally-determined : Determined (ℕ × ℕ × ℕ × List ℕ) (ℕ × List ℕ) (λ i o. Puts (i .3) 0 (tallyText (i .0) (i .1) (i .2)) (o .0) (o .1))
+tally-determined i = put-determined (i .3, 0, tallyText (i .0) (i .1) (i .2))

@@ -1,0 +1,126 @@
+-- The report of any piece fits 5,280 bytes: 160 for its first line, and 160 for each of at most 32 words.
+use Prim.Native.Nat.{ℕ, suc, _*_, _/_, _≤_}
+use mathlib.Core.Path.{_≡_, refl}
+use mathlib.Core.Bool.{Bool, true, false, cond, _&&_, and-eq-true-iff}
+use mathlib.Core.List.{List, [], _∷_}
+use native.Mathlib.Omega.{arith}
+use borrow.Author.Tests.{eqb-true}
+use lib.Dec.{eqb}
+use lib.ListN.{length, take, drop, length-append, length-take}
+use lib.Seq.{take-at}
+use Rattle.figures.proofs.Bytes.{laid-fits}
+use Rattle.figures.proofs.Decimal.{digits-length}
+use Rattle.units.specs.declared.counts.Whole.{Whole}
+use Rattle.units.specs.declared.counts.Count.{Count}
+use Rattle.units.specs.declared.counts.Count.the-variants.{Nothing, Text, Gon, Degree, Tenth, Mil, Metre, Feet, Ppm, Pair}
+use Rattle.words.specs.Records.{width, typedOf, isRight}
+use Rattle.words.specs.declared.records.Word.{Word}
+use Rattle.words.proofs.Checks.{width-bounds}
+use Rattle.blocks.specs.Answers.{refusalNumber, refusalTells}
+use Rattle.blocks.specs.Judging.{judged}
+use Rattle.blocks.specs.Rules.{rightAll}
+use Rattle.blocks.specs.declared.answers.Refusal.{Refusal}
+use Rattle.blocks.specs.declared.answers.Reading.{Reading}
+use Rattle.blocks.specs.declared.answers.Answer.{Answer}
+use Rattle.blocks.specs.declared.answers.Answer.the-variants.{Refused, Read}
+use Rattle.blocks.proofs.Accepted.{accepted}
+use Rattle.reports.specs.declared.measures.Decimals.{Decimals}
+use Rattle.reports.specs.declared.measures.Decimals.the-variants.{One, Three, Four, Five}
+use Rattle.reports.specs.Measures.{powerOf, placesOf, powerText, decimalsOf, minusText, measureText, tenthText, pairText, shownText, countText}
+use Rattle.reports.specs.Piece.{wordText, wordsText, headText, widthText, endText, readingText, refusalText, answerText, reportOf, Reports}
+use Rattle.reports.specs.declared.piece.Reported.{Reported}
+use Rattle.reports.proofs.Places.{places-most}
+
+-- one or the other
+either : (b : Bool) (x y : List ℕ) (n : ℕ) → length x ≤ n → length y ≤ n → length (cond b x y) ≤ n
+either true x y n h h′ = h
+either false x y n h h′ = h′
+
+power-short : (d : Decimals) → (length (powerText d) ≤ 6) × (placesOf d ≤ 5)
+power-short One = (omega arith, omega arith)
+power-short Three = (omega arith, omega arith)
+power-short Four = (omega arith, omega arith)
+power-short Five = (omega arith, omega arith)
+
+minus-short : (m : ℕ) → length (minusText m) ≤ 1
+minus-short m = either (eqb m 0) [] (45 ∷ []) 1 (omega arith) (omega arith)
+
+measure-short : (w : Whole) (d : Decimals) (unit : List ℕ) → length unit ≤ 3 → length (measureText w d unit) ≤ 82
+measure-short w d unit h =
+    simp (length-append, digits-length) (omega (arith, places-most (w .size), places-most (w .size / powerOf d), power-short d, minus-short (w .minus)))
+
+tenth-short : (w : Whole) → length (tenthText w) ≤ 82
+tenth-short w = simp (length-append, digits-length) (omega (arith, places-most (w .size), places-most (w .size / 36000), minus-short (w .minus)))
+
+pair-short : (p q : Whole) → length (pairText p q) ≤ 82
+pair-short p q = simp (length-append, digits-length) (omega (arith, places-most (p .size), places-most (q .size)))
+
+text-short : (wide : Bool) (t : List ℕ) → length (shownText wide t) ≤ 82
+text-short wide t = omega (arith, length-take (width wide) t, width-bounds wide)
+
+count-short : (wide : Bool) (w : Word) (k : Count) → length (countText wide w k) ≤ 82
+count-short wide w Nothing = omega arith
+count-short wide w Text = text-short wide (w .text)
+count-short wide w (Gon c) = measure-short (c .0) Five (103 ∷ 111 ∷ 110 ∷ []) (omega arith)
+count-short wide w (Degree c) = measure-short (c .0) Five (100 ∷ 101 ∷ 103 ∷ []) (omega arith)
+count-short wide w (Tenth c) = tenth-short (c .0)
+count-short wide w (Mil c) = measure-short (c .0) Four (109 ∷ 105 ∷ 108 ∷ []) (omega arith)
+count-short wide w (Metre c) =
+    either (eqb (w .index) 58) _ _ 82 (measure-short (c .0) One (109 ∷ 109 ∷ []) (omega arith)) (measure-short (c .0) (decimalsOf (c .1)) (109 ∷ []) (omega arith))
+count-short wide w (Feet c) = measure-short (c .0) (decimalsOf (c .1)) (102 ∷ 116 ∷ []) (omega arith)
+count-short wide w (Ppm c) = measure-short (c .0) Four (112 ∷ 112 ∷ 109 ∷ []) (omega arith)
+count-short wide w (Pair p q) = pair-short p q
+
+word-short : (k : ℕ) (wide : Bool) (w : Word) → length (w .info) ≡ 4 → length (wordText k wide w) ≤ 160
+word-short k wide w h = simp (length-append, digits-length) (omega (arith, places-most k, count-short wide w (typedOf w)))
+
+info-four : (wide : Bool) (w : Word) → isRight wide w ≡ true → length (w .info) ≡ 4
+info-four wide w e =
+    let sizes = and-eq-true-iff (eqb (length (w .info)) 4 && eqb (length (w .text)) 16) _ .0 e .0 in
+    eqb-true (length (w .info)) 4 (and-eq-true-iff (eqb (length (w .info)) 4) (eqb (length (w .text)) 16) .0 sizes .0)
+
+words-short : (k : ℕ) (wide : Bool) (ws : List Word) → rightAll wide ws ≡ true → length (wordsText k wide ws) ≤ length ws * 160
+unfolding wordsText rightAll
+words-short k wide [] e = omega arith
+words-short k wide (w ∷ ws) e =
+    let both = and-eq-true-iff (isRight wide w) (rightAll wide ws) .0 e in
+    omega (arith, length-append (wordText k wide w) (wordsText (suc k) wide ws), word-short k wide w (info-four wide w (both .0)), words-short (suc k) wide ws (both .1))
+
+head-short : (number at : ℕ) → length (headText number at) ≤ 50
+head-short number at = simp (length-append, digits-length) (omega (arith, places-most number, places-most at))
+
+refusal-short : (r : Refusal) → length (refusalText r) ≤ 57
+refusal-short r = simp (length-append, digits-length) (omega (arith, places-most (refusalNumber r), places-most (refusalTells r)))
+
+width-short : (wide : Bool) → length (widthText wide) ≤ 9
+width-short true = omega arith
+width-short false = omega arith
+
+end-short : (crlf : Bool) → length (endText crlf) ≤ 9
+end-short true = omega arith
+end-short false = omega arith
+
+reading-short : (r : Reading) → length (readingText r) ≤ 73
+reading-short r =
+    simp (length-append, digits-length) (omega (arith, width-short (r .wide), end-short (r .crlf), places-most (r .words), places-most (r .used)))
+
+answer-short : (s : List ℕ) (a : Answer) → judged s 32 .answer ≡ a → length (answerText a (judged s 32 .words)) ≤ 5193
+answer-short s (Refused r) e = omega (arith, refusal-short r)
+answer-short s (Read r) e =
+    let ws = judged s 32 .words in
+    let lawful = accepted s 32 r ws (λ i. record { answer = e i; words = ws }) .lawful in
+    omega (arith, length-append (readingText r) (wordsText 1 (r .wide) ws), reading-short r, words-short 1 (r .wide) ws (lawful .right), lawful .most)
+
+pub report-fits : (number at : ℕ) (piece : List ℕ) → length (reportOf number at piece) ≤ 5280
+report-fits number at piece =
+    let text = answerText (judged piece 32 .answer) (judged piece 32 .words) in
+    omega (arith, length-append (headText number at) text, head-short number at, answer-short piece (judged piece 32 .answer) refl)
+
+-- so in that much room it stands whole
+pub report-whole : (number at : ℕ) (piece room : List ℕ) (r : Reported) (room′ : List ℕ) → 5280 ≤ length room → Reports number at piece room r room′
+    → take (r .count) room′ ≡ reportOf number at piece
+report-whole number at piece room r room′ h p =
+    let text = reportOf number at piece in
+    let short = report-fits number at piece in
+    let all : length text ≡ r .count = omega (arith, p .0 .0) in
+    rw (p .0 .1, laid-fits text room (omega arith)) (take-at text (drop (length text) room) (r .count) all)
