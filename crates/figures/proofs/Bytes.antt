@@ -133,6 +133,17 @@ pub starts-all : (w s : List ℕ) (i : ℕ) → length w ≤ i → startsWith (d
 unfolding startsWith
 starts-all w s i h = rw (drop-of-length-le w h)
 
+-- a turn of a loop that compares every byte, whatever it found so far, and its end
+pub starts-on : (w s : List ℕ) (i : ℕ) (so : Bool) → i < length w → i < length s
+    → so && startsWith (drop i w) (drop i s) ≡ (so && eqb (getD s i 0) (getD w i 0)) && startsWith (drop (i + 1) w) (drop (i + 1) s)
+unfolding startsWith
+starts-on w s i false hw hs = refl
+starts-on w s i true hw hs = rw (drop-cons w i 0 hw, drop-cons s i 0 hs, add-one i)
+
+pub starts-done : (w s : List ℕ) (i : ℕ) (so : Bool) → length w ≤ i → so && startsWith (drop i w) (drop i s) ≡ so
+starts-done w s i false h = refl
+starts-done w s i true h = starts-all w s i h
+
 pub starts-append : (w s : List ℕ) → startsWith w (w ++ s) ≡ true
 unfolding startsWith
 starts-append [] s = refl

@@ -107,12 +107,18 @@ pub fn starts(s: &[u8], w: &[u8]) -> bool
     true
 }
 
-// Whether the two are the same bytes.
+// Whether the two are the same bytes. The loop has no way out, so that many bytes are compared at once.
 pub fn same(a: &[u8], b: &[u8]) -> bool
     ensures { λ r. ⌜ r ≡ sameBytes (now (a .entry)) (now (b .entry)) ⌝ }
 {
     if a.len() != b.len() {
         return false;
     }
-    starts(a, b)
+    let mut alike = true;
+    let mut i = 0;
+    while i < a.len() {
+        alike = alike & (a[i] == b[i]);
+        i += 1;
+    }
+    alike
 }

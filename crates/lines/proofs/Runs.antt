@@ -1,31 +1,38 @@
 -- What a call comes to: the state as it was, or an accepted order that is done; and what acceptance says of a SET, a PUT and an UNDO.
-use Prim.Native.Nat.{ℕ, zero, suc, _<_, _≤_}
-use mathlib.Core.Path.{_≡_, refl}
-use mathlib.Core.Bool.{Bool, true, false, cond, _&&_, and-eq-true-iff}
+use Prim.Native.Nat.{ℕ, zero, suc, _-_, _<_, _≤_}
+use mathlib.Core.Path.{_≡_, refl, sym, ap, _∙_}
+use mathlib.Core.Bool.{Bool, true, false, cond, _&&_, false≢true, and-eq-true-iff}
 use mathlib.Core.List.{List, [], _∷_}
 use native.Mathlib.Omega.{arith}
 use borrow.Author.Tests.{eqb-true, eqb-false, eq-eqb, leb-true, leb-false, lt-leb, le-ltb, ltb-false}
 use lib.Dec.{eqb, leb, ltb}
-use lib.ListN.{length, getD}
+use lib.ListN.{length, getD, take, drop}
+use Rattle.figures.specs.Bytes.{startsWith, sameBytes}
 use Rattle.units.specs.Kinds.{indexOf}
 use Rattle.words.specs.Reading.{pos}
 use Rattle.state.specs.Settings.{rows, row, rowAt, settingAt}
 use Rattle.state.specs.Values.{putRight, putKept, keptRight}
 use Rattle.state.specs.Entries.{settingsN, valuesN, entriesN}
+use Rattle.state.specs.Image.{imageN, imageOf, encodedIn, stateIn, decodeOf}
 use Rattle.state.specs.declared.settings.Row.{Row}
 use Rattle.state.specs.declared.settings.Found.{Found}
 use Rattle.state.specs.declared.settings.Found.the-variants.{Nothing, At}
 use Rattle.state.specs.declared.entries.State.{State}
+use Rattle.state.specs.declared.image.Known.the-variants.{Is}
+use Rattle.state.specs.declared.image.Decoded.{Decoded}
 use Rattle.state.proofs.Kept.{put-kept-right}
-use Rattle.lines.specs.Shapes.{isEnded, textOf, orderOf}
+use Rattle.state.proofs.Images.{image-of, decoded-is}
+use Rattle.lines.specs.Shapes.{endOf, isEnded, textOf, numberRight, groupsIn, groupsRight, set-slash, conf-slash, put-slash, get-i, undo-word, keep-word, orderOf}
 use Rattle.lines.specs.Verdicts.{isAccepted, setBy, setVerdict, fullVerdict, placeNamed, putBy, putVerdict, undoVerdict, orderVerdict, lineVerdict}
 use Rattle.lines.specs.Orders.{setOf, putOf, setDone, putDone, doneOf}
 use Rattle.lines.specs.Replies.{replyOf}
-use Rattle.lines.specs.Machine.{Outcome, outcome, step}
+use Rattle.lines.specs.Machine.{Outcome, outcome, run, step, Ends, Calls}
+use Rattle.lines.specs.declared.shapes.Order.{Order}
 use Rattle.lines.specs.declared.verdicts.Verdict.{Verdict}
 use Rattle.lines.specs.declared.verdicts.Verdict.the-variants.{Accepted, Unended, Long, Parameter, Word, Full, NoEntry, Room}
+use Rattle.lines.specs.declared.machine.Ran.{Ran}
 use Rattle.lines.proofs.Lookups.{setting-in, value-found, named}
-use Rattle.lines.proofs.Calling.{accepted-is}
+use Rattle.lines.proofs.Calling.{accepted-is, call-some}
 
 pub clash : _≡_ {A = ℕ} 0 1 → ⊥
 clash e = omega arith
@@ -53,6 +60,56 @@ comes s line room =
     let v = lineVerdict s line in
     comes-by s line (leb (length (replyOf s (textOf line) (orderOf (textOf line)) v)) room) v (replyOf s (textOf line) (orderOf (textOf line)) v) (isAccepted v) refl
     (λ e. judged (isEnded line) (leb (length (textOf line)) 100) (orderVerdict s (textOf line) (orderOf (textOf line))) e .1)
+
+-- a call that leaves the state leaves the image, which it would be laid down as
+
+left-so : (s : State) (line : List ℕ) (o : Outcome) → Comes s line o → (isAccepted (o .verdict) ≡ true → doneOf s (textOf line) (orderOf (textOf line)) ≡ s) → o .next ≡ s
+left-so s line o (stays n e) f = e
+left-so s line o (runs a v e) f = e ∙ f a
+
+either-idle : (s : State) (t : List ℕ) (b : Bool) (x y : Order) → (b ≡ true → doneOf s t x ≡ s) → doneOf s t y ≡ s → doneOf s t (cond b x y) ≡ s
+either-idle s t true x y ex ey = ex refl
+either-idle s t false x y ex ey = ey
+
+starts-other : (x y : ℕ) (v w s : List ℕ) (n : ℕ) → eqb x y ≡ false → startsWith (x ∷ v) s ≡ true → startsWith (y ∷ w) (take n s) ≡ false
+unfolding startsWith
+starts-other x y v w [] n d e = absurd (false≢true e)
+starts-other x y v w (z ∷ s) zero d e = refl
+starts-other x y v w (z ∷ s) (suc n) d e = rw (eqb-true z x (and-eq-true-iff (eqb z x) (startsWith v s) .0 e .0), d)
+
+-- CONF and GET, by their first letter
+asks-idle : (s : State) (line : List ℕ) (n x : ℕ) (v : List ℕ) → startsWith (x ∷ v) line ≡ true → eqb x 83 ≡ false → eqb x 80 ≡ false → eqb x 85 ≡ false → eqb x 75 ≡ false
+    → doneOf s (take n line) (orderOf (take n line)) ≡ s
+asks-idle s line n x v e set put undo keep =
+    let t = take n line in
+    let g = drop 5 t in
+    let none : (b : Bool) → b ≡ false → b ≡ true → ⊥ = λ b f p. false≢true (sym f ∙ p) in
+    either-idle s t (startsWith set-slash t) _ _ (λ p. absurd (none _ (starts-other x 83 v _ line n set e) p))
+    (either-idle s t (startsWith conf-slash t) _ _ (λ _. either-idle s t (numberRight g) _ _ (λ _. refl) refl)
+    (either-idle s t (startsWith put-slash t) _ _ (λ p. absurd (none _ (starts-other x 80 v _ line n put e) p))
+    (either-idle s t (startsWith get-i t) _ _ (λ _. either-idle s t (ltb 0 (length g) && groupsRight (groupsIn g) g) _ _ (λ _. refl) refl)
+    (either-idle s t (sameBytes t undo-word) _ _ (λ p. absurd (none _ (starts-other x 85 v _ line n undo e) (and-eq-true-iff (eqb (length t) 4) (startsWith undo-word t) .0 p .1)))
+    (either-idle s t (sameBytes t keep-word) _ _ (λ p. absurd (none _ (starts-other x 75 v _ line n keep e) (and-eq-true-iff (eqb (length t) 4) (startsWith keep-word t) .0 p .1))) refl)))))
+
+module _ (image : List ℕ) (d : Decoded) (e : d ≡ decodeOf image) (q : d .answer ≡ Is) (line room : List ℕ) (r : Ran) (room′ : List ℕ) (h : Ends (d .state) (run (d .state) line) room r room′) where
+  call-left : (isAccepted (r .told .verdict) ≡ true → doneOf (d .state) (textOf line) (orderOf (textOf line)) ≡ d .state) → Calls image line room (r .told) image room′
+  call-left f =
+      let i = decoded-is image d e q in
+      let verdict = ap (λ (x : Ran). isAccepted (x .told .verdict)) (h .0) in
+      let left = left-so (d .state) line (step (d .state) line (length room)) (comes (d .state) line (length room)) (λ a. f (verdict ∙ a)) in
+      let same : r .state ≡ stateIn image = ap (λ (x : Ran). x .state) (h .0) ∙ left ∙ i .1 in
+      let long : eqb (length image) imageN ≡ true = and-eq-true-iff (eqb (length image) imageN) _ .0 (i .0) .0 in
+      let down : encodedIn (r .state) image ≡ image = ap (λ (b : Bool). cond b (imageOf (r .state)) image) long ∙ ap imageOf same ∙ sym (image-of image (i .0) .1) in
+      call-some image d e q line room r image room′ h (sym down)
+
+  pub call-refused : isAccepted (r .told .verdict) ≡ false → Calls image line room (r .told) image room′
+  call-refused n = call-left (λ a. absurd (false≢true (sym n ∙ a)))
+
+  pub call-conf : startsWith conf-slash line ≡ true → Calls image line room (r .told) image room′
+  call-conf p = call-left (λ _. asks-idle (d .state) line (length line - endOf line) 67 _ p refl refl refl refl)
+
+  pub call-get : startsWith get-i line ≡ true → Calls image line room (r .told) image room′
+  call-get p = call-left (λ _. asks-idle (d .state) line (length line - endOf line) 71 _ p refl refl refl refl)
 
 -- SET
 

@@ -21,6 +21,7 @@ use crate::shapes::order_of;
 use crate::verdicts::Verdict;
 use crate::verdicts::is_accepted;
 use crate::verdicts::order_verdict;
+use figures::starts;
 use state::entries::State;
 use state::image::Known;
 use state::image::decode;
@@ -126,6 +127,17 @@ pub fn line(image: &mut [u8], text: &[u8], room: &mut [u8]) -> Told
     let ran = run_line(state, text, room);
     let told = ran.told;
     let next = ran.state;
+    let verdict = told.verdict;
+    if !is_accepted(verdict) {
+        return told;
+    }
+    // CONF and GET alter nothing, so that the image needn't be laid down again
+    if starts(text, b"CONF/") {
+        return told;
+    }
+    if starts(text, b"GET/I") {
+        return told;
+    }
     encode(next, image);
     told
 }

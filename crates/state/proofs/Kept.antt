@@ -1,30 +1,40 @@
--- Laws of what is stored: what a PUT leaves is right for its place, and the factory's state is a state.
+-- Laws of what is stored: the rules for a value's word are rules for its parts, what a PUT leaves is right for its place, and the factory's
+-- state is a state.
 use Prim.Native.Nat.{ℕ, zero, suc, _+_, _/_, _%_, _≤_}
 use mathlib.Core.Path.{_≡_, refl, sym, ap, _∙_}
-use mathlib.Core.Bool.{Bool, true, false, cond, not, _&&_, _||_, false≢true, and-eq-true-iff}
+use mathlib.Core.Bool.{Bool, true, false, cond, not, _&&_, _||_, false≢true, and-true, and-false, and-eq-true-iff}
 use mathlib.Core.List.{List, [], _∷_}
 use native.Mathlib.Omega.{arith}
 use borrow.Author.Tests.{eqb-true, eq-eqb, le-leb}
 use lib.Dec.{eqb, leb}
 use lib.ListN.{length, getD, drop, drop-of-length-le}
 use lib.Seq.{drop-cons, getD-drop}
-use Rattle.figures.specs.Bytes.{within}
-use Rattle.figures.specs.Decimal.{isDigit}
+use Rattle.figures.specs.Bytes.{within, among, every}
+use Rattle.figures.specs.Decimal.{isDigit, numberOf}
 use Rattle.figures.proofs.Bytes.{within-bounds, bounds-within}
-use Rattle.units.specs.Kinds.{isTextual, indexOf, indexRight}
+use Rattle.figures.proofs.Tests.{by-test, Even, along}
+use Rattle.units.specs.Kinds.{kindOf, isListed, isTextual, indexOf, indexRight}
 use Rattle.units.specs.Information.{isDot, infoRight, signByte, signOf, signRight}
-use Rattle.words.specs.Reading.{pos, wordOf, kindAt, dataIn, dataRight, isCounted, valueIn, recordIn, unless, rightWord, wordSize}
+use Rattle.units.specs.Counts.{minusZero, valueAt}
+use Rattle.units.proofs.Positions.{tensOf, onesOf, index-on, tens-digit, ones-digit, sign-on, sign-right}
+use Rattle.words.specs.Records.{isGraphic}
+use Rattle.words.specs.Reading.{pos, wordOf, kindAt, dataIn, dataRight, figuresIn, countOr, isCounted, valueIn, recordIn, unless, rightWord, wordSize}
+use Rattle.words.proofs.Places.{Places, spread, rules, recordBy, word-spread}
 use Rattle.units.specs.declared.kinds.Kind.{Kind}
+use Rattle.units.specs.declared.kinds.Kind.the-variants as kind
+use Rattle.units.specs.declared.counts.Figures.the-variants.{Number}
 use Rattle.words.specs.declared.reading.Fault.the-variants.{Short, Index, Information, Sign, Characters, Separator, Value}
+use Rattle.words.specs.declared.reading.OneWord.{OneWord}
 use Rattle.words.specs.declared.records.Word.{Word}
 use Rattle.state.specs.Settings.{rows, inRanges}
-use Rattle.state.specs.Values.{storedAt, isRead, putRight, putKept, valueWord, keptRight, eightOf}
+use Rattle.state.specs.Values.{unitsOf, stored, storedAt, isRead, putRight, putKept, valueWord, keptRight, eightOf, eightBytes}
 use Rattle.state.specs.Entries.{factoryState, isState, valuesRight, entriesRight, sound}
+use Rattle.state.specs.declared.values.Stored.{Stored}
 use Rattle.state.specs.declared.values.Eight.{Eight}
 use Rattle.state.specs.declared.values.Kept.{Kept}
 use Rattle.state.specs.declared.values.Kept.the-variants.{Put}
 
-pub kept-put : (place : ℕ) (k : Kept) (u m : ℕ) (d : Eight) → k ≡ Put u m d → m ≤ 1 → keptRight place k ≡ putRight place (valueWord 46 place u m d)
+kept-put : (place : ℕ) (k : Kept) (u m : ℕ) (d : Eight) → k ≡ Put u m d → m ≤ 1 → keptRight place k ≡ putRight place (valueWord 46 place u m d)
 kept-put place k u m d e h = rw e (ap (λ (t : Bool). t && putRight place (valueWord 46 place u m d)) (le-leb m 1 h))
 
 -- the n elements from i on
@@ -68,6 +78,120 @@ sign-below b = go (eqb b 43)
 pub put-read : (place : ℕ) (b : List ℕ) → pos 3 b ≡ 46 → pos 4 b ≡ 46 → pos 5 b ≡ 46 → storedAt place .first ≤ pos 6 b → pos 6 b ≤ storedAt place .last
     → putRight place b ≡ isRead (wordOf false b .answer)
 put-read place b p q r low high = rw (eq-eqb (pos 3 b) 46 p, eq-eqb (pos 4 b) 46 q, eq-eqb (pos 5 b) 46 r, bounds-within (storedAt place .first) (storedAt place .last) (pos 6 b) low high)
+
+-- the rules that are left for a value of that row after its unit: text, or digits that count
+abbrev pub heldBy : Stored → ℕ → ℕ → List ℕ → Bool
+heldBy r u m l =
+    cond (eqb (r .first) 46) (eqb m 0 && every isGraphic l) (every isDigit l && isCounted (valueAt (kindOf (r .index)) (r .index) u m (Number (numberOf l))))
+
+-- the same by the kind, as a word is read
+abbrev partsRight : Kind → ℕ → ℕ → ℕ → List ℕ → Bool
+partsRight k i u m l = signRight k (signByte m) && (dataRight k l && isCounted (valueAt k i u m (figuresIn k l)))
+
+-- a word whose index, information and blank are right
+rules-read : (info sign letters value : Bool) (w : Word) → info ≡ true
+    → isRead (rules true info sign letters true value (rightWord w) .answer) ≡ sign && (letters && value)
+rules-read false sign letters value w e = absurd (false≢true e)
+rules-read true false letters value w e = refl
+rules-read true true false value w e = refl
+rules-read true true true false w e = refl
+rules-read true true true true w e = refl
+
+text-held : (k : Kind) (i u m : ℕ) (l : List ℕ) → isTextual k ≡ true → partsRight k i u m l ≡ eqb m 0 && every isGraphic l
+text-held kind.Missing i u m l e = absurd (false≢true e)
+text-held kind.Numbered i u m l e = by-test (eqb m 0) (λ q. rw (q, and-true)) (λ q. rw q)
+text-held kind.Text i u m l e = by-test (eqb m 0) (λ q. rw (q, and-true)) (λ q. rw q)
+text-held kind.Angle i u m l e = absurd (false≢true e)
+text-held kind.Length i u m l e = absurd (false≢true e)
+text-held kind.Constant i u m l e = absurd (false≢true e)
+text-held kind.Pair i u m l e = absurd (false≢true e)
+
+-- nothing counts at an index that is missing
+none-held : (u m n : ℕ) (b : Bool) → b && isCounted (valueAt kind.Missing 0 u m (Number n)) ≡ false
+none-held u m n b = by-test (minusZero m n) (λ q. rw (q, and-false)) (λ q. rw (q, and-false))
+
+module _ (u m : ℕ) (d : Eight) (small : m ≤ 1) where
+  abbrev places : ℕ → Places
+  places i = record {
+    tens = tensOf i;
+    ones = onesOf i;
+    first = 46;
+    second = 46;
+    mode = 46;
+    unit = u;
+    sign = signByte m;
+    letters = eightBytes d;
+    end = 32;
+  }
+
+  -- each unit of a row is right after three dots
+  abbrev Units : Stored → Type 0
+  Units r = Even (infoRight (kindOf (r .index)) 46 46 46) true (r .first) (suc (r .last))
+
+  -- the word of a value with a unit of the row is read where its parts hold
+  abbrev Judged : Stored → Type 0
+  Judged r = r .first ≤ u → u ≤ r .last → isRead (wordOf false (spread (places (r .index)) []) .answer) ≡ heldBy r u m (eightBytes d)
+
+  row-read : (r : Stored) → isListed (kindOf (r .index)) ≡ true → Units r → r .first ≤ u → u ≤ r .last
+      → isRead (wordOf false (spread (places (r .index)) []) .answer) ≡ partsRight (kindOf (r .index)) (r .index) u m (eightBytes d)
+  row-read r listed units low high =
+      let i = r .index in
+      let k = kindOf i in
+      let p = places i in
+      let info = sym (along (infoRight k 46 46 46) (r .first) (suc (r .last)) units low (omega arith)) in
+      ap (λ (w : OneWord). isRead (w .answer)) (word-spread false p refl [])
+      ∙ rw (index-on i listed, tens-digit i, ones-digit i, listed, sign-on m small)
+      (rules-read (infoRight k 46 46 46 u) (signRight k (signByte m)) (dataRight k (eightBytes d)) (isCounted (valueAt k i u m (figuresIn k (eightBytes d)))) (recordBy i p (countOr (valueAt k i u m (figuresIn k (eightBytes d))))) info)
+
+  by-text : (r : Stored) → isListed (kindOf (r .index)) ≡ true → Units r → isTextual (kindOf (r .index)) ≡ true → eqb (r .first) 46 ≡ true → Judged r
+  by-text r listed units text dot low high =
+      row-read r listed units low high ∙ text-held (kindOf (r .index)) (r .index) u m (eightBytes d) text ∙ rw dot
+
+  number-held : (k : Kind) (i : ℕ) (l : List ℕ) → isTextual k ≡ false → dataRight k l ≡ every isDigit l → figuresIn k l ≡ Number (numberOf l)
+      → partsRight k i u m l ≡ every isDigit l && isCounted (valueAt k i u m (Number (numberOf l)))
+  number-held k i l plain digits says =
+      rw (sign-right k m (record { small = small; plus = λ t. absurd (false≢true (sym plain ∙ t)) }), digits, says)
+
+  by-number : (r : Stored) → isListed (kindOf (r .index)) ≡ true → Units r → isTextual (kindOf (r .index)) ≡ false
+      → dataRight (kindOf (r .index)) (eightBytes d) ≡ every isDigit (eightBytes d)
+      → figuresIn (kindOf (r .index)) (eightBytes d) ≡ Number (numberOf (eightBytes d))
+      → eqb (r .first) 46 ≡ false → Judged r
+  by-number r listed units plain digits says dot low high =
+      row-read r listed units low high ∙ number-held (kindOf (r .index)) (r .index) (eightBytes d) plain digits says ∙ rw dot
+
+  abbrev Each : List Stored → Type 0
+  Each [] = Judged (unitsOf 0 0 0)
+  Each (r ∷ rows) = Judged r × Each rows
+
+  each-at : (rows : List Stored) → Each rows → (place : ℕ) → Judged (getD rows place (unitsOf 0 0 0))
+  each-at [] h zero = h
+  each-at [] h (suc place) = h
+  each-at (r ∷ rows) h zero = h .0
+  each-at (r ∷ rows) h (suc place) = each-at rows (h .1) place
+
+  each : Each stored
+  unfolding stored among
+  each =
+      let text : (i : ℕ) → isListed (kindOf i) ≡ true → Units (unitsOf i 46 46) → isTextual (kindOf i) ≡ true → Judged (unitsOf i 46 46) =
+      λ i listed units text. by-text (unitsOf i 46 46) listed units text refl in
+      let length : (i : ℕ) → kindOf i ≡ kind.Length → Judged (unitsOf i 48 49) =
+      λ i is. by-number (unitsOf i 48 49) (rw is) (rw is) (rw is) (rw is) (rw is) refl in
+      let angle : (i : ℕ) → kindOf i ≡ kind.Angle → Judged (unitsOf i 50 52) =
+      λ i is. by-number (unitsOf i 50 52) (rw is) (rw is) (rw is) (rw is) (rw is) refl in
+      let none : Judged (unitsOf 0 0 0) = λ low high. sym (none-held u m (numberOf (eightBytes d)) (every isDigit (eightBytes d))) in
+      (text 11 refl refl refl, (text 16 refl refl refl, (angle 21 refl, (angle 24 refl, (length 34 refl, (length 83 refl, (length 84 refl, (length 85 refl, (length 86 refl, (length 87 refl, (length 88 refl, none)))))))))))
+
+  pub kept-outside : (place : ℕ) (k : Kept) → k ≡ Put u m d → within (storedAt place .first) (storedAt place .last) u ≡ false → keptRight place k ≡ false
+  kept-outside place k e out =
+      kept-put place k u m d e small ∙ ap (λ (t : Bool). t && isRead (wordOf false (valueWord 46 place u m d) .answer)) out
+
+  -- a unit of the place: what is left is the sign and the characters
+  pub kept-held : (place : ℕ) (k : Kept) → k ≡ Put u m d → storedAt place .first ≤ u → u ≤ storedAt place .last
+      → keptRight place k ≡ heldBy (storedAt place) u m (eightBytes d)
+  kept-held place k e low high =
+      kept-put place k u m d e small
+      ∙ put-read place (valueWord 46 place u m d) refl refl refl low high
+      ∙ each-at stored each place low high
 
 -- a word that may be put there
 pub record PutRight (place : ℕ) (b : List ℕ) : Type 0 where

@@ -1,9 +1,19 @@
 // The stored values: constant rows of index and units, what a PUT leaves, and the word that GET answers.
 ghost use mathlib.Core.Path.{_≡_};
+ghost use mathlib.Core.Bool.{_&&_};
 ghost use Prim.Native.Nat.{_+_, _%_};
+ghost use Rattle.figures.specs.Bytes.{every};
+ghost use Rattle.figures.specs.Decimal.{isDigit, numberOf};
+ghost use Rattle.units.specs.Kinds.{kindOf};
+ghost use Rattle.units.specs.Counts as counts;
+ghost use Rattle.units.specs.declared.counts.Figures.the-variants.{Number};
 ghost use Rattle.units.specs.Information.{signByte};
+ghost use Rattle.words.specs.Reading.{isCounted};
 ghost use Rattle.state.specs.Values.{storedAt, valueAt, putRight, putKept, valueWord, keptRight, getWord, isPut};
 use crate::settings::Found;
+use units::counts::Figures;
+use units::counts::Valued;
+use units::kinds::kind_of;
 use words::reading::Judged;
 use words::reading::read_word;
 
@@ -223,7 +233,22 @@ fn value_word(mark: u8, place: usize, unit: u8, minus: u8, d: Eight) -> [u8; 16]
     ]
 }
 
-// Whether the place may hold it: never put, or as a PUT can leave it.
+// Whether the characters are digits that count at the index, after that unit and sign.
+fn number_right(index: u16, unit: u8, minus: u8, digits: [u8; 8]) -> bool
+    ensures { λ r. ⌜ r ≡ (every isDigit digits && isCounted (counts.valueAt (kindOf index) index unit minus (Number (numberOf digits)))) ⌝ }
+{
+    let figures::Said::Number(n) = figures::number(&digits) else {
+        return false;
+    };
+    let says = Figures::Number(n);
+    let value = units::counts::value_at(kind_of(index), index, unit, minus, says);
+    match value {
+        Valued::Not => false,
+        _ => true,
+    }
+}
+
+// Whether the place may hold it: never put, or as a PUT can leave it. An image asks it of each value and entry, so no word is made of the parts.
 pub fn kept_right(place: usize, kept: Kept) -> bool
     ensures { λ r. ⌜ r ≡ keptRight place kept ⌝ }
 {
@@ -233,7 +258,21 @@ pub fn kept_right(place: usize, kept: Kept) -> bool
             if 1 < minus {
                 return false;
             }
-            put_right(place, value_word(b'.', place, unit, minus, d))
+            let row = stored_at(place);
+            if unit < row.first {
+                return false;
+            }
+            if row.last < unit {
+                return false;
+            }
+            let characters = [d.0, d.1, d.2, d.3, d.4, d.5, d.6, d.7];
+            if row.first != b'.' {
+                return number_right(row.index, unit, minus, characters);
+            }
+            if minus != 0 {
+                return false;
+            }
+            figures::all_within(&characters, 33, 126)
         }
     }
 }

@@ -1,0 +1,53 @@
+#!/bin/sh
+# run.sh [ROUNDS]: the library's time beside that of the second implementation in plain C, as ratios (docs/BENCHMARK.md).
+# The program is linked four times, a quarter of a page further on each time, and every figure is the median of the four: where the code
+# comes to stand moves a ratio by a tenth, more than the rounds do.
+set -eu
+cd "$(dirname "$0")/.."
+work=$(mktemp -d)
+trap 'rm -rf "$work"' EXIT
+echo "bench/run.sh: proving and building the library, where that isn't done yet .." >&2
+rt staticlib host >"$work/log" 2>&1 || { tail -n 5 "$work/log" >&2 && exit 1; }
+for shift in 16 1040 2064 3088; do
+    printf '__asm__(".text\\n.zero %s\\n");\n' "$shift" >"$work/shift.c"
+    sh tests/c.sh "$work/bench" "$work/shift.c" bench/bench.c tests/reference.c
+    sh tests/c.sh --run "$work/bench" "${1:-15}" >"$work/rows.$shift" || { cat "$work/rows.$shift" && exit 1; }
+done
+head -n 1 "$work/rows.16"
+[ "$(uname -m)" = x86_64 ] || echo "This machine is $(uname -m): x86-64 code ran under the kit's emulator, where calls and jumps by table weigh more than on a processor."
+awk -F '\t' '
+    function middle(key,    i, k, v, n) {
+        n = count[key]
+        for (i = 2; i <= n; i++)
+            for (k = i; k > 1 && value[key, k - 1] > value[key, k]; k--) { v = value[key, k]; value[key, k] = value[key, k - 1]; value[key, k - 1] = v }
+        return (value[key, int((n + 1) / 2)] + value[key, int(n / 2) + 1]) / 2
+    }
+    NF == 6 {
+        key = $1 FS $2 FS $3
+        if (!(key in count)) { keys[++all] = key; least[key] = $5; most[key] = $6 }
+        value[key, ++count[key]] = $4 + 0
+        if ($5 + 0 < least[key] + 0) least[key] = $5
+        if ($6 + 0 > most[key] + 0) most[key] = $6
+        if ($1 != "whole" && !(($1, $3) in seen)) { seen[$1, $3] = 1; columns[$1] = columns[$1] sprintf(" %6d", $3) }
+        if ($1 != "whole" && !(($1, $2) in rows)) { rows[$1, $2] = 1; tables[$1] = tables[$1] FS $2 }
+        if ($1 != "whole" && !($1 in named)) { named[$1] = 1; names[++grown] = $1 }
+    }
+    END {
+        printf "\n%-16s %8s   %-16s %s\n", "library / C", "ratio", "four places", "all rounds"
+        for (i = 1; i <= all; i++) {
+            split(keys[i], part, FS)
+            if (part[1] != "whole") continue
+            m = middle(keys[i])
+            printf "%-16s %8.2f   %5.2f to %5.2f   %5.2f to %5.2f\n", part[2], m, value[keys[i], 1], value[keys[i], count[keys[i]]], least[keys[i]], most[keys[i]]
+        }
+        for (g = 1; g <= grown; g++) {
+            printf "\n%-39s%s\n", names[g], columns[names[g]]
+            lines = split(substr(tables[names[g]], 2), row, FS)
+            sizes = split(columns[names[g]], size, " ")
+            for (i = 1; i <= lines; i++) {
+                printf "  %-37s", row[i]
+                for (k = 1; k <= sizes; k++) printf " %6.2f", middle(names[g] FS row[i] FS size[k])
+                printf "\n"
+            }
+        }
+    }' "$work"/rows.*
