@@ -32,7 +32,7 @@ pub struct Turn {
     pub count: usize,
 }
 
-pub fn start() -> Progress
+pub(crate) fn start() -> Progress
     ensures { λ r. ⌜ r ≡ started ⌝ }
 {
     Progress {
@@ -104,7 +104,7 @@ fn tell(room: &[u8], progress: Progress, text: &mut [u8]) -> Turn
 }
 
 // The next byte of the file. Where it starts a piece, the report of the one before is put.
-pub fn feed(room: &mut [u8], progress: Progress, b: u8, text: &mut [u8]) -> Turn
+pub(crate) fn feed(room: &mut [u8], progress: Progress, b: u8, text: &mut [u8]) -> Turn
     requires { ⌜ progress .kept ≤ length (now room) ⌝ }
     ensures { λ r. ⌜ Feeds (now (room .entry)) progress b (now (text .entry)) r (now (room .exit)) (now (text .exit)) ⌝ }
 {
@@ -126,7 +126,7 @@ pub fn feed(room: &mut [u8], progress: Progress, b: u8, text: &mut [u8]) -> Turn
 }
 
 // The end of the file. Where it ends a piece, the report of that is put.
-pub fn finish(room: &[u8], progress: Progress, text: &mut [u8]) -> Turn
+pub(crate) fn finish(room: &[u8], progress: Progress, text: &mut [u8]) -> Turn
     requires { ⌜ progress .kept ≤ length (now room) ⌝ }
     ensures { λ r. ⌜ (r ≡ finished (now (room .entry)) progress (length (now (text .entry)))) × (now (text .exit) ≡ finishedText (now (room .entry)) progress (now (text .entry))) ⌝ }
 {
