@@ -6,7 +6,7 @@ use mathlib.Core.List.{List, [], _∷_}
 use native.Mathlib.Omega.{arith}
 use borrow.Author.Tests.{eqb-true, eqb-false, eq-eqb, leb-true, leb-false, lt-leb, le-ltb, ltb-false}
 use lib.Dec.{eqb, leb, ltb}
-use lib.ListN.{length, getD, take, drop}
+use lib.ListN.{length, getD, take}
 use Rattle.figures.specs.Bytes.{startsWith, sameBytes}
 use Rattle.units.specs.Kinds.{indexOf}
 use Rattle.words.specs.Reading.{pos}
@@ -22,7 +22,7 @@ use Rattle.state.specs.declared.image.Known.the-variants.{Is}
 use Rattle.state.specs.declared.image.Decoded.{Decoded}
 use Rattle.state.proofs.Kept.{put-kept-right}
 use Rattle.state.proofs.Images.{image-of, decoded-is}
-use Rattle.lines.specs.Shapes.{endOf, isEnded, textOf, numberRight, groupsIn, groupsRight, set-slash, conf-slash, put-slash, get-i, undo-word, keep-word, orderOf}
+use Rattle.lines.specs.Shapes.{endOf, isEnded, textOf, conf-slash, get-i, undo-word, keep-word, orderOf}
 use Rattle.lines.specs.Verdicts.{isAccepted, setBy, setVerdict, fullVerdict, placeNamed, putBy, putVerdict, undoVerdict, orderVerdict, lineVerdict}
 use Rattle.lines.specs.Orders.{setOf, putOf, setDone, putDone, doneOf}
 use Rattle.lines.specs.Replies.{replyOf}
@@ -31,6 +31,7 @@ use Rattle.lines.specs.declared.shapes.Order.{Order}
 use Rattle.lines.specs.declared.verdicts.Verdict.{Verdict}
 use Rattle.lines.specs.declared.verdicts.Verdict.the-variants.{Accepted, Unended, Long, Parameter, Word, Full, NoEntry, Room}
 use Rattle.lines.specs.declared.machine.Ran.{Ran}
+use Rattle.lines.proofs.Shape.{order-by}
 use Rattle.lines.proofs.Lookups.{setting-in, value-found, named}
 use Rattle.lines.proofs.Calling.{accepted-is, call-some}
 
@@ -67,10 +68,6 @@ left-so : (s : State) (line : List ℕ) (o : Outcome) → Comes s line o → (is
 left-so s line o (stays n e) f = e
 left-so s line o (runs a v e) f = e ∙ f a
 
-either-idle : (s : State) (t : List ℕ) (b : Bool) (x y : Order) → (b ≡ true → doneOf s t x ≡ s) → doneOf s t y ≡ s → doneOf s t (cond b x y) ≡ s
-either-idle s t true x y ex ey = ex refl
-either-idle s t false x y ex ey = ey
-
 starts-other : (x y : ℕ) (v w s : List ℕ) (n : ℕ) → eqb x y ≡ false → startsWith (x ∷ v) s ≡ true → startsWith (y ∷ w) (take n s) ≡ false
 unfolding startsWith
 starts-other x y v w [] n d e = absurd (false≢true e)
@@ -82,14 +79,10 @@ asks-idle : (s : State) (line : List ℕ) (n x : ℕ) (v : List ℕ) → startsW
     → doneOf s (take n line) (orderOf (take n line)) ≡ s
 asks-idle s line n x v e set put undo keep =
     let t = take n line in
-    let g = drop 5 t in
-    let none : (b : Bool) → b ≡ false → b ≡ true → ⊥ = λ b f p. false≢true (sym f ∙ p) in
-    either-idle s t (startsWith set-slash t) _ _ (λ p. absurd (none _ (starts-other x 83 v _ line n set e) p))
-    (either-idle s t (startsWith conf-slash t) _ _ (λ _. either-idle s t (numberRight g) _ _ (λ _. refl) refl)
-    (either-idle s t (startsWith put-slash t) _ _ (λ p. absurd (none _ (starts-other x 80 v _ line n put e) p))
-    (either-idle s t (startsWith get-i t) _ _ (λ _. either-idle s t (ltb 0 (length g) && groupsRight (groupsIn g) g) _ _ (λ _. refl) refl)
-    (either-idle s t (sameBytes t undo-word) _ _ (λ p. absurd (none _ (starts-other x 85 v _ line n undo e) (and-eq-true-iff (eqb (length t) 4) (startsWith undo-word t) .0 p .1)))
-    (either-idle s t (sameBytes t keep-word) _ _ (λ p. absurd (none _ (starts-other x 75 v _ line n keep e) (and-eq-true-iff (eqb (length t) 4) (startsWith keep-word t) .0 p .1))) refl)))))
+    let other : (y : ℕ) (w : List ℕ) → eqb x y ≡ false → startsWith (y ∷ w) t ≡ true → ⊥ = λ y w d p. false≢true (sym (starts-other x y v w line n d e) ∙ p) in
+    let starts : (w : List ℕ) → sameBytes t w ≡ true → startsWith w t ≡ true = λ w p. and-eq-true-iff (eqb (length t) (length w)) (startsWith w t) .0 p .1 in
+    order-by (λ (o : Order). doneOf s t o ≡ s) t refl (λ p _ _. absurd (other 83 _ set p)) (λ _. refl) (λ p _. absurd (other 80 _ put p)) (λ _ _. refl)
+    (λ p. absurd (other 85 _ undo (starts undo-word p))) (λ p. absurd (other 75 _ keep (starts keep-word p)))
 
 module _ (image : List ℕ) (d : Decoded) (e : d ≡ decodeOf image) (q : d .answer ≡ Is) (line room : List ℕ) (r : Ran) (room′ : List ℕ) (h : Ends (d .state) (run (d .state) line) room r room′) where
   call-left : (isAccepted (r .told .verdict) ≡ true → doneOf (d .state) (textOf line) (orderOf (textOf line)) ≡ d .state) → Calls image line room (r .told) image room′

@@ -86,6 +86,27 @@ number-none false m e = refl
 pub number-not : (s : List ℕ) → said.Not ≡ numberShape s → numberRight s ≡ false
 number-not s e = number-none (numberRight s) (numberOf s) e
 
+-- what holds of an order holds of the line's, if it holds of each that the line may be
+
+either : (P : Order → Type 0) (b : Bool) (x y : Order) → (b ≡ true → P x) → P y → P (cond b x y)
+either P true x y px py = px refl
+either P false x y px py = py
+
+pub order-by : (P : Order → Type 0) (t : List ℕ) → P Not → (startsWith set-slash t ≡ true → (n p : ℕ) → P (Set n p)) → ((n : ℕ) → P (Conf n))
+    → (startsWith put-slash t ≡ true → length t ≡ 20 → P Put) → (startsWith get-i t ≡ true → groupsRight (groupsIn (drop 5 t)) (drop 5 t) ≡ true → P Get)
+    → (sameBytes t undo-word ≡ true → P Undo) → (sameBytes t keep-word ≡ true → P Keep) → P (orderOf t)
+order-by P t none set conf put get undo keep =
+    let s = drop 4 t in
+    let k = slashAt s in
+    let g = drop 5 t in
+    either P (startsWith set-slash t) _ _
+    (λ e. either P (ltb k (length s) && (numberRight (take k s) && numberRight (drop (k + 1) s))) _ _ (λ _. set e _ _) none)
+    (either P (startsWith conf-slash t) _ _ (λ _. either P (numberRight g) _ _ (λ _. conf _) none)
+    (either P (startsWith put-slash t) _ _ (λ e. either P (eqb (length t) 20) _ _ (λ long. put e (eqb-true (length t) 20 long)) none)
+    (either P (startsWith get-i t) _ _
+    (λ e. either P (ltb 0 (length g) && groupsRight (groupsIn g) g) _ _ (λ r. get e (and-eq-true-iff (ltb 0 (length g)) _ .0 r .1)) none)
+    (either P (sameBytes t undo-word) _ _ undo (either P (sameBytes t keep-word) _ _ keep none)))))
+
 -- what an order says of the line
 
 abbrev Says : List ℕ → Order → Type 0
@@ -97,22 +118,9 @@ Says t Get = (5 ≤ length t) × (groupsRight (groupsIn (drop 5 t)) (drop 5 t) �
 Says t Undo = length t ≡ 4
 Says t Keep = Unit {0}
 
-says-either : (t : List ℕ) (b : Bool) (x y : Order) → (b ≡ true → Says t x) → Says t y → Says t (cond b x y)
-says-either t true x y sx sy = sx refl
-says-either t false x y sx sy = sy
-
 order-says : (t : List ℕ) → Says t (orderOf t)
 order-says t =
-    let s = drop 4 t in
-    let k = slashAt s in
-    let g = drop 5 t in
-    says-either t (startsWith set-slash t) _ _
-    (λ _. says-either t (ltb k (length s) && (numberRight (take k s) && numberRight (drop (k + 1) s))) _ _ (λ _. tt) tt)
-    (says-either t (startsWith conf-slash t) _ _ (λ _. says-either t (numberRight g) _ _ (λ _. tt) tt)
-    (says-either t (startsWith put-slash t) _ _ (λ _. says-either t (eqb (length t) 20) _ _ (λ e. eqb-true (length t) 20 e) tt)
-    (says-either t (startsWith get-i t) _ _
-    (λ e. says-either t (ltb 0 (length g) && groupsRight (groupsIn g) g) _ _ (λ r. (starts-length get-i t e, and-eq-true-iff (ltb 0 (length g)) _ .0 r .1)) tt)
-    (says-either t (sameBytes t undo-word) _ _ (λ e. ap length (same-true t undo-word e)) (says-either t (sameBytes t keep-word) _ _ (λ _. tt) tt)))))
+    order-by (Says t) t tt (λ _ n p. tt) (λ n. tt) (λ _ long. long) (λ e groups. (starts-length get-i t e, groups)) (λ e. ap length (same-true t undo-word e)) (λ _. tt)
 
 pub order-put : (t : List ℕ) → orderOf t ≡ Put → length t ≡ 20
 order-put t e = subst (Says t) e (order-says t)
