@@ -1,116 +1,105 @@
--- "Bench readings, those with P to be proved": what is tried, and what is answered. A word shown alone is a block of that word and a CR,
--- the list has 32 places and the reply room 306 bytes; a line is sent with a CR to a fresh stand-in.
+-- "Bench readings, those with P to be proved": what is tried, and what is answered. "A word shown alone is a block of that word and a CR; the
+-- list has 32 places and the reply room 306 bytes." A line is sent with a CR to a fresh stand-in.
 use Prim.Native.Nat.{ℕ}
+use Prim.Native.String.{String}
 use mathlib.Core.Path.{_≡_}
 use mathlib.Core.Bool.{Bool, true, false}
-use mathlib.Core.List.{List, [], _∷_, map}
+use mathlib.Core.List.{List, [], _∷_, _++_, map}
+use Rattle.figures.specs.Text.{codes}
 use Rattle.units.specs.Counts.{whole}
 use Rattle.words.specs.Records.{typedOf}
 use Rattle.units.specs.declared.counts.Count.{Count}
 use Rattle.units.specs.declared.counts.Count.the-variants.{Text, Gon, Tenth, Metre, Feet, Pair}
-use Rattle.words.specs.declared.reading.Fault.the-variants.{Value, Information}
-use Rattle.blocks.specs.Judging.{judged}
-use Rattle.state.specs.Entries.{factoryState}
-use Rattle.lines.specs.Verdicts.{verdictNumber}
-use Rattle.lines.specs.Machine.{step}
+use Rattle.blocks.specs.Answers.{refusalNumber, refusalTells}
+use Rattle.blocks.specs.Judging.{Judgement, judged}
 use Rattle.blocks.specs.declared.answers.Answer.{Answer}
 use Rattle.blocks.specs.declared.answers.Answer.the-variants.{Refused, Read}
-use Rattle.blocks.specs.declared.answers.Refusal.the-variants.{Wrong, NoWord}
+use Rattle.state.specs.Entries.{factoryState}
+use Rattle.lines.specs.Verdicts.{verdictNumber}
+use Rattle.lines.specs.Machine.{Outcome, step}
 
--- a block with its answer and its words' typed counts; a line with its number and its reply
+-- a block that is accepted, with its width, end, words and bytes, and its words' typed counts; one that is refused, with number and place; a
+-- line, with its number and its reply
 pub data Reading : Type 0 where
-  block : List ℕ → Answer → List Count → Reading
-  line : List ℕ → ℕ → List ℕ → Reading
+  accepted : List ℕ → Answer → List Count → Reading
+  refused : List ℕ → ℕ → ℕ → Reading
+  answered : List ℕ → ℕ → List ℕ → Reading
+
+abbrev pub answerNumber : Answer → ℕ
+answerNumber (Read r) = 0
+answerNumber (Refused r) = refusalNumber r
+
+abbrev pub answerPlace : Answer → ℕ
+answerPlace (Read r) = 0
+answerPlace (Refused r) = refusalTells r
+
+abbrev pub reading : List ℕ → Judgement
+reading s = judged s 32
+
+abbrev pub reply : List ℕ → Outcome
+reply line = step factoryState line 306
 
 abbrev pub Holds : Reading → Type 0
-Holds (block s answer counts) = (judged s 32 .answer ≡ answer) × (map typedOf (judged s 32 .words) ≡ counts)
-Holds (line l number reply) = (verdictNumber (step factoryState l 306 .verdict) ≡ number) × (step factoryState l 306 .reply ≡ reply)
+Holds (accepted s answer counts) = (reading s .answer ≡ answer) × (map typedOf (reading s .words) ≡ counts)
+Holds (refused s number place) = (answerNumber (reading s .answer) ≡ number) × (answerPlace (reading s .answer) ≡ place)
+Holds (answered line number r) = (verdictNumber (reply line .verdict) ≡ number) × (reply line .reply ≡ r)
 
 -- every reading of the list holds
 abbrev pub All : List Reading → Type 0
 All [] = Unit {0}
 All (r ∷ rs) = Holds r × All rs
 
+-- how the rows are written: a word alone, so many words and bytes, counts with a plus, or with a minus; a line and its reply
+
+abbrev pub word : String → List ℕ
+word w = codes w ++ codes "\r"
+
 abbrev pub read : Bool → Bool → ℕ → ℕ → Answer
 read wide crlf words used = Read (record { wide = wide; crlf = crlf; words = words; used = used })
 
-abbrev pub gon : ℕ → ℕ → Count
-gon m n = Gon (record { 0 = whole m n })
+abbrev pub one : ℕ → Answer
+one used = read false false 1 used
 
-abbrev pub tenth : ℕ → ℕ → Count
-tenth m n = Tenth (record { 0 = whole m n })
+abbrev pub gon : ℕ → Count
+gon n = Gon (record { 0 = whole 0 n })
 
--- with so many decimals
-abbrev pub metre : ℕ → ℕ → ℕ → Count
-metre m n d = Metre (record { 0 = whole m n; 1 = d })
+abbrev pub tenth : ℕ → Count
+tenth n = Tenth (record { 0 = whole 0 n })
 
-abbrev pub feet : ℕ → ℕ → ℕ → Count
-feet m n d = Feet (record { 0 = whole m n; 1 = d })
+-- 1/1000 ft
+abbrev pub feet : ℕ → Count
+feet n = Feet (record { 0 = whole 0 n; 1 = 3 })
 
--- P1: 5 words, 82 bytes; 10,075,730 and 9,720,430 tenths; 265,965 steps of 1/1000 ft; 9 and 0
-abbrev pub p1 : Reading
-p1 = block (49 ∷ 49 ∷ 48 ∷ 48 ∷ 49 ∷ 52 ∷ 43 ∷ 48 ∷ 48 ∷ 48 ∷ 48 ∷ 48 ∷ 48 ∷ 48 ∷ 51 ∷ 32 ∷ 50 ∷ 49 ∷ 46 ∷ 51 ∷ 50 ∷ 52 ∷ 43 ∷ 50 ∷ 55 ∷ 57 ∷ 53 ∷ 50 ∷ 53 ∷ 51 ∷ 48 ∷ 32 ∷ 50 ∷ 50 ∷ 46 ∷ 51 ∷ 50 ∷ 52 ∷ 43 ∷ 50 ∷ 55 ∷ 48 ∷ 48 ∷ 48 ∷ 52 ∷ 51 ∷ 48 ∷ 32 ∷ 51 ∷ 49 ∷ 46 ∷ 46 ∷ 48 ∷ 49 ∷ 43 ∷ 48 ∷ 48 ∷ 50 ∷ 54 ∷ 53 ∷ 57 ∷ 54 ∷ 53 ∷ 32 ∷ 53 ∷ 49 ∷ 46 ∷ 46 ∷ 49 ∷ 46 ∷ 43 ∷ 48 ∷ 48 ∷ 48 ∷ 57 ∷ 43 ∷ 48 ∷ 48 ∷ 48 ∷ 32 ∷ 13 ∷ 10 ∷ []) (read false true 5 82) (Text ∷ tenth 0 10075730 ∷ tenth 0 9720430 ∷ feet 0 265965 3 ∷ Pair (whole 0 9) (whole 0 0) ∷ [])
+-- 1 mm below zero
+abbrev pub minus-mm : ℕ → Count
+minus-mm n = Metre (record { 0 = whole 1 n; 1 = 3 })
 
--- P2: CR alone is 3
-abbrev pub p2 : Reading
-p2 = block (13 ∷ []) (Refused NoWord) ([])
+abbrev pub pair : ℕ → ℕ → Count
+pair ppm mm = Pair (whole 0 ppm) (whole 0 mm)
 
--- P3: a wide word, 26 bytes
-abbrev pub p3 : Reading
-p3 = block (42 ∷ 49 ∷ 49 ∷ 46 ∷ 46 ∷ 46 ∷ 46 ∷ 43 ∷ 48 ∷ 48 ∷ 48 ∷ 48 ∷ 48 ∷ 48 ∷ 48 ∷ 48 ∷ 48 ∷ 80 ∷ 78 ∷ 67 ∷ 48 ∷ 48 ∷ 53 ∷ 56 ∷ 32 ∷ 13 ∷ []) (read true false 1 26) (Text ∷ [])
+abbrev pub line : String → ℕ → String → Reading
+line l number r = answered (word l) number (codes r ++ codes "\r\n")
 
--- P4: the last gon step
-abbrev pub p4 : Reading
-p4 = block (50 ∷ 49 ∷ 46 ∷ 49 ∷ 48 ∷ 50 ∷ 43 ∷ 51 ∷ 57 ∷ 57 ∷ 57 ∷ 57 ∷ 57 ∷ 57 ∷ 57 ∷ 32 ∷ 13 ∷ []) (read false false 1 17) (gon 0 39999999 ∷ [])
+-- P1's block
+abbrev pub five : List ℕ
+five = codes "110014+00000003 21.324+27952530 22.324+27000430 31..01+00265965 51..1.+0009+000 \r\n"
 
--- and one more is 10
-abbrev pub p4-not : Reading
-p4-not = block (50 ∷ 49 ∷ 46 ∷ 49 ∷ 48 ∷ 50 ∷ 43 ∷ 52 ∷ 48 ∷ 48 ∷ 48 ∷ 48 ∷ 48 ∷ 48 ∷ 48 ∷ 32 ∷ 13 ∷ []) (Refused (Wrong Value 0)) ([])
-
--- P5: the last tenth of a second
-abbrev pub p5 : Reading
-p5 = block (50 ∷ 49 ∷ 46 ∷ 49 ∷ 48 ∷ 52 ∷ 43 ∷ 51 ∷ 53 ∷ 57 ∷ 53 ∷ 57 ∷ 53 ∷ 57 ∷ 57 ∷ 32 ∷ 13 ∷ []) (read false false 1 17) (tenth 0 12959999 ∷ [])
-
--- 60 minutes are 10
-abbrev pub p5-not : Reading
-p5-not = block (50 ∷ 49 ∷ 46 ∷ 49 ∷ 48 ∷ 52 ∷ 43 ∷ 48 ∷ 48 ∷ 48 ∷ 54 ∷ 48 ∷ 48 ∷ 48 ∷ 48 ∷ 32 ∷ 13 ∷ []) (Refused (Wrong Value 0)) ([])
-
--- P6: a minus height
-abbrev pub p6 : Reading
-p6 = block (56 ∷ 50 ∷ 46 ∷ 46 ∷ 48 ∷ 48 ∷ 45 ∷ 48 ∷ 48 ∷ 50 ∷ 49 ∷ 51 ∷ 49 ∷ 53 ∷ 57 ∷ 32 ∷ 13 ∷ []) (read false false 1 17) (metre 1 213159 3 ∷ [])
-
--- and minus zero is 10
-abbrev pub p6-not : Reading
-p6-not = block (56 ∷ 50 ∷ 46 ∷ 46 ∷ 48 ∷ 48 ∷ 45 ∷ 48 ∷ 48 ∷ 48 ∷ 48 ∷ 48 ∷ 48 ∷ 48 ∷ 48 ∷ 32 ∷ 13 ∷ []) (Refused (Wrong Value 0)) ([])
-
--- P7: no index 33 in `331106`: 6
-abbrev pub p7 : Reading
-p7 = block (51 ∷ 51 ∷ 49 ∷ 49 ∷ 48 ∷ 54 ∷ 43 ∷ 48 ∷ 48 ∷ 48 ∷ 49 ∷ 48 ∷ 49 ∷ 57 ∷ 56 ∷ 32 ∷ 13 ∷ []) (Refused (Wrong Information 0)) ([])
-
--- P8: SET/40/2 is accepted
-abbrev pub p8 : Reading
-p8 = line (83 ∷ 69 ∷ 84 ∷ 47 ∷ 52 ∷ 48 ∷ 47 ∷ 50 ∷ 13 ∷ []) 0 (63 ∷ 13 ∷ 10 ∷ [])
-
--- SET/40/3 is 24
-abbrev pub p8-parameter : Reading
-p8-parameter = line (83 ∷ 69 ∷ 84 ∷ 47 ∷ 52 ∷ 48 ∷ 47 ∷ 51 ∷ 13 ∷ []) 24 (64 ∷ 87 ∷ 49 ∷ 50 ∷ 55 ∷ 13 ∷ 10 ∷ [])
-
--- SET/33/0 is 23
-abbrev pub p8-setting : Reading
-p8-setting = line (83 ∷ 69 ∷ 84 ∷ 47 ∷ 51 ∷ 51 ∷ 47 ∷ 48 ∷ 13 ∷ []) 23 (64 ∷ 87 ∷ 49 ∷ 50 ∷ 55 ∷ 13 ∷ 10 ∷ [])
-
--- P9: CONF/70 answers 0070/0005
-abbrev pub p9 : Reading
-p9 = line (67 ∷ 79 ∷ 78 ∷ 70 ∷ 47 ∷ 55 ∷ 48 ∷ 13 ∷ []) 0 (48 ∷ 48 ∷ 55 ∷ 48 ∷ 47 ∷ 48 ∷ 48 ∷ 48 ∷ 53 ∷ 13 ∷ 10 ∷ [])
-
--- P10: GET/I/WI88 is 27
-abbrev pub p10 : Reading
-p10 = line (71 ∷ 69 ∷ 84 ∷ 47 ∷ 73 ∷ 47 ∷ 87 ∷ 73 ∷ 56 ∷ 56 ∷ 13 ∷ []) 27 (64 ∷ 87 ∷ 49 ∷ 50 ∷ 55 ∷ 13 ∷ 10 ∷ [])
-
--- P11: UNDO is 29
-abbrev pub p11 : Reading
-p11 = line (85 ∷ 78 ∷ 68 ∷ 79 ∷ 13 ∷ []) 29 (64 ∷ 87 ∷ 49 ∷ 50 ∷ 55 ∷ 13 ∷ 10 ∷ [])
-
--- the table
 abbrev pub table : List Reading
-table = p1 ∷ p2 ∷ p3 ∷ p4 ∷ p4-not ∷ p5 ∷ p5-not ∷ p6 ∷ p6-not ∷ p7 ∷ p8 ∷ p8-parameter ∷ p8-setting ∷ p9 ∷ p10 ∷ p11 ∷ []
+table =
+    accepted five (read false true 5 82) (Text ∷ tenth 10075730 ∷ tenth 9720430 ∷ feet 265965 ∷ pair 9 0 ∷ [])  -- P1
+    ∷ refused (codes "\r") 3 0  -- P2
+    ∷ accepted (word "*11....+000000000PNC0058 ") (read true false 1 26) (Text ∷ [])  -- P3
+    ∷ accepted (word "21.102+39999999 ") (one 17) (gon 39999999 ∷ [])  -- P4
+    ∷ refused (word "21.102+40000000 ") 10 0  -- P4
+    ∷ accepted (word "21.104+35959599 ") (one 17) (tenth 12959999 ∷ [])  -- P5
+    ∷ refused (word "21.104+00060000 ") 10 0  -- P5
+    ∷ accepted (word "82..00-00213159 ") (one 17) (minus-mm 213159 ∷ [])  -- P6
+    ∷ refused (word "82..00-00000000 ") 10 0  -- P6
+    ∷ refused (word "331106+00010198 ") 6 0  -- P7
+    ∷ line "SET/40/2" 0 "?"  -- P8
+    ∷ line "SET/40/3" 24 "@W127"  -- P8
+    ∷ line "SET/33/0" 23 "@W127"  -- P8
+    ∷ line "CONF/70" 0 "0070/0005"  -- P9
+    ∷ line "GET/I/WI88" 27 "@W127"  -- P10
+    ∷ line "UNDO" 29 "@W127"  -- P11
+    ∷ []

@@ -16,8 +16,9 @@ use Rattle.words.specs.declared.records.Word.{Word}
 use Rattle.words.specs.declared.reading.Fault.the-variants.{Short}
 use Rattle.words.specs.declared.reading.Judged as one
 use Rattle.words.proofs.RoundTrip.{read-write}
-use Rattle.blocks.specs.Judging.{Judgement, isAt, isWide, startOf, refusedBy, endedAt, afterWord, blockFrom, judged}
-use Rattle.blocks.specs.Composing.{starBytes, endBytes, wordsBytes, blockBytes, written}
+use Rattle.blocks.specs.Judging.{Judgement, isAt, isWide, firstAt, refusedBy, endedAt, afterWord, blockFrom, judged}
+use Rattle.blocks.specs.Composing.{starBytes, wordsBytes, blockBytes, written}
+use Rattle.figures.specs.Text.{endBytes}
 use Rattle.blocks.specs.declared.answers.Refusal.{Refusal}
 use Rattle.blocks.specs.declared.answers.Refusal.the-variants.{Empty, Wrong, NoWord, NoEnd, NoPlace}
 use Rattle.blocks.specs.declared.answers.Reading.{Reading}
@@ -159,17 +160,17 @@ from-on (suc more) wide places at rest done r ws e =
     (from-on more wide places (at + wordSize wide) (drop (wordSize wide) rest) (done ++ (o .word ∷ [])) r ws (h .4)))
     (through (isAt 13 rest) (ltb (length rest) (wordSize wide)) (leb places (length done)) (o .answer) at _ _ r ws e)
 
-start-most : (wide : Bool) → startOf wide ≤ 1
+start-most : (wide : Bool) → firstAt wide ≤ 1
 start-most true = omega arith
 start-most false = omega arith
 
-star-is : (s : List ℕ) (wide : Bool) → eqb (length s) 0 ≡ false → isWide s ≡ wide → starBytes wide ≡ take (startOf wide) s
+star-is : (s : List ℕ) (wide : Bool) → eqb (length s) 0 ≡ false → isWide s ≡ wide → starBytes wide ≡ take (firstAt wide) s
 star-is [] wide e h = absurd (false≢true (sym e))
 star-is (x ∷ s) true e h = ap (λ n. n ∷ []) (sym (eqb-true x 42 h))
 star-is (x ∷ s) false e h = refl
 
 accepted-on : (s : List ℕ) (places : ℕ) (r : Reading) (ws : List Word) (wide : Bool) → eqb (length s) 0 ≡ false → isWide s ≡ wide
-    → isAt 13 (drop (startOf wide) s) ≡ false → On 32 wide places (startOf wide) (drop (startOf wide) s) [] r ws → Accepted s places r ws
+    → isAt 13 (drop (firstAt wide) s) ≡ false → On 32 wide places (firstAt wide) (drop (firstAt wide) s) [] r ws → Accepted s places r ws
 accepted-on s places r ws wide full star first o =
     let list : ws ≡ o .new = o .list in
     let front = star-is s wide full star in
@@ -179,8 +180,8 @@ accepted-on s places r ws wide full star first o =
       lawful = record { some = some; most = most; right = rw (o .width, list) (o .right) };
       placed = rw list (omega (arith, o .placed (omega arith)));
       counted = o .counted;
-      within = omega (arith, length-drop (startOf wide) s, start-most wide, eqb-false (length s) 0 full);
-      bytes = rw (o .width, list, o .used, front, o .bytes) (sym (take-add (startOf wide) (o .size) s));
+      within = omega (arith, length-drop (firstAt wide) s, start-most wide, eqb-false (length s) 0 full);
+      bytes = rw (o .width, list, o .used, front, o .bytes) (sym (take-add (firstAt wide) (o .size) s));
       apart = λ h. rw (o .used) (rw drop-drop at (o .apart h));
     }
 
@@ -189,8 +190,8 @@ pub accepted : (s : List ℕ) (places : ℕ) (r : Reading) (ws : List Word) → 
 accepted s places r ws e =
     let wide = isWide s in
     let full = past (eqb (length s) 0) Empty _ r ws e in
-    let first = past (isAt 13 (drop (startOf wide) s)) NoWord _ r ws (full .1) in
-    accepted-on s places r ws wide (full .0) refl (first .0) (from-on 32 wide places (startOf wide) (drop (startOf wide) s) [] r ws (first .1))
+    let first = past (isAt 13 (drop (firstAt wide) s)) NoWord _ r ws (full .1) in
+    accepted-on s places r ws wide (full .0) refl (first .0) (from-on 32 wide places (firstAt wide) (drop (firstAt wide) s) [] r ws (first .1))
 
 pub accepted-written : (s : List ℕ) (places : ℕ) (r : Reading) (ws : List Word) (room : List ℕ) → judged s places ≡ readAs r ws → r .used ≤ length room
     → written ws (r .wide) (r .crlf) room ≡ record { answer = Written (r .used); room = laid (take (r .used) s) room }

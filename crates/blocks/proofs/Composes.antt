@@ -18,14 +18,18 @@ use Rattle.blocks.specs.declared.answers.Wrote.{Wrote}
 use Rattle.blocks.specs.declared.answers.Wrote.the-variants.{Refused, Written}
 use Rattle.blocks.specs.declared.judging.Block.{Block}
 use Rattle.blocks.specs.declared.composing.Composed.{Composed}
-use Rattle.blocks.specs.Composing.{starBytes, endBytes, wordsBytes, blockBytes, unlessWrong, Written·room, refusedRoom, fitted, written, refusedList, wroteList, composedOf, listOf, Writes}
+use Rattle.blocks.specs.Composing.{starBytes, wordsBytes, blockBytes, unlessWrong, Written·room, refusedRoom, blockInRoom, written, Writes}
+use Rattle.blocks.specs.Keeping.{refusedList, wroteList, composedOf, listOf}
+use Rattle.figures.specs.Text.{endBytes}
 use Rattle.blocks.proofs.Steps.{apart}
 use Rattle.blocks.proofs.Rooms.{firstWrong, unless-right, unless-wrong, words-fit, star-small, set-laid, wrote-as}
 
 -- the refusal by the first wrong record, or the bytes
+abbrev pub laidIn : List ℕ → List ℕ → Composed
+laidIn room done = record { answer = Written (length done); bytes = laid done room }
+
 abbrev pub putIn : List ℕ → Bool → List Word → List ℕ → Composed
-putIn room wide ws done =
-    unlessWrong wide 0 ws (λ i. record { answer = Refused (Record i); bytes = room }) (record { answer = Written (length done); bytes = laid done room })
+putIn room wide ws done = unlessWrong wide 0 ws (λ i. record { answer = Refused (Record i); bytes = room }) (laidIn room done)
 
 module _ (room : List ℕ) (wide : Bool) (ws : List Word) (done : List ℕ) (put : Composed) (e : put ≡ putIn room wide ws done) where
   pub put-written : (at : ℕ) → put .answer ≡ Written at → (firstWrong wide 0 ws ≡ none) × (at ≡ length done) × (put .bytes ≡ laid done room)
@@ -73,28 +77,38 @@ module _ (wide crlf : Bool) (ws : List Word) where
   composed-right some-words e = composed-some some-words ∙ unless-right wide ws _ _ e
 
 -- the terminator after what is laid in the room
-module _ (star words room bytes : List ℕ) (at : ℕ) (crlf : Bool) (ea : at ≡ length (star ++ words)) (fits : at + 2 ≤ length room) (e : bytes ≡ laid (star ++ words) room) where
+module _ (star words room bytes : List ℕ) (at : ℕ) (crlf : Bool) (ea : at ≡ length (star ++ words)) (fits : at + 2 ≤ length room)
+    (e : bytes ≡ laid (star ++ words) room) where
   first : set bytes at 13 ≡ laid ((star ++ words) ++ (13 ∷ [])) room
   first = set-laid (star ++ words) room bytes at 13 ea (omega arith) e
 
   past : at + 1 ≡ length ((star ++ words) ++ (13 ∷ []))
   past = omega (arith, length-append (star ++ words) (13 ∷ []))
 
-  pub ends-cr : crlf ≡ false
-      → _≡_ {A = Composed} (record { answer = Written (at + 1); bytes = set bytes at 13 }) (record { answer = Written (length (star ++ (words ++ endBytes crlf))); bytes = laid (star ++ (words ++ endBytes crlf)) room })
+  pub ends-cr : crlf ≡ false → record { answer = Written (at + 1); bytes = set bytes at 13 } ≡ laidIn room (star ++ (words ++ endBytes crlf))
   ends-cr ec = rw (ec, ← append-assoc star words (13 ∷ [])) (wrote-as (at + 1) (set bytes at 13) ((star ++ words) ++ (13 ∷ [])) room past first)
 
   pub ends-crlf : crlf ≡ true
-      → _≡_ {A = Composed} (record { answer = Written (at + 1 + 1); bytes = set (set bytes at 13) (at + 1) 10 }) (record { answer = Written (length (star ++ (words ++ endBytes crlf))); bytes = laid (star ++ (words ++ endBytes crlf)) room })
+      → record { answer = Written (at + 1 + 1); bytes = set (set bytes at 13) (at + 1) 10 } ≡ laidIn room (star ++ (words ++ endBytes crlf))
   ends-crlf ec =
       let cr = (star ++ words) ++ (13 ∷ []) in
-      let all : cr ++ (10 ∷ []) ≡ star ++ (words ++ (13 ∷ 10 ∷ [])) = append-assoc (star ++ words) (13 ∷ []) (10 ∷ []) ∙ append-assoc star words (13 ∷ 10 ∷ []) in
+      let all : cr ++ (10 ∷ []) ≡ star ++ (words ++ (13 ∷ 10 ∷ [])) = simp append-assoc in
       let both = set-laid cr room (set bytes at 13) (at + 1) 10 past (omega arith) first in
-      rw (ec, ← all) (wrote-as (at + 1 + 1) (set (set bytes at 13) (at + 1) 10) (cr ++ (10 ∷ [])) room (omega (arith, past, length-append cr (10 ∷ []))) both)
+      let size : at + 1 + 1 ≡ length (cr ++ (10 ∷ [])) = omega (arith, past, length-append cr (10 ∷ [])) in
+      rw (ec, ← all) (wrote-as (at + 1 + 1) (set (set bytes at 13) (at + 1) 10) (cr ++ (10 ∷ [])) room size both)
 
-end-small : (crlf : Bool) → length (endBytes crlf) ≤ 2
+pub end-small : (crlf : Bool) → length (endBytes crlf) ≤ 2
 end-small true = omega arith
 end-small false = omega arith
+
+-- what is laid in a room is taken from its start
+laid-whole : (bytes room all : List ℕ) (n : ℕ) → n ≡ length bytes → n ≤ length room → all ≡ laid bytes room → take n all ≡ bytes
+laid-whole bytes room all n en fits e = rw (e, laid-fits bytes room (omega arith)) (take-at bytes (drop (length bytes) room) n (sym en))
+
+-- an answer, and the bytes that are kept with it, put in a room
+abbrev pub answeredIn : List ℕ → List ℕ → Wrote → Written·room
+answeredIn out bytes (Refused r) = refusedRoom out r
+answeredIn out bytes (Written n) = blockInRoom (take n bytes) out
 
 -- what writing into a room comes to, by what is composed
 module _ (wide crlf : Bool) (ws : List Word) (few : length ws ≤ 32) (out : List ℕ) where
@@ -102,7 +116,7 @@ module _ (wide crlf : Bool) (ws : List Word) (few : length ws ≤ 32) (out : Lis
   written-none e = rw (eq-eqb (length ws) 0 e)
 
   written-some : (length ws ≡ 0 → ⊥)
-      → written ws wide crlf out ≡ unlessWrong wide 0 ws (λ i. refusedRoom out (Record i)) (fitted (blockBytes wide crlf ws) out)
+      → written ws wide crlf out ≡ unlessWrong wide 0 ws (λ i. refusedRoom out (Record i)) (blockInRoom (blockBytes wide crlf ws) out)
   written-some e = rw (ne-eqb (length ws) 0 e, le-ltb 32 (length ws) few)
 
   module _ (put : Composed) (e : put ≡ composedOf wide crlf ws) where
@@ -119,33 +133,48 @@ module _ (wide crlf : Bool) (ws : List Word) (few : length ws ≤ 32) (out : Lis
             let told = put-refused (replicate 771 0) wide ws (blockBytes wide crlf ws) put (e ∙ composed-some wide crlf ws some-words) r er in
             written-some some-words ∙ (unless-wrong wide ws _ _ (told .0) (told .1) ∙ ap (refusedRoom out) (sym (told .2)))
 
-    pub composed-written : (n : ℕ) → put .answer ≡ Written n
-        → (n ≡ length (blockBytes wide crlf ws)) × (put .bytes ≡ laid (blockBytes wide crlf ws) (replicate 771 0)) × (n ≤ 771) × (written ws wide crlf out ≡ fitted (blockBytes wide crlf ws) out)
+    abbrev all : List ℕ
+    all = blockBytes wide crlf ws
+
+    abbrev Told : ℕ → Type 0
+    Told n = (n ≡ length all) × (put .bytes ≡ laid all (replicate 771 0)) × (n ≤ 771) × (written ws wide crlf out ≡ blockInRoom all out)
+
+    pub composed-written : (n : ℕ) → put .answer ≡ Written n → Told n
     composed-written n ea = go (length ws) refl
       where
-        go : (m : ℕ) → length ws ≡ m
-            → (n ≡ length (blockBytes wide crlf ws)) × (put .bytes ≡ laid (blockBytes wide crlf ws) (replicate 771 0)) × (n ≤ 771) × (written ws wide crlf out ≡ fitted (blockBytes wide crlf ws) out)
+        go : (m : ℕ) → length ws ≡ m → Told n
         go zero em =
             let answer : put .answer ≡ Refused Count = ap (λ (p : Composed). p .answer) (e ∙ composed-none wide crlf ws em) in
             apart cc
         go (suc m) em =
             let some-words : length ws ≡ 0 → ⊥ = λ z. omega arith in
-            let told = put-written (replicate 771 0) wide ws (blockBytes wide crlf ws) put (e ∙ composed-some wide crlf ws some-words) n ea in
+            let told = put-written (replicate 771 0) wide ws all put (e ∙ composed-some wide crlf ws some-words) n ea in
             let star = starBytes wide in
             let words = wordsBytes wide ws in
-            let small : n ≤ 771 = omega (arith, told .1, words-end wide ws few (told .0), length-append star words, length-append star (words ++ endBytes crlf), length-append words (endBytes crlf), end-small crlf) in
+            let sizes : length all ≡ length (star ++ words) + length (endBytes crlf) =
+            omega (arith, length-append star words, length-append star (words ++ endBytes crlf), length-append words (endBytes crlf)) in
+            let small : n ≤ 771 = omega (arith, told .1, words-end wide ws few (told .0), end-small crlf) in
             (told .1, told .2, small, written-some some-words ∙ unless-right wide ws _ _ (told .0))
+
+    -- what is composed, put in the room, is what is written
+    pub composed-as : written ws wide crlf out ≡ answeredIn out (put .bytes) (put .answer)
+    composed-as = go (put .answer) refl
+      where
+        go : (a : Wrote) → put .answer ≡ a → written ws wide crlf out ≡ answeredIn out (put .bytes) a
+        go (Refused r) er = composed-refused r er
+        go (Written n) en =
+            let told = composed-written n en in
+            told .3 ∙ rw (laid-whole all (replicate 771 0) (put .bytes) n (told .0) (told .2) (told .1))
 
 -- the bytes fit the room, or not
 module _ (bytes out : List ℕ) (n : ℕ) (en : n ≡ length bytes) where
-  pub fitted-not : length out < n → fitted bytes out ≡ refusedRoom out (Room n)
+  pub fitted-not : length out < n → blockInRoom bytes out ≡ refusedRoom out (Room n)
   fitted-not h = rw (en, lt-ltb (length out) (length bytes) (omega arith))
 
-  pub fitted-laid : (room all last : List ℕ) (k : ℕ) → k ≡ n → n ≤ length room → n ≤ length out → all ≡ laid bytes room → last ≡ laid (take k all) out
-      → fitted bytes out ≡ record { answer = Written n; room = last }
+  pub fitted-laid : (room all last : List ℕ) (k : ℕ) → k ≡ n → n ≤ length room → n ≤ length out → all ≡ laid bytes room
+      → last ≡ laid (take k all) out → blockInRoom bytes out ≡ record { answer = Written n; room = last }
   fitted-laid room all last k ek fits h e el =
-      let whole : take k all ≡ bytes = rw (ek, e, laid-fits bytes room (omega arith)) (take-at bytes (drop (length bytes) room) n (sym en)) in
-      rw (el, whole, en, le-ltb (length out) (length bytes) (omega arith))
+      rw (el, ek, laid-whole bytes room all n en fits e, en, le-ltb (length out) (length bytes) (omega arith))
 
 -- the list that a block holds
 pub listed-many : (b : Block) → 32 < b .n → listOf b ≡ replicate 33 blank
@@ -154,8 +183,8 @@ listed-many b h = rw (lt-leb (b .n) 32 h)
 pub listed-few : (b : Block) → b .n ≤ 32 → listOf b ≡ take (b .n) (b .words)
 listed-few b h = rw (le-leb (b .n) 32 h)
 
-pub writes-as : (l ws : List Word) (wide crlf : Bool) (room room′ : List ℕ) (r : Wrote) → l ≡ ws → written ws wide crlf room ≡ record { answer = r; room = room′ }
-    → Writes l wide crlf room r room′
+pub writes-as : (l ws : List Word) (wide crlf : Bool) (room room′ : List ℕ) (r : Wrote) → l ≡ ws
+    → written ws wide crlf room ≡ record { answer = r; room = room′ } → Writes l wide crlf room r room′
 writes-as l ws wide crlf room room′ r el e =
     let is = ap (λ (x : List Word). written x wide crlf room) el ∙ e in
     (sym (ap (λ (w : Written·room). w .answer) is), sym (ap (λ (w : Written·room). w .room) is))

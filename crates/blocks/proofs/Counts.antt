@@ -17,10 +17,11 @@ use Rattle.blocks.specs.declared.answers.Refusal.{Refusal}
 use Rattle.blocks.specs.declared.answers.Refusal.the-variants.{Empty, Wrong, NoWord, NoEnd, NoPlace}
 use Rattle.blocks.specs.Answers.{refusalTells}
 use Rattle.blocks.specs.declared.judging.Block.{Block}
-use Rattle.blocks.specs.Judging.{Judgement, isAt, isWide, startOf, refusedBy, endedAt, afterWord, blockFrom, judged, filled, noBlock, blockOf}
-use Rattle.blocks.specs.Composing.{written, listOf}
-use Rattle.blocks.specs.Lists.{begunOf, gathered}
+use Rattle.blocks.specs.Judging.{Judgement, isAt, isWide, firstAt, refusedBy, endedAt, afterWord, blockFrom, judged, filled}
+use Rattle.blocks.specs.Keeping.{noBlock, blockOf, listOf, begunOf, gathered}
+use Rattle.blocks.specs.Composing.{written}
 use Rattle.blocks.proofs.Row.{mix}
+use Rattle.blocks.proofs.Steps.{start-small}
 
 -- so many records go into a block, and into a list of so many places
 abbrev pub Few : ℕ → ℕ → Type 0
@@ -33,13 +34,10 @@ pub size-le : (wide : Bool) → wordSize wide ≤ 24
 size-le true = omega arith
 size-le false = omega arith
 
-start-le : (wide : Bool) → startOf wide ≤ 1
-start-le true = omega arith
-start-le false = omega arith
-
 -- what holds of each refusal that tells no place past the last word's end, and of each block that ends there or before, holds of what is judged
 module _ (places : ℕ) (P : Judgement → Type 0) (refuses : (r : Refusal) → refusalTells r ≤ 769 → P (refusedBy r))
-    (ends : (wide : Bool) (at : ℕ) (rest : List ℕ) (ws : List Word) → at ≤ 769 → Few (length ws) places → P (record { answer = endedAt wide at rest (length ws); words = ws })) where
+    (ends : (wide : Bool) (at : ℕ) (rest : List ℕ) (ws : List Word) → at ≤ 769 → Few (length ws) places
+    → P (record { answer = endedAt wide at rest (length ws); words = ws })) where
   cond-by : (t : Bool) (j k : Judgement) → P j → (t ≡ false → P k) → P (cond t j k)
   cond-by true j k h h′ = h
   cond-by false j k h h′ = h′ refl
@@ -48,21 +46,29 @@ module _ (places : ℕ) (P : Judgement → Type 0) (refuses : (r : Refusal) → 
   after-by at one.Judged.Right j h p = p
   after-by at (one.Judged.Wrong fault) j h p = refuses (Wrong fault at) h
 
-  from-by : (more : ℕ) (wide : Bool) (at : ℕ) (rest : List ℕ) (ws : List Word) → at + more * 24 ≤ 769 → length ws + more ≤ 32 → length ws ≤ places → P (blockFrom more wide places at rest ws)
+  from-by : (more : ℕ) (wide : Bool) (at : ℕ) (rest : List ℕ) (ws : List Word) → at + more * 24 ≤ 769 → length ws + more ≤ 32 → length ws ≤ places
+      → P (blockFrom more wide places at rest ws)
   unfolding blockFrom
   from-by zero wide at rest ws a h k = cond-by (isAt 13 rest) _ _ (ends wide at rest ws (omega arith) (omega arith, k)) (λ _. refuses (NoEnd at) (omega arith))
   from-by (suc more) wide at rest ws a h k =
-      cond-by (isAt 13 rest) _ _ (ends wide at rest ws (omega arith) (omega arith, k)) (λ _. cond-by (ltb (length rest) (wordSize wide)) _ _ (refuses (Wrong Short at) (omega arith)) (λ _.
+      cond-by (isAt 13 rest) _ _ (ends wide at rest ws (omega arith) (omega arith, k)) (λ _.
+      cond-by (ltb (length rest) (wordSize wide)) _ _ (refuses (Wrong Short at) (omega arith)) (λ _.
       cond-by (leb places (length ws)) _ _ (refuses (NoPlace at) (omega arith)) (λ e.
       let w = wordOf wide rest .word in
+      let next = at + wordSize wide in
+      let later = drop (wordSize wide) rest in
       let one-more : length (ws ++ (w ∷ [])) ≡ length ws + 1 = length-append ws (w ∷ []) in
-      after-by at (wordOf wide rest .answer) (blockFrom more wide places (at + wordSize wide) (drop (wordSize wide) rest) (ws ++ (w ∷ []))) (omega arith)
-      (from-by more wide (at + wordSize wide) (drop (wordSize wide) rest) (ws ++ (w ∷ [])) (omega (arith, size-le wide)) (omega arith) (omega (arith, leb-false places (length ws) e))))))
+      let free = leb-false places (length ws) e in
+      after-by at (wordOf wide rest .answer) (blockFrom more wide places next later (ws ++ (w ∷ []))) (omega arith)
+      (from-by more wide next later (ws ++ (w ∷ [])) (omega (arith, size-le wide)) (omega arith) (omega (arith, free))))))
 
   pub judged-by : (s : List ℕ) → P (judged s places)
   judged-by s =
-      cond-by (eqb (length s) 0) _ _ (refuses Empty (omega arith)) (λ _. cond-by (isAt 13 (drop (startOf (isWide s)) s)) _ _ (refuses NoWord (omega arith)) (λ _.
-      from-by 32 (isWide s) (startOf (isWide s)) (drop (startOf (isWide s)) s) [] (omega (arith, start-le (isWide s))) (omega arith) (omega arith)))
+      let wide = isWide s in
+      let rest = drop (firstAt wide) s in
+      cond-by (eqb (length s) 0) _ _ (refuses Empty (omega arith)) (λ _.
+      cond-by (isAt 13 rest) _ _ (refuses NoWord (omega arith)) (λ _.
+      from-by 32 wide (firstAt wide) rest [] (omega (arith, start-small wide)) (omega arith) (omega arith)))
 
 pub judged-few : (places : ℕ) (s : List ℕ) → Few (length (judged s places .words)) places
 judged-few places s = judged-by places (λ j. Few (length (j .words)) places) (λ r h. none-few places) (λ wide at rest ws h few. few) s

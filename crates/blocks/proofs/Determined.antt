@@ -8,14 +8,15 @@ use Rattle.figures.specs.Promises.{Determined}
 use Rattle.figures.proofs.Determined.{by-equation, by-two}
 use Rattle.words.specs.declared.records.Word.{Word}
 use Rattle.blocks.specs.Answers.{refusalNumber, refusalTells}
-use Rattle.blocks.specs.Judging.{judged, filled, keptOf}
-use Rattle.blocks.specs.Composing.{written, listOf, Writes}
-use Rattle.blocks.specs.Lists.{Reads, gathered}
+use Rattle.blocks.specs.Judging.{judged, filled}
+use Rattle.blocks.specs.Keeping.{keptOf, listOf, gathered}
+use Rattle.blocks.specs.Composing.{written, Writes}
+use Rattle.blocks.specs.Lists.{Reads}
 use Rattle.blocks.specs.declared.answers.Refusal.{Refusal}
 use Rattle.blocks.specs.declared.answers.Answer.{Answer}
 use Rattle.blocks.specs.declared.answers.Wrote.{Wrote}
 use Rattle.blocks.specs.declared.judging.Block.{Block}
-use Rattle.blocks.specs.declared.judging.Judgement.{Judgement}
+use Rattle.blocks.specs.declared.judging.JudgedBlock.{JudgedBlock}
 
 pub refusal-number-determined : Determined Refusal ℕ (λ i r. r ≡ refusalNumber i)
 refusal-number-determined = by-equation Refusal ℕ refusalNumber
@@ -23,8 +24,8 @@ refusal-number-determined = by-equation Refusal ℕ refusalNumber
 pub refusal-tells-determined : Determined Refusal ℕ (λ i r. r ≡ refusalTells i)
 refusal-tells-determined = by-equation Refusal ℕ refusalTells
 
-pub judge-determined : Determined (List ℕ × ℕ) Judgement (λ i r. r ≡ keptOf (judged (i .0) (i .1)))
-judge-determined = by-equation (List ℕ × ℕ) Judgement (λ i. keptOf (judged (i .0) (i .1)))
+pub judge-determined : Determined (List ℕ × ℕ) JudgedBlock (λ i r. r ≡ keptOf (judged (i .0) (i .1)))
+judge-determined = by-equation (List ℕ × ℕ) JudgedBlock (λ i. keptOf (judged (i .0) (i .1)))
 
 pub emit-determined : Determined (Block × Bool × Bool × List ℕ) (Wrote × List ℕ) (λ i o. Writes (listOf (i .0)) (i .1) (i .2) (i .3) (o .0) (o .1))
 emit-determined =

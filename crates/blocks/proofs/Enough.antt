@@ -11,7 +11,7 @@ use lib.Seq.{drop-append-le, take-all, length-take-le}
 use Rattle.words.specs.Reading.{wordSize}
 use Rattle.words.specs.declared.records.Word.{Word}
 use Rattle.words.proofs.Places.{never-past}
-use Rattle.blocks.specs.Judging.{isAt, isWide, startOf, endedAt, blockFrom, judged}
+use Rattle.blocks.specs.Judging.{isAt, isWide, firstAt, endedAt, blockFrom, judged}
 use Rattle.blocks.proofs.Steps.{width-small, start-small}
 
 -- a byte of s is looked at in s, whatever follows
@@ -47,7 +47,7 @@ pub judged-past : (s rest : List ℕ) (places : ℕ) → 771 ≤ length s → ju
 judged-past [] rest places h = absurd (omega arith)
 judged-past (b ∷ s) rest places h =
     let wide = isWide (b ∷ s) in
-    let start = startOf wide in
+    let start = firstAt wide in
     let small = start-small wide in
     let after = drop start (b ∷ s) in
     let left : 770 ≤ length after = omega (arith, length-drop start (b ∷ s)) in

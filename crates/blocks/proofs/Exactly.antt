@@ -43,8 +43,8 @@ exactly s places = (
 )
 
 -- two ways to take one input apart are the same
-pub one-reading : (s : List ℕ) (wide crlf wide′ crlf′ : Bool) (ws ws′ : List Word) (rest rest′ : List ℕ) → Ruled s wide crlf ws rest → Ruled s wide′ crlf′ ws′ rest′
-    → (wide ≡ wide′) × (crlf ≡ crlf′) × (ws ≡ ws′) × (rest ≡ rest′)
+pub one-reading : (s : List ℕ) (wide crlf wide′ crlf′ : Bool) (ws ws′ : List Word) (rest rest′ : List ℕ) → Ruled s wide crlf ws rest
+    → Ruled s wide′ crlf′ ws′ rest′ → (wide ≡ wide′) × (crlf ≡ crlf′) × (ws ≡ ws′) × (rest ≡ rest′)
 one-reading s wide crlf wide′ crlf′ ws ws′ rest rest′ h h′ =
     let e : readAs (readingOf wide crlf ws) ws ≡ readAs (readingOf wide′ crlf′ ws′) ws′ =
     sym (ruled-read s 32 wide crlf ws rest h (h .lawful .most)) ∙ ruled-read s 32 wide′ crlf′ ws′ rest′ h′ (h′ .lawful .most) in
@@ -59,8 +59,8 @@ one-reading s wide crlf wide′ crlf′ ws ws′ rest rest′ h h′ =
     )
 
 -- "Bytes after the terminator aren't looked at."
-pub reading-looks-no-further : (s : List ℕ) (places : ℕ) (r : Reading) (more : List ℕ) → judged s places .answer ≡ Read r → (r .crlf ≡ false → isAt 10 more ≡ false)
-    → judged (take (r .used) s ++ more) places ≡ judged s places
+pub reading-looks-no-further : (s : List ℕ) (places : ℕ) (r : Reading) (more : List ℕ) → judged s places .answer ≡ Read r
+    → (r .crlf ≡ false → isAt 10 more ≡ false) → judged (take (r .used) s ++ more) places ≡ judged s places
 reading-looks-no-further s places r more e h =
     let ws = judged s places .words in
     let is : judged s places ≡ readAs r ws = λ i. record { answer = e i; words = ws } in

@@ -3,6 +3,7 @@ pub mod Counts
 pub mod Written
 pub mod Accepted
 pub mod Exactly
+pub mod Typed
 pub mod Determined
 pub mod Steps
 pub mod Rooms

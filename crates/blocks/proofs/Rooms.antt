@@ -1,5 +1,5 @@
 -- Laws of composing: the first record that no word gives, the bytes of those before it, and the room that holds them from its start.
-use Prim.Native.Nat.{ℕ, suc, _+_, _-_, _*_, _<_, _≤_}
+use Prim.Native.Nat.{ℕ, _+_, _-_, _*_, _<_, _≤_}
 use mathlib.Core.Path.{_≡_, refl, sym, ap, _∙_}
 use mathlib.Core.Bool.{Bool, true, false, cond}
 use mathlib.Core.List.{List, [], _∷_, _++_, append-assoc, append-nil}
@@ -8,14 +8,15 @@ use native.Mathlib.Numerals.{add-one}
 use native.Mathlib.Omega.{arith}
 use borrow.Rule.Slice.PartMut.{putMid, midOf}
 use lib.ListN.{length, getD, set, take, drop, replicate, length-append, length-take, length-map, length-replicate, drop-of-length-le}
-use lib.Seq.{take-suc, drop-cons, take-at, drop-at, set-at, length-take-le, append-snoc, drop-drop}
+use lib.Seq.{take-suc, drop-cons, take-at, drop-at, length-take-le, drop-drop}
 use mir.Val.{Val}
 use denote.Laws.{Is}
 use Rattle.figures.specs.Bytes.{laid}
-use Rattle.figures.proofs.Bytes.{laid-fits, laid-on, length-laid}
+use Rattle.figures.proofs.Bytes.{laid-fits, laid-on, length-laid, store-on}
 use Rattle.words.specs.Records.{isRight}
 use Rattle.words.specs.Reading.{wordSize}
-use Rattle.words.specs.Writing.{bytesOf, bytesIn, spellingOf}
+use Rattle.words.specs.Writing.{bytesOf}
+use Rattle.words.specs.Keeping.{bytesIn, spellingOf}
 use Rattle.words.specs.declared.records.Word.{Word}
 use Rattle.words.specs.declared.writing.Spelt.the-variants as spelt
 use Rattle.words.specs.declared.writing.Spelling.{Spelling}
@@ -23,7 +24,7 @@ use Rattle.words.proofs.RoundTrip.{bytes-length}
 use Rattle.blocks.specs.declared.answers.Wrote.the-variants.{Written}
 use Rattle.blocks.specs.declared.judging.Block.{Block}
 use Rattle.blocks.specs.declared.composing.Composed.{Composed}
-use Rattle.blocks.specs.Judging.{startOf}
+use Rattle.blocks.specs.Judging.{firstAt}
 use Rattle.blocks.specs.Composing.{starBytes, wordsBytes, unlessWrong}
 use Rattle.blocks.proofs.judging.Block.{the-row}
 use Rattle.blocks.proofs.Steps.{apart, width-small, start-small}
@@ -47,7 +48,8 @@ pub unless-by : {A : Type 0} (wide : Bool) (i : ℕ) (ws : List Word) (wrong : �
     → unlessWrong wide i ws wrong next ≡ byFirst wrong next (firstWrong wide i ws)
 unfolding unlessWrong
 unless-by wide i [] wrong next = refl
-unless-by {A} wide i (w ∷ ws) wrong next = both (isRight wide w) (unlessWrong wide (i + 1) ws wrong next) (firstWrong wide (i + 1) ws) (unless-by wide (i + 1) ws wrong next)
+unless-by {A} wide i (w ∷ ws) wrong next =
+    both (isRight wide w) (unlessWrong wide (i + 1) ws wrong next) (firstWrong wide (i + 1) ws) (unless-by wide (i + 1) ws wrong next)
   where
     both : (t : Bool) (a : A) (o : Option ℕ) → a ≡ byFirst wrong next o → cond t a (wrong i) ≡ byFirst wrong next (cond t o (some i))
     both true a o e = e
@@ -65,7 +67,8 @@ pub first-more : (wide : Bool) (i : ℕ) (ws : List Word) (d : Word) → i < len
 unfolding unlessWrong
 first-more wide i ws d h e = rw (drop-cons ws i d h, e, add-one i)
 
-pub first-wrong : (wide : Bool) (i : ℕ) (ws : List Word) (d : Word) → i < length ws → isRight wide (getD ws i d) ≡ false → firstWrong wide i (drop i ws) ≡ some i
+pub first-wrong : (wide : Bool) (i : ℕ) (ws : List Word) (d : Word) → i < length ws → isRight wide (getD ws i d) ≡ false
+    → firstWrong wide i (drop i ws) ≡ some i
 unfolding unlessWrong
 first-wrong wide i ws d h e = rw (drop-cons ws i d h, e)
 
@@ -169,7 +172,7 @@ module _ (star room opened : List ℕ) (h : length star ≤ length room) (e : op
       rw all (sym (drop-drop m (length star) opened) ∙ (ap (drop m) opened-rest ∙ drop-drop m (length star) room)) in
       eb ∙ (rw rest (sym (laid-fits (star ++ words) room fits)))
 
-pub star-length : (wide : Bool) → length (starBytes wide) ≡ startOf wide
+pub star-length : (wide : Bool) → length (starBytes wide) ≡ firstAt wide
 star-length true = refl
 star-length false = refl
 
@@ -183,17 +186,11 @@ pub put-none : (wide : Bool) (ws : List Word) → putBytes wide ws 0 ≡ starByt
 unfolding wordsBytes
 put-none wide ws = append-nil (starBytes wide)
 
--- one byte more
-pub set-on : (done room₀ room : List ℕ) (a v : ℕ) → a ≡ length done → a < length room₀ → room ≡ done ++ drop (length done) room₀
-    → set room a v ≡ (done ++ (v ∷ [])) ++ drop (length (done ++ (v ∷ []))) room₀
-set-on done room₀ room a v ea h e =
-    let rest : drop (length done) room₀ ≡ getD room₀ (length done) 0 ∷ drop (suc (length done)) room₀ = drop-cons room₀ (length done) 0 (omega arith) in
-    rw (ea, e, rest, set-at done (getD room₀ (length done) 0) (drop (suc (length done)) room₀) v (length done) refl, length-append done (v ∷ []), add-one (length done), append-snoc done v (drop (suc (length done)) room₀))
-
 -- a byte more, of what is laid in the room
 pub set-laid : (done room bytes : List ℕ) (a v : ℕ) → a ≡ length done → a < length room → bytes ≡ laid done room → set bytes a v ≡ laid (done ++ (v ∷ [])) room
 set-laid done room bytes a v ea h e =
-    set-on done room bytes a v ea h (e ∙ laid-fits done room (omega arith)) ∙ sym (laid-fits (done ++ (v ∷ [])) room (omega (arith, length-append done (v ∷ []))))
+    store-on done room bytes a v ea (omega arith) (e ∙ laid-fits done room (omega arith))
+    ∙ sym (laid-fits (done ++ (v ∷ [])) room (omega (arith, length-append done (v ∷ []))))
 
 pub wrote-as : (at : ℕ) (bytes done room : List ℕ) → at ≡ length done → bytes ≡ laid done room
     → _≡_ {A = Composed} (record { answer = Written at; bytes = bytes }) (record { answer = Written (length done); bytes = laid done room })

@@ -113,7 +113,10 @@ mix-length (w ∷ ws) [] (suc i) l m = absurd (not-suc-le-zero m)
 mix-length (w ∷ ws) (y ∷ ys) (suc i) l m = ap suc (mix-length ws ys i (le-of-suc-le-suc l) (le-of-suc-le-suc m))
 
 -- an array of words that is a struct's field has the tuples of its words for its denotation: from there to the words, and back
-each-up : (ws : List Word) (us : List Val) → shadow (each (T.the-field .row .Denot) (T.the-field .row .own) (map (T.the-type .to) ws) us) → shadow (each Word (R .own) ws us)
+abbrev FieldOf : List Word → List Val → Type 0
+FieldOf ws us = shadow (each (T.the-field .row .Denot) (T.the-field .row .own) (map (T.the-type .to) ws) us)
+
+each-up : (ws : List Word) (us : List Val) → FieldOf ws us → shadow (each Word (R .own) ws us)
 each-up [] [] s = tt
 each-up [] (u ∷ us) s = absurd s
 each-up (w ∷ ws) [] s = absurd s
@@ -122,7 +125,7 @@ each-up (w ∷ ws) (u ∷ us) s = (s .0, each-up ws us (s .1))
 pub array-up : (n : ℕ) (ws : List Word) (vs : List Val) → Is (Array (T.the-field .row) n) (map (T.the-type .to) ws) vs → Is (Array R n) ws vs
 array-up n ws vs p = (p .0, ((p .1 .0 .0, sym (length-map ws (T.the-type .to)) ∙ p .1 .0 .1), each-up ws (p .0) (p .1 .1)))
 
-each-down : (ws : List Word) (us : List Val) → shadow (each Word (R .own) ws us) → shadow (each (T.the-field .row .Denot) (T.the-field .row .own) (map (T.the-type .to) ws) us)
+each-down : (ws : List Word) (us : List Val) → shadow (each Word (R .own) ws us) → FieldOf ws us
 each-down [] [] s = tt
 each-down [] (u ∷ us) s = absurd s
 each-down (w ∷ ws) [] s = absurd s
@@ -154,7 +157,8 @@ module _ {M : Type 1} (𝓤 : URA M) (H : Heap 𝓤) (A : Atoms 𝓤) (W : Given
   pub local-apart : (u : Val) → Is (Array R n) ws (u ∷ []) → ent 𝓤 (sem 𝓤 H A (fat fullShare (tyArray T′.mir n) l 0 u)) (sem 𝓤 H A (row R fullShare ws l 0))
   unfolding partOf
   local-apart u g =
-      qed W (‵ (fat fullShare (tyArray T′.mir n) l 0 u) ∷ []) ∵ use1 W (‵ (cellAt fullShare (tyArray T′.mir n ∷ []) (u ∷ []) l 0)) (W .laws .at-raw fullShare (tyArray T′.mir n) l 0 u) $
+      qed W (‵ (fat fullShare (tyArray T′.mir n) l 0 u) ∷ []) ∵
+      use1 W (‵ (cellAt fullShare (tyArray T′.mir n ∷ []) (u ∷ []) l 0)) (W .laws .at-raw fullShare (tyArray T′.mir n) l 0 u) $
       owned ! (Array R n) (Is (Array R n)) (array-makes 𝓤 H A W R (makes 𝓤 H A) n) ws (u ∷ []) g $ move ! (1 ∷ 0 ∷ []) $ fjoin ! $
       fpack ! (List Val) (λ us. fsep (cellAt fullShare (Array R n .mir) us l 0) (Array R n .own ws us)) (u ∷ []) $
       use1 W (‵ (arr-parts (shares R) n .part fullShare ws l 0)) (array-apart 𝓤 H A W R fullShare tt n ws l 0) $ fsplit ! $ drops ! $ done !
@@ -163,9 +167,12 @@ module _ {M : Type 1} (𝓤 : URA M) (H : Heap 𝓤) (A : Atoms 𝓤) (W : Given
   abbrev pub arr : Val
   arr = only (array-vals vals ws)
 
-  pub local-whole : length ws ≡ n → ent 𝓤 (sem 𝓤 H A (row R fullShare ws l 0)) (sep 𝓤 (sem 𝓤 H A (fat fullShare (tyArray T′.mir n) l 0 arr)) (sem 𝓤 H A (Array R n .own ws (arr ∷ []))))
+  pub local-whole : length ws ≡ n
+      → ent 𝓤 (sem 𝓤 H A (row R fullShare ws l 0)) (sep 𝓤 (sem 𝓤 H A (fat fullShare (tyArray T′.mir n) l 0 arr)) (sem 𝓤 H A (Array R n .own ws (arr ∷ []))))
   unfolding partOf
   local-whole e =
-      qed W (‵ (row R fullShare ws l 0) ∷ []) ∵ feqI ! ℕ (length ws) n e $ fjoin ! $ use1 W (‵ (partAt (Array R n) fullShare ws l 0)) (array-whole 𝓤 H A W R fullShare n ws l 0) $
-      fpick ! (λ vs. fsplit ! $ spelt ! (Array R n) (Is (Array R n)) (shows 𝓤 H A (Array R n)) (array-vals vals) (array-tells R vals tells n) fullShare ws vs l 0 $
+      qed W (‵ (row R fullShare ws l 0) ∷ []) ∵ feqI ! ℕ (length ws) n e $ fjoin ! $
+      use1 W (‵ (partAt (Array R n) fullShare ws l 0)) (array-whole 𝓤 H A W R fullShare n ws l 0) $
+      fpick ! (λ vs. fsplit ! $
+      spelt ! (Array R n) (Is (Array R n)) (shows 𝓤 H A (Array R n)) (array-vals vals) (array-tells R vals tells n) fullShare ws vs l 0 $
       use1 W (‵ (fat fullShare (tyArray T′.mir n) l 0 arr)) (W .laws .raw-at fullShare (tyArray T′.mir n) l 0 arr) $ done !)

@@ -22,8 +22,9 @@ use Rattle.blocks.specs.declared.answers.Answer.the-variants.{Read}
 use Rattle.blocks.specs.declared.judging.Next.{Next}
 use Rattle.blocks.specs.declared.judging.Next.the-variants.{Ends, Stops, Goes}
 use Rattle.blocks.specs.declared.judging.Stepped.{Stepped}
-use Rattle.blocks.specs.declared.judging.Judgement as kept
-use Rattle.blocks.specs.Judging.{Judgement, isAt, isWide, startOf, endedAt, refusedBy, afterWord, blockFrom, stopsBy, stepOf, nextOf, judged, noBlock, blockOf, keptOf}
+use Rattle.blocks.specs.declared.judging.JudgedBlock.{JudgedBlock}
+use Rattle.blocks.specs.Judging.{Judgement, isAt, isWide, firstAt, endedAt, refusedBy, afterWord, blockFrom, judged}
+use Rattle.blocks.specs.Keeping.{stopsBy, stepOf, nextOf, noBlock, blockOf, keptOf}
 
 -- no two constructors are equal, so nothing is left to show
 pub apart : {A : Type 0} → _≡_ {A = ℕ} 0 1 → A
@@ -74,12 +75,12 @@ module _ (wide : Bool) (places n at : ℕ) (rest : List ℕ) where
 
 -- what the block is after a step
 
-abbrev wentBy : Judgement → (Word → Judgement) → Next → Word → Judgement
+abbrev pub wentBy : Judgement → (Word → Judgement) → Next → Word → Judgement
 wentBy ended more Ends w = ended
 wentBy ended more (Stops r) w = refusedBy r
 wentBy ended more Goes w = more w
 
-abbrev went : Judgement → (Word → Judgement) → Stepped → Judgement
+abbrev pub went : Judgement → (Word → Judgement) → Stepped → Judgement
 went ended more s = wentBy ended more (s .next) (s .word)
 
 went-last : (t : Bool) (ended : Judgement) (more : Word → Judgement) (r : Refusal)
@@ -97,13 +98,14 @@ went-more false false false ended more r s at o one.Judged.Right = refl
 went-more false false false ended more r s at o (one.Judged.Wrong fault) = refl
 
 module _ (wide : Bool) (places n at : ℕ) (rest : List ℕ) (ws : List Word) (h : n ≤ 32) (hn : length ws ≡ n) where
-  abbrev done : Judgement
+  abbrev pub done : Judgement
   done = record { answer = endedAt wide at rest n; words = ws }
 
-  abbrev further : Word → Judgement
+  abbrev pub further : Word → Judgement
   further w = blockFrom (32 - (n + 1)) wide places (at + wordSize wide) (drop (wordSize wide) rest) (ws ++ (w ∷ []))
 
-  block-walk : blockFrom (32 - n) wide places at rest ws ≡ went done further (nextOf wide places n at rest)
+  -- the walk's order is the step's
+  pub block-walk : blockFrom (32 - n) wide places at rest ws ≡ went done further (nextOf wide places n at rest)
   unfolding blockFrom
   block-walk = go (32 - n) refl
     where
@@ -112,7 +114,8 @@ module _ (wide : Bool) (places n at : ℕ) (rest : List ℕ) (ws : List Word) (h
       go (suc m) e =
           let left : 32 - (n + 1) ≡ m = omega arith in
           rw (hn, lt-leb 32 n (omega arith), ← left)
-          (went-more (isAt 13 rest) (ltb (length rest) (wordSize wide)) (leb places n) done further (Wrong Short at) (NoPlace at) at (wordOf wide rest) (wordOf wide rest .answer))
+          (went-more (isAt 13 rest) (ltb (length rest) (wordSize wide)) (leb places n) done further (Wrong Short at) (NoPlace at) at
+          (wordOf wide rest) (wordOf wide rest .answer))
 
   module _ (r : Stepped) (found : r ≡ nextOf wide places n at rest) where
     walked : blockFrom (32 - n) wide places at rest ws ≡ went done further r
@@ -139,7 +142,8 @@ walk-on m n at size wide places s words w h e = rw (e, drop-drop (wordSize wide)
 
 abbrev steppedBy : Bool → Bool → Bool → Bool → ℕ → OneWord → one.Judged → Stepped
 steppedBy t u v x at o a =
-    cond t (record { next = Ends; word = blank }) (cond u (stopsBy (NoEnd at)) (cond v (stopsBy (Wrong Short at)) (cond x (stopsBy (NoPlace at)) (stepOf at o a))))
+    cond t (record { next = Ends; word = blank })
+    (cond u (stopsBy (NoEnd at)) (cond v (stopsBy (Wrong Short at)) (cond x (stopsBy (NoPlace at)) (stepOf at o a))))
 
 ended-told : (t u v x : Bool) (at : ℕ) (o : OneWord) (a : one.Judged) → steppedBy t u v x at o a .next ≡ Ends → t ≡ true
 ended-told true u v x at o a e = refl
@@ -160,13 +164,15 @@ module _ (wide : Bool) (places n at : ℕ) (s : List ℕ) (r : Stepped) (found :
   ends-inside e =
       let rest = drop at s in
       let next : nextOf wide places n at rest .next ≡ Ends = rw found at e in
-      is-inside 13 s at (ended-told (isAt 13 rest) (leb 32 n) (ltb (length rest) (wordSize wide)) (leb places n) at (wordOf wide rest) (wordOf wide rest .answer) next)
+      let w = wordOf wide rest in
+      is-inside 13 s at (ended-told (isAt 13 rest) (leb 32 n) (ltb (length rest) (wordSize wide)) (leb places n) at w (w .answer) next)
 
   pub goes-inside : at ≤ length s → r .next ≡ Goes → (n < 32) × (at + wordSize wide ≤ length s)
   goes-inside h e =
       let rest = drop at s in
       let next : nextOf wide places n at rest .next ≡ Goes = rw found at e in
-      let told = gone-told (isAt 13 rest) (leb 32 n) (ltb (length rest) (wordSize wide)) (leb places n) at (wordOf wide rest) (wordOf wide rest .answer) next in
+      let w = wordOf wide rest in
+      let told = gone-told (isAt 13 rest) (leb 32 n) (ltb (length rest) (wordSize wide)) (leb places n) at w (w .answer) next in
       (leb-false 32 n (told .0), omega (arith, ltb-false (length rest) (wordSize wide) (told .1), length-drop at s))
 
 -- the records kept: those of a list up to n, and then those that were there first
@@ -179,7 +185,7 @@ module _ {A : Type 0} (words first : List A) (n : ℕ) where
   kept-more w e = drop-set-lt (n + 1) words n w (omega arith) ∙ (sym (drop-drop 1 n words) ∙ (ap (drop 1) e ∙ drop-drop 1 n first))
 
 -- a judgement that keeps them is the block's
-pub kept-judged : (j : kept.Judgement) (words : List Word) (n : ℕ) → n ≤ length words → drop n words ≡ drop n (noBlock .words)
+pub kept-judged : (j : JudgedBlock) (words : List Word) (n : ℕ) → n ≤ length words → drop n words ≡ drop n (noBlock .words)
     → j .block ≡ record { words = words; n = n } → j ≡ keptOf (record { answer = j .answer; words = take n words })
 kept-judged j words n h e eb =
     let all = kept-all words (noBlock .words) n h e in
@@ -189,7 +195,7 @@ kept-judged j words n h e eb =
 
 -- the block's start
 
-pub start-small : (wide : Bool) → startOf wide ≤ 1
+pub start-small : (wide : Bool) → firstAt wide ≤ 1
 start-small true = omega arith
 start-small false = omega arith
 
@@ -197,7 +203,7 @@ module _ (s : List ℕ) (places : ℕ) where
   pub judged-empty : length s ≡ 0 → judged s places ≡ refusedBy Empty
   judged-empty e = rw (eq-eqb (length s) 0 e)
 
-  module _ (start : ℕ) (some : length s ≡ 0 → ⊥) (e : start ≡ startOf (isWide s)) where
+  module _ (start : ℕ) (some : length s ≡ 0 → ⊥) (e : start ≡ firstAt (isWide s)) where
     pub judged-no-word : isAt 13 (drop start s) ≡ true → judged s places ≡ refusedBy NoWord
     judged-no-word h = rw (ne-eqb (length s) 0 some, ← e, h)
 

@@ -17,12 +17,14 @@ use Rattle.words.specs.Writing.{bytesOf}
 use Rattle.words.specs.declared.records.Word.{Word}
 use Rattle.words.specs.declared.reading.OneWord.{OneWord}
 use Rattle.words.proofs.RoundTrip.{write-read, bytes-length, first-written}
-use Rattle.blocks.specs.Judging.{isAt, isWide, startOf, blockFrom, judged}
-use Rattle.blocks.specs.Composing.{starBytes, endBytes, wordsBytes, blockBytes, unlessWrong, Written·room, refusedRoom, fitted, written}
+use Rattle.blocks.specs.Judging.{isAt, isWide, firstAt, blockFrom, judged}
+use Rattle.blocks.specs.Composing.{starBytes, wordsBytes, blockBytes, unlessWrong, Written·room, refusedRoom, blockInRoom, written}
+use Rattle.figures.specs.Text.{endBytes}
 use Rattle.blocks.specs.declared.answers.Refusal.{Refusal}
 use Rattle.blocks.specs.declared.answers.Refusal.the-variants.{Count, Record, Room}
 use Rattle.blocks.specs.declared.answers.Wrote.the-variants.{Refused, Written}
 use Rattle.blocks.specs.Rules.{rightAll, Lawful, readAs, readingOf}
+use Rattle.blocks.proofs.Rooms.{star-length}
 
 at-first : (b : ℕ) (rest : List ℕ) → isAt b (b ∷ rest) ≡ true
 at-first b rest = rw (lt-ltb 0 (suc (length rest)) (omega arith)) (eq-eqb b b refl)
@@ -40,12 +42,14 @@ no-end : (s : List ℕ) → isDigit (getD s 0 0) ≡ true → isAt 13 s ≡ fals
 no-end s e = rw (lt-ltb 0 (length s) (digit-some s e), digit-not s 13 e (omega arith))
 
 -- a step of the walk through a block, at a word
-goes : (more : ℕ) (wide : Bool) (places at : ℕ) (s rest : List ℕ) (done : List Word) (w : Word) → isAt 13 s ≡ false → wordSize wide ≤ length s → length done < places
-    → wordOf wide s ≡ rightWord w → drop (wordSize wide) s ≡ rest
+goes : (more : ℕ) (wide : Bool) (places at : ℕ) (s rest : List ℕ) (done : List Word) (w : Word) → isAt 13 s ≡ false
+    → wordSize wide ≤ length s → length done < places → wordOf wide s ≡ rightWord w → drop (wordSize wide) s ≡ rest
     → blockFrom (suc more) wide places at s done ≡ blockFrom more wide places (at + wordSize wide) rest (done ++ (w ∷ []))
 unfolding blockFrom
 goes more wide places at s rest done w first long free e d =
-    rw (first, le-ltb (length s) (wordSize wide) long, lt-leb places (length done) free, ap (λ (o : OneWord). o .answer) e, ap (λ (o : OneWord). o .word) e, d)
+    let answer = ap (λ (o : OneWord). o .answer) e in
+    let word = ap (λ (o : OneWord). o .word) e in
+    rw (first, le-ltb (length s) (wordSize wide) long, lt-leb places (length done) free, answer, word, d)
 
 -- and at the end
 ends : (more : ℕ) (wide crlf : Bool) (places at : ℕ) (rest : List ℕ) (done : List Word) → (crlf ≡ false → isAt 10 rest ≡ false)
@@ -69,13 +73,17 @@ from-written (suc more) wide crlf places at rest done (w ∷ ws) most placed rig
     let k = wordSize wide in
     let parts = and-eq-true-iff (isRight wide w) (rightAll wide ws) .0 right in
     let size = bytes-length wide w (parts .0) in
-    let tail = wordsBytes wide ws ++ (endBytes crlf ++ rest) in
-    let is : (bytesOf wide w ++ wordsBytes wide ws) ++ (endBytes crlf ++ rest) ≡ bytesOf wide w ++ tail = append-assoc (bytesOf wide w) (wordsBytes wide ws) (endBytes crlf ++ rest) in
-    let whole : at + k + length (wordsBytes wide ws ++ endBytes crlf) ≡ at + length ((bytesOf wide w ++ wordsBytes wide ws) ++ endBytes crlf) =
-    omega (arith, length-append (bytesOf wide w ++ wordsBytes wide ws) (endBytes crlf), length-append (bytesOf wide w) (wordsBytes wide ws), length-append (wordsBytes wide ws) (endBytes crlf)) in
+    let word = bytesOf wide w in
+    let words = wordsBytes wide ws in
+    let end = endBytes crlf in
+    let tail = words ++ (end ++ rest) in
+    let is : (word ++ words) ++ (end ++ rest) ≡ word ++ tail = append-assoc word words (end ++ rest) in
+    let whole : at + k + length (words ++ end) ≡ at + length ((word ++ words) ++ end) =
+    omega (arith, length-append (word ++ words) end, length-append word words, length-append words end) in
     let list : (done ++ (w ∷ [])) ++ ws ≡ done ++ (w ∷ ws) = append-assoc done (w ∷ []) ws in
     ap (λ s. blockFrom (suc more) wide places at s done) is
-    ∙ goes more wide places at (bytesOf wide w ++ tail) tail done w (no-end (bytesOf wide w ++ tail) (first-written wide w tail (parts .0))) (omega (arith, length-append (bytesOf wide w) tail)) (omega arith) (write-read wide w tail (parts .0)) (drop-at (bytesOf wide w) tail k size)
+    ∙ goes more wide places at (word ++ tail) tail done w (no-end (word ++ tail) (first-written wide w tail (parts .0)))
+    (omega (arith, length-append word tail)) (omega arith) (write-read wide w tail (parts .0)) (drop-at word tail k size)
     ∙ from-written more wide crlf places (at + k) rest (done ++ (w ∷ [])) ws (omega arith) (omega (arith, length-append done (w ∷ []))) (parts .1) h
     ∙ rw (whole, list)
 
@@ -90,16 +98,13 @@ star-wide : (wide : Bool) (t : List ℕ) → isDigit (getD t 0 0) ≡ true → i
 star-wide true t e = refl
 star-wide false t e = digit-not t 42 e (omega arith)
 
-star-length : (wide : Bool) → length (starBytes wide) ≡ startOf wide
-star-length true = refl
-star-length false = refl
-
 -- past `*`, where the words begin
-opens : (wide : Bool) (t : List ℕ) (places : ℕ) → isDigit (getD t 0 0) ≡ true → judged (starBytes wide ++ t) places ≡ blockFrom 32 wide places (startOf wide) t []
+opens : (wide : Bool) (t : List ℕ) (places : ℕ) → isDigit (getD t 0 0) ≡ true
+    → judged (starBytes wide ++ t) places ≡ blockFrom 32 wide places (firstAt wide) t []
 opens wide t places e =
     let s = starBytes wide ++ t in
     let some : eqb (length s) 0 ≡ false = ne-eqb (length s) 0 (λ q. omega (arith, length-append (starBytes wide) t, digit-some t e)) in
-    let from : drop (startOf wide) s ≡ t = drop-at (starBytes wide) t (startOf wide) (star-length wide) in
+    let from : drop (firstAt wide) s ≡ t = drop-at (starBytes wide) t (firstAt wide) (star-length wide) in
     rw (some, star-wide wide t e, from, no-end t e)
 
 -- a block reads back to its records, whatever comes after it; but an LF after a lone CR would be the block's own
@@ -108,28 +113,31 @@ pub block-read : (wide crlf : Bool) (ws : List Word) (rest : List ℕ) (places :
 block-read wide crlf ws rest places l placed h =
     let t = wordsBytes wide ws ++ (endBytes crlf ++ rest) in
     let is : blockBytes wide crlf ws ++ rest ≡ starBytes wide ++ t = simp append-assoc in
-    let used : startOf wide + length (wordsBytes wide ws ++ endBytes crlf) ≡ length (blockBytes wide crlf ws) =
+    let used : firstAt wide + length (wordsBytes wide ws ++ endBytes crlf) ≡ length (blockBytes wide crlf ws) =
     omega (arith, star-length wide, length-append (starBytes wide) (wordsBytes wide ws ++ endBytes crlf)) in
     ap (λ s. judged s places) is
     ∙ opens wide t places (words-digit wide ws (endBytes crlf ++ rest) l)
-    ∙ from-written 32 wide crlf places (startOf wide) rest [] ws (l .most) (omega arith) (l .right) h
+    ∙ from-written 32 wide crlf places (firstAt wide) rest [] ws (l .most) (omega arith) (l .right) h
     ∙ rw used
 
 -- what the writer takes
 
-not-written : (f : Refusal) (n : ℕ) (room room′ : List ℕ) → refusedRoom room f ≡ record { answer = Written n; room = room′ } → ⊥
+abbrev writtenAs : ℕ → List ℕ → Written·room
+writtenAs n room = record { answer = Written n; room = room }
+
+not-written : (f : Refusal) (n : ℕ) (room room′ : List ℕ) → refusedRoom room f ≡ writtenAs n room′ → ⊥
 not-written f n room room′ e =
     let q : Refused f ≡ Written n = ap (λ (v : Written·room). v .answer) e in
     let z : _≡_ {A = ℕ} 0 1 = cc in
     omega arith
 
-take-written : (b : Bool) (f : Refusal) (n : ℕ) (v : Written·room) (room room′ : List ℕ) → cond b (refusedRoom room f) v ≡ record { answer = Written n; room = room′ }
-    → (b ≡ false) × (v ≡ record { answer = Written n; room = room′ })
+take-written : (b : Bool) (f : Refusal) (n : ℕ) (v : Written·room) (room room′ : List ℕ)
+    → cond b (refusedRoom room f) v ≡ writtenAs n room′ → (b ≡ false) × (v ≡ writtenAs n room′)
 take-written true f n v room room′ e = absurd (not-written f n room room′ e)
 take-written false f n v room room′ e = (refl, e)
 
-right-written : {A : Type 0} (wide : Bool) (i : ℕ) (ws : List Word) (wrong : ℕ → A) (next v : A) → ((j : ℕ) → wrong j ≡ v → ⊥) → unlessWrong wide i ws wrong next ≡ v
-    → (rightAll wide ws ≡ true) × (next ≡ v)
+right-written : {A : Type 0} (wide : Bool) (i : ℕ) (ws : List Word) (wrong : ℕ → A) (next v : A) → ((j : ℕ) → wrong j ≡ v → ⊥)
+    → unlessWrong wide i ws wrong next ≡ v → (rightAll wide ws ≡ true) × (next ≡ v)
 unfolding unlessWrong rightAll
 right-written wide i [] wrong next v h e = (refl, e)
 right-written wide i (w ∷ ws) wrong next v h e = go (isRight wide w) refl (right-written wide (i + 1) ws wrong next v h) e
@@ -139,7 +147,8 @@ right-written wide i (w ∷ ws) wrong next v h e = go (isRight wide w) refl (rig
     go true q ih d = (rw q (ih d .0), ih d .1)
     go false q ih d = absurd (h i d)
 
-unless-right : {A : Type 0} (wide : Bool) (i : ℕ) (ws : List Word) (wrong : ℕ → A) (next : A) → rightAll wide ws ≡ true → unlessWrong wide i ws wrong next ≡ next
+unless-right : {A : Type 0} (wide : Bool) (i : ℕ) (ws : List Word) (wrong : ℕ → A) (next : A) → rightAll wide ws ≡ true
+    → unlessWrong wide i ws wrong next ≡ next
 unfolding unlessWrong rightAll
 unless-right wide i [] wrong next e = refl
 unless-right wide i (w ∷ ws) wrong next e =
@@ -157,13 +166,14 @@ neither : (a b : Bool) → a || b ≡ false → (a ≡ false) × (b ≡ false)
 neither true b e = absurd (false≢true (sym e))
 neither false b e = (refl, e)
 
-pub written-lawful : (ws : List Word) (wide crlf : Bool) (room : List ℕ) (n : ℕ) (room′ : List ℕ) → written ws wide crlf room ≡ record { answer = Written n; room = room′ }
+pub written-lawful : (ws : List Word) (wide crlf : Bool) (room : List ℕ) (n : ℕ) (room′ : List ℕ) → written ws wide crlf room ≡ writtenAs n room′
     → Taken ws wide crlf room n room′
 written-lawful ws wide crlf room n room′ e =
     let bytes = blockBytes wide crlf ws in
-    let v : Written·room = record { answer = Written n; room = room′ } in
+    let v : Written·room = writtenAs n room′ in
     let count = take-written (eqb (length ws) 0 || ltb 32 (length ws)) Count n _ room room′ e in
-    let right = right-written wide 0 ws (λ i. refusedRoom room (Record i)) (fitted bytes room) v (λ i. not-written (Record i) n room room′) (count .1) in
+    let right =
+    right-written wide 0 ws (λ i. refusedRoom room (Record i)) (blockInRoom bytes room) v (λ i. not-written (Record i) n room room′) (count .1) in
     let fits = take-written (ltb (length room) (length bytes)) (Room (length bytes)) n _ room room′ (right .1) in
     let (some, most) = neither (eqb (length ws) 0) (ltb 32 (length ws)) (count .0) in
     let size : Written (length bytes) ≡ Written n = ap (λ (x : Written·room). x .answer) (fits .1) in
@@ -176,14 +186,15 @@ written-lawful ws wide crlf room n room′ e =
 
 -- a list that a block can hold is written where there is room for it
 pub lawful-written : (ws : List Word) (wide crlf : Bool) (room : List ℕ) → Lawful wide ws → length (blockBytes wide crlf ws) ≤ length room
-    → written ws wide crlf room ≡ record { answer = Written (length (blockBytes wide crlf ws)); room = laid (blockBytes wide crlf ws) room }
+    → written ws wide crlf room ≡ writtenAs (length (blockBytes wide crlf ws)) (laid (blockBytes wide crlf ws) room)
 lawful-written ws wide crlf room l fits =
     rw (ne-eqb (length ws) 0 (λ e. omega arith), le-ltb 32 (length ws) (l .most))
-    (unless-right wide 0 ws (λ i. refusedRoom room (Record i)) (fitted (blockBytes wide crlf ws) room) (l .right)
+    (unless-right wide 0 ws (λ i. refusedRoom room (Record i)) (blockInRoom (blockBytes wide crlf ws) room) (l .right)
     ∙ rw (le-ltb (length room) (length (blockBytes wide crlf ws)) fits))
 
-pub written-read : (ws : List Word) (wide crlf : Bool) (room : List ℕ) (n : ℕ) (room′ : List ℕ) (places : ℕ) → written ws wide crlf room ≡ record { answer = Written n; room = room′ }
-    → length ws ≤ places → judged (take n room′) places ≡ readAs (record { wide = wide; crlf = crlf; words = length ws; used = n }) ws
+pub written-read : (ws : List Word) (wide crlf : Bool) (room : List ℕ) (n : ℕ) (room′ : List ℕ) (places : ℕ)
+    → written ws wide crlf room ≡ writtenAs n room′ → length ws ≤ places
+    → judged (take n room′) places ≡ readAs (record { wide = wide; crlf = crlf; words = length ws; used = n }) ws
 written-read ws wide crlf room n room′ places e placed =
     let bytes = blockBytes wide crlf ws in
     let t = written-lawful ws wide crlf room n room′ e in

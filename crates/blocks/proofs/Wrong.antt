@@ -1,24 +1,26 @@
--- Readers that the promise of `read` shuts out, as theorems: one that refuses everything, one that gives one answer for all, one that touches
--- nothing, and one that makes up a word count or the bytes used. Assumes nothing.
+-- Readers that the promise of `read` shuts out, as theorems: that refuse everything, give one answer or store one block for all, touch nothing,
+-- or make up a word count or the bytes used; and writers that `write`'s shuts out: that refuse everything or write one block. Assumes nothing.
 use mathlib.Core.Path.{_≡_, refl, sym, _∙_, ap}
-use mathlib.Core.Bool.{false}
+use mathlib.Core.Bool.{Bool, false}
 use mathlib.Core.List.{List, [], _∷_}
 use Prim.Native.Nat.{ℕ}
 use native.Mathlib.Omega.{arith}
-use lib.ListN.{length, getD}
+use lib.ListN.{length, getD, take, replicate}
 use lib.Seq.{length-take-le}
-use Rattle.figures.specs.Bytes.{among, every}
+use Rattle.figures.specs.Bytes.{among, every, laid}
 use Rattle.figures.specs.Decimal.{numberFrom}
 use Rattle.words.specs.Records.{blank}
 use Rattle.words.specs.declared.records.Word.{Word}
 use Rattle.blocks.specs.Judging.{judged, filled, blockFrom}
-use Rattle.blocks.specs.Composing.{blockBytes}
+use Rattle.blocks.specs.Composing.{blockBytes, Written·room, written, Writes}
 use Rattle.blocks.specs.Lists.{Reads}
 use Rattle.blocks.specs.declared.answers.Refusal.{Refusal}
 use Rattle.blocks.specs.declared.answers.Reading.{Reading}
 use Rattle.blocks.specs.declared.answers.Answer.{Answer}
 use Rattle.blocks.specs.declared.answers.Answer.the-variants.{Refused, Read}
-use Rattle.blocks.proofs.Accepted.{Accepted, accepted}
+use Rattle.blocks.specs.declared.answers.Wrote.{Wrote}
+use Rattle.blocks.specs.declared.answers.Wrote.the-variants as wrote
+use Rattle.blocks.proofs.Accepted.{accepted, accepted-written}
 
 -- what a reader does with an input and a lent list: its answer, and the list as it is then
 abbrev pub Reader : Type 0
@@ -35,7 +37,10 @@ right = 56 ∷ 50 ∷ 46 ∷ 46 ∷ 48 ∷ 48 ∷ 45 ∷ 48 ∷ 48 ∷ 50 ∷ 49
 abbrev place : List Word
 place = blank ∷ []
 
-one-word : judged right 1 .answer ≡ Read (record { wide = false; crlf = false; words = 1; used = 17 })
+abbrev reading : Reading
+reading = record { wide = false; crlf = false; words = 1; used = 17 }
+
+one-word : judged right 1 .answer ≡ Read reading
 unfolding among every numberFrom blockFrom
 one-word = refl
 
@@ -43,7 +48,7 @@ one-word = refl
 pub refuses-all : (f : Reader) → ((s : List ℕ) (list : List Word) → (r : Refusal) × (f s list .0 ≡ Refused r)) → Keeps f → ⊥
 refuses-all f all keeps =
     let e : f right place .0 ≡ Refused (all right place .0) = all right place .1 in
-    let g : f right place .0 ≡ Read (record { wide = false; crlf = false; words = 1; used = 17 }) = keeps right place .0 ∙ one-word in
+    let g : f right place .0 ≡ Read reading = keeps right place .0 ∙ one-word in
     let z : _≡_ {A = ℕ} 0 1 = cc in
     omega arith
 
@@ -52,7 +57,7 @@ pub one-for-all : (f : Reader) (a : Answer) → ((s : List ℕ) (list : List Wor
 one-for-all f a all keeps =
     let none : judged [] 1 .answer ≡ Refused Refusal.Empty = refl in
     let e : a ≡ Refused Refusal.Empty = sym (all [] place) ∙ (keeps [] place .0 ∙ none) in
-    let g : a ≡ Read (record { wide = false; crlf = false; words = 1; used = 17 }) = sym (all right place) ∙ (keeps right place .0 ∙ one-word) in
+    let g : a ≡ Read reading = sym (all right place) ∙ (keeps right place .0 ∙ one-word) in
     let z : _≡_ {A = ℕ} 0 1 = cc in
     omega arith
 
@@ -67,11 +72,34 @@ touches-nothing f all keeps =
     let z : _≡_ {A = ℕ} 0 213159 = ap (λ (l : List Word). getD l 0 blank .size) same ∙ stored in
     omega arith
 
+-- `82..00+00001550 ` and CR: the same reading, and another record
+abbrev another : List ℕ
+another = 56 ∷ 50 ∷ 46 ∷ 46 ∷ 48 ∷ 48 ∷ 43 ∷ 48 ∷ 48 ∷ 48 ∷ 48 ∷ 49 ∷ 53 ∷ 53 ∷ 48 ∷ 32 ∷ 13 ∷ []
+
+another-word : judged another 1 .answer ≡ Read reading
+unfolding among every numberFrom blockFrom
+another-word = refl
+
+another-stored : getD (filled (judged another 1 .words) place) 0 blank .size ≡ 1550
+unfolding among every numberFrom blockFrom
+another-stored = refl
+
+-- one that may give right answers, and stores one block's records for each block that it reads
+pub one-block-stored : (f : Reader) (ws : List Word)
+    → ((s : List ℕ) (list : List Word) (r : Reading) → f s list .0 ≡ Read r → f s list .1 ≡ filled ws list) → Keeps f → ⊥
+one-block-stored f ws all keeps =
+    let holds : (s : List ℕ) → judged s 1 .answer ≡ Read reading → filled ws place ≡ filled (judged s 1 .words) place =
+    λ s e. sym (all s place reading (keeps s place .0 ∙ e)) ∙ keeps s place .1 in
+    let same = sym (holds right one-word) ∙ holds another another-word in
+    let z : _≡_ {A = ℕ} 213159 1550 = sym stored ∙ (ap (λ (l : List Word). getD l 0 blank .size) same ∙ another-stored) in
+    omega arith
+
 -- the word count and the bytes used are the block's own
 pub counts-words : (f : Reader) → Keeps f → (s : List ℕ) (list : List Word) (r : Reading) → f s list .0 ≡ Read r
     → (r .words ≡ length (judged s (length list) .words)) × (r .used ≡ length (blockBytes (r .wide) (r .crlf) (judged s (length list) .words)))
 counts-words f keeps s list r e =
-    let a : Accepted s (length list) r (judged s (length list) .words) = accepted s (length list) r (judged s (length list) .words) (λ i. record { answer = (sym (keeps s list .0) ∙ e) i; words = judged s (length list) .words }) in
+    let ws = judged s (length list) .words in
+    let a = accepted s (length list) r ws (λ i. record { answer = (sym (keeps s list .0) ∙ e) i; words = ws }) in
     (a .counted, sym (ap length (a .bytes) ∙ length-take-le (r .used) s (a .within)))
 
 -- one that makes up a word count, or the bytes used
@@ -82,3 +110,47 @@ invents-words f s list r e other keeps = other (counts-words f keeps s list r e 
 pub invents-bytes : (f : Reader) (s : List ℕ) (list : List Word) (r : Reading) → f s list .0 ≡ Read r
     → (r .used ≡ length (blockBytes (r .wide) (r .crlf) (judged s (length list) .words)) → ⊥) → Keeps f → ⊥
 invents-bytes f s list r e other keeps = other (counts-words f keeps s list r e .1)
+
+-- what a writer does with a list, a width, a terminator and a room: its answer, and the room as it is then
+abbrev pub Writer : Type 0
+Writer = List Word → Bool → Bool → List ℕ → Wrote × List ℕ
+
+-- it keeps the promise of `write`
+abbrev pub KeepsWriting : Writer → Type 0
+KeepsWriting f = (ws : List Word) (wide crlf : Bool) (room : List ℕ) → Writes ws wide crlf room (f ws wide crlf room .0) (f ws wide crlf room .1)
+
+-- a block of one word needs 17 bytes
+abbrev empty : List ℕ
+empty = replicate 17 0
+
+-- the records that were read are written, and they are the bytes that were read
+written-back : (s : List ℕ) → judged s 1 .answer ≡ Read reading
+    → written (judged s 1 .words) false false empty ≡ record { answer = wrote.Written 17; room = laid (take 17 s) empty }
+written-back s e =
+    let ws = judged s 1 .words in
+    accepted-written s 1 reading ws empty (λ i. record { answer = e i; words = ws }) (omega arith)
+
+-- one that refuses everything
+pub refuses-lists : (f : Writer) → ((ws : List Word) (wide crlf : Bool) (room : List ℕ) → (r : Refusal) × (f ws wide crlf room .0 ≡ wrote.Refused r))
+    → KeepsWriting f → ⊥
+refuses-lists f all keeps =
+    let ws = judged right 1 .words in
+    let e = all ws false false empty .1 in
+    let g : f ws false false empty .0 ≡ wrote.Written 17 =
+    keeps ws false false empty .0 ∙ ap (λ (v : Written·room). v .answer) (written-back right one-word) in
+    let z : _≡_ {A = ℕ} 0 1 = cc in
+    omega arith
+
+-- one that may give right answers, and lays down one block for each list that it writes
+pub one-block-written : (f : Writer) (bytes : List ℕ)
+    → ((ws : List Word) (wide crlf : Bool) (room : List ℕ) (n : ℕ) → f ws wide crlf room .0 ≡ wrote.Written n → f ws wide crlf room .1 ≡ laid bytes room)
+    → KeepsWriting f → ⊥
+one-block-written f bytes all keeps =
+    let holds : (s : List ℕ) → judged s 1 .answer ≡ Read reading → laid bytes empty ≡ laid (take 17 s) empty =
+    λ s e.
+    let ws = judged s 1 .words in
+    let (answer, room) = keeps ws false false empty in
+    let is = written-back s e in
+    sym (all ws false false empty 17 (answer ∙ ap (λ (v : Written·room). v .answer) is)) ∙ (room ∙ ap (λ (v : Written·room). v .room) is) in
+    let z : _≡_ {A = ℕ} 45 43 = ap (λ (l : List ℕ). getD l 6 0) (sym (holds right one-word) ∙ holds another another-word) in
+    omega arith

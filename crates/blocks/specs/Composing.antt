@@ -3,24 +3,20 @@ use Prim.Native.Nat.{ℕ, _+_}
 use mathlib.Core.Path.{_≡_}
 use mathlib.Core.Bool.{Bool, cond, _||_}
 use mathlib.Core.List.{List, [], _∷_, _++_}
-use lib.Dec.{eqb, leb, ltb}
-use lib.ListN.{length, take, replicate}
+use lib.Dec.{eqb, ltb}
+use lib.ListN.{length}
+use Rattle.figures.specs.Text.{codes, endBytes}
 use Rattle.figures.specs.Bytes.{laid}
-use Rattle.words.specs.Records.{isRight, blank}
+use Rattle.words.specs.Records.{isRight}
 use Rattle.words.specs.Writing.{bytesOf}
 use Rattle.words.specs.declared.records.Word.{Word}
 use Rattle.blocks.specs.declared.answers.Refusal.{Refusal}
 use Rattle.blocks.specs.declared.answers.Refusal.the-variants.{Count, Record, Room}
 use Rattle.blocks.specs.declared.answers.Wrote.{Wrote}
 use Rattle.blocks.specs.declared.answers.Wrote.the-variants.{Refused, Written}
-use Rattle.blocks.specs.declared.judging.Block.{Block}
-use Rattle.blocks.specs.declared.composing.Composed.{Composed}
 
 abbrev pub starBytes : Bool → List ℕ
-starBytes wide = cond wide (42 ∷ []) []
-
-abbrev pub endBytes : Bool → List ℕ
-endBytes crlf = cond crlf (13 ∷ 10 ∷ []) (13 ∷ [])
+starBytes wide = cond wide (codes "*") []
 
 -- the words one after the other
 unfoldable pub wordsBytes : Bool → List Word → List ℕ
@@ -46,37 +42,16 @@ abbrev pub refusedRoom : List ℕ → Refusal → Written·room
 refusedRoom room r = record { answer = Refused r; room = room }
 
 -- "Written room beyond the block is untouched."
-abbrev pub fitted : List ℕ → List ℕ → Written·room
-fitted bytes room =
+abbrev pub blockInRoom : List ℕ → List ℕ → Written·room
+blockInRoom bytes room =
     cond (ltb (length room) (length bytes)) (refusedRoom room (Room (length bytes)))
     (record { answer = Written (length bytes); room = laid bytes room })
 
 abbrev pub written : List Word → Bool → Bool → List ℕ → Written·room
 written ws wide crlf room =
     cond (eqb (length ws) 0 || ltb 32 (length ws)) (refusedRoom room Count)
-    (unlessWrong wide 0 ws (λ i. refusedRoom room (Record i)) (fitted (blockBytes wide crlf ws) room))
+    (unlessWrong wide 0 ws (λ i. refusedRoom room (Record i)) (blockInRoom (blockBytes wide crlf ws) room))
 
 -- what writing a list into a room comes to
 abbrev pub Writes : List Word → Bool → Bool → List ℕ → Wrote → List ℕ → Type 0
 Writes ws wide crlf room r room′ = (r ≡ written ws wide crlf room .answer) × (room′ ≡ written ws wide crlf room .room)
-
--- the same as the code keeps it: a block's bytes from the start of 771
-abbrev pub refusedList : Refusal → Composed
-refusedList r = record { answer = Refused r; bytes = replicate 771 0 }
-
-abbrev pub wroteList : List ℕ → Composed
-wroteList bytes = record { answer = Written (length bytes); bytes = laid bytes (replicate 771 0) }
-
-abbrev pub opened : Bool → List ℕ
-opened wide = laid (starBytes wide) (replicate 771 0)
-
-abbrev pub wordsPut : Bool → List Word → Composed
-wordsPut wide ws = unlessWrong wide 0 ws (λ i. refusedList (Record i)) (wroteList (starBytes wide ++ wordsBytes wide ws))
-
-abbrev pub composedOf : Bool → Bool → List Word → Composed
-composedOf wide crlf ws =
-    cond (eqb (length ws) 0) (refusedList Count) (unlessWrong wide 0 ws (λ i. refusedList (Record i)) (wroteList (blockBytes wide crlf ws)))
-
--- the list that a block holds; a count past 32 is a list that is too long, whatever it held
-abbrev pub listOf : Block → List Word
-listOf b = cond (leb (b .n) 32) (take (b .n) (b .words)) (replicate 33 blank)

@@ -3,3 +3,4 @@ pub mod Judging
 pub mod Composing
 pub mod Lists
 pub mod Rules
+pub mod Keeping

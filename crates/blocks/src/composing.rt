@@ -2,7 +2,8 @@
 ghost use mathlib.Core.Path.{_≡_};
 ghost use Prim.Native.Nat.{_≤_};
 ghost use lib.ListN.{length, take};
-ghost use Rattle.blocks.specs.Composing.{opened, composedOf, wordsPut, refusedList, listOf, Writes};
+ghost use Rattle.blocks.specs.Composing.{Writes};
+ghost use Rattle.blocks.specs.Keeping.{opened, composedOf, wordsPut, refusedList, listOf};
 use crate::answers::Refusal;
 use crate::answers::Wrote;
 use crate::judging::Block;

@@ -3,7 +3,8 @@ ghost use mathlib.Core.Path.{_≡_};
 ghost use Prim.Native.Nat.{_≤_, _<_};
 ghost use mathlib.Core.List.{[]};
 ghost use lib.ListN.{length, drop};
-ghost use Rattle.blocks.specs.Judging.{isAt, startOf, nextOf, stopsBy, noBlock, refusedBy, endedAt, blockFrom, judged, keptOf};
+ghost use Rattle.blocks.specs.Judging.{isAt, firstAt, refusedBy, endedAt, blockFrom, judged};
+ghost use Rattle.blocks.specs.Keeping.{nextOf, stopsBy, noBlock, keptOf};
 use crate::answers::Answer;
 use crate::answers::Reading;
 use crate::answers::Refusal;
@@ -21,7 +22,7 @@ pub struct Block {
 }
 
 // The answer, and the block: no record of it where it is refused.
-pub struct Judgement {
+pub struct JudgedBlock {
     pub answer: Answer,
     pub block: Block,
 }
@@ -47,12 +48,12 @@ pub(crate) fn no_block() -> Block
     Block { words: words, n: 0 }
 }
 
-fn refuse(refusal: Refusal) -> Judgement
+fn refuse(refusal: Refusal) -> JudgedBlock
     ensures { λ r. ⌜ r ≡ keptOf (refusedBy refusal) ⌝ }
 {
     let answer = Answer::Refused(refusal);
     let block = no_block();
-    Judgement {
+    JudgedBlock {
         answer: answer,
         block: block,
     }
@@ -118,13 +119,13 @@ fn step(s: &[u8], wide: bool, at: usize, count: usize, places: usize) -> Stepped
 }
 
 pub(crate) fn start_of(wide: bool) -> usize
-    ensures { λ r. ⌜ r ≡ startOf wide ⌝ }
+    ensures { λ r. ⌜ r ≡ firstAt wide ⌝ }
 {
     if wide { 1 } else { 0 }
 }
 
 // An accepted block whose CR stands at a place.
-fn ended(s: &[u8], wide: bool, at: usize, block: Block) -> Judgement
+fn ended(s: &[u8], wide: bool, at: usize, block: Block) -> JudgedBlock
     requires { ⌜ at < length (now s) ⌝ }
     ensures { λ r. ⌜ (r .block ≡ block) × (r .answer ≡ endedAt wide at (drop at (now (s .entry))) (block .n)) ⌝ }
 {
@@ -138,7 +139,7 @@ fn ended(s: &[u8], wide: bool, at: usize, block: Block) -> Judgement
             used: past + 1,
         };
         let answer = Answer::Read(read);
-        return Judgement {
+        return JudgedBlock {
             answer: answer,
             block: block,
         };
@@ -150,14 +151,14 @@ fn ended(s: &[u8], wide: bool, at: usize, block: Block) -> Judgement
         used: past,
     };
     let answer = Answer::Read(read);
-    Judgement {
+    JudgedBlock {
         answer: answer,
         block: block,
     }
 }
 
 // The words from a place on.
-fn words_from(s: &[u8], wide: bool, start: usize, places: usize) -> Judgement
+fn words_from(s: &[u8], wide: bool, start: usize, places: usize) -> JudgedBlock
     requires { ⌜ start ≤ length (now s) ⌝ }
     ensures { λ r. ⌜ r ≡ keptOf (blockFrom 32 wide places start (drop start (now (s .entry))) []) ⌝ }
 {
@@ -188,7 +189,7 @@ fn words_from(s: &[u8], wide: bool, start: usize, places: usize) -> Judgement
 }
 
 // The block at the start of s, with so many places for its records.
-pub fn judge(s: &[u8], places: usize) -> Judgement
+pub fn judge(s: &[u8], places: usize) -> JudgedBlock
     ensures { λ r. ⌜ r ≡ keptOf (judged (now (s .entry)) places) ⌝ }
 {
     if s.len() == 0 {

@@ -66,7 +66,9 @@ length-laid (x ∷ w) (y ∷ room) = ap suc (length-laid w room)
 pub lay-more : (w room₀ room : List ℕ) (i : ℕ) → i < length w → i < length room → length room ≡ length room₀ → room ≡ take i w ++ drop i room₀
     → set room i (getD w i 0) ≡ take (i + 1) w ++ drop (i + 1) room₀
 lay-more w room₀ room i hw hr hl e =
-    rw (e, drop-cons room₀ i 0 (omega arith), set-at (take i w) (getD room₀ i 0) (drop (suc i) room₀) (getD w i 0) i (length-take-le i w (omega arith)), add-one i, take-suc w i 0 hw, append-snoc (take i w) (getD w i 0) (drop (suc i) room₀))
+    let rest = drop (suc i) room₀ in
+    let stored = set-at (take i w) (getD room₀ i 0) rest (getD w i 0) i (length-take-le i w (omega arith)) in
+    rw (e, drop-cons room₀ i 0 (omega arith), stored, add-one i, take-suc w i 0 hw, append-snoc (take i w) (getD w i 0) rest)
 
 -- and its two ends: there is no more room, or no more of w
 pub lay-cut : (w room : List ℕ) (i : ℕ) → i ≡ length room → i ≤ length w → take i w ++ drop i room ≡ laid w room
@@ -86,7 +88,8 @@ length-mid a k room h = length-take-le k (drop a room) (omega (arith, length-dro
 put-on : (done room₀ room last : List ℕ) (a k : ℕ) → a ≡ length done → room ≡ done ++ drop (length done) room₀
     → putMid a k room last ≡ done ++ (last ++ drop (length done + k) room₀)
 put-on done room₀ room last a k ea e =
-    rw (ea, e, take-at done (drop (length done) room₀) (length done) refl, drop-at done (drop (length done) room₀) (length done) refl, drop-drop k (length done) room₀)
+    let rest = drop (length done) room₀ in
+    rw (ea, e, take-at done rest (length done) refl, drop-at done rest (length done) refl, drop-drop k (length done) room₀)
 
 -- w stands in all that comes after done
 pub lay-on : (done w room₀ room last : List ℕ) (a : ℕ) → a ≡ length done → length done + length w ≤ length room₀
@@ -117,7 +120,8 @@ fill-on done room₀ room last a k ea e el =
 
 -- at the start of another
 
-pub starts-more : (w s : List ℕ) (i : ℕ) → i < length w → i < length s → getD s i 0 ≡ getD w i 0 → startsWith (drop i w) (drop i s) ≡ startsWith (drop (i + 1) w) (drop (i + 1) s)
+pub starts-more : (w s : List ℕ) (i : ℕ) → i < length w → i < length s → getD s i 0 ≡ getD w i 0
+    → startsWith (drop i w) (drop i s) ≡ startsWith (drop (i + 1) w) (drop (i + 1) s)
 unfolding startsWith
 starts-more w s i hw hs e = rw (drop-cons w i 0 hw, drop-cons s i 0 hs, eq-eqb (getD s i 0) (getD w i 0) e, add-one i)
 
@@ -176,3 +180,17 @@ pub same-true : (a b : List ℕ) → sameBytes a b ≡ true → a ≡ b
 same-true a b e =
     let both = and-eq-true-iff (eqb (length a) (length b)) (startsWith b a) .0 e in
     sym (take-all (length b) a (omega (arith, eqb-true (length a) (length b) (both .0)))) ∙ starts-true b a (both .1)
+
+-- a byte stored after done
+pub store-on : (done room₀ room : List ℕ) (a v : ℕ) → a ≡ length done → length done < length room₀ → room ≡ done ++ drop (length done) room₀
+    → set room a v ≡ (done ++ (v ∷ [])) ++ drop (length (done ++ (v ∷ []))) room₀
+store-on done room₀ room a v ea h e =
+    let n = length done in
+    let there = set-at done (getD room₀ n 0) (drop (suc n) room₀) v n refl in
+    rw (ea, e, drop-cons room₀ n 0 h, there, length-append done (v ∷ []), add-one, append-snoc)
+
+pub starts-length : (w s : List ℕ) → startsWith w s ≡ true → length w ≤ length s
+unfolding startsWith
+starts-length [] s e = omega arith
+starts-length (x ∷ w) [] e = absurd (false≢true e)
+starts-length (x ∷ w) (y ∷ s) e = omega (arith, starts-length w s (and-eq-true-iff (eqb y x) (startsWith w s) .0 e .1))

@@ -85,7 +85,9 @@ digits-more n zero out h hl = absurd (omega arith)
 digits-more n (suc j) out h hl =
     let last : ℕ = 48 + n % 10 in
     let q : suc j - 1 ≡ j = omega arith in
-    rw (q, set-split out j last hl, drop-at (take j out) (last ∷ drop (suc j) out) j (length-take-le j out (omega arith)), append-snoc (digitsOf j (n / 10)) last (drop (suc j) out))
+    let rest = drop (suc j) out in
+    let dropped = drop-at (take j out) (last ∷ rest) j (length-take-le j out (omega arith)) in
+    rw (q, set-split out j last hl, dropped, append-snoc (digitsOf j (n / 10)) last rest)
 
 -- a number that at most fifteen digits say
 pub few-digits : (n i : ℕ) → i < 16 → n < 10 ^ i → n < 10 ^ 15

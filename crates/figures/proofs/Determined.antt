@@ -2,11 +2,12 @@
 use mathlib.Core.Path.{_≡_, sym, _∙_}
 use mathlib.Core.Bool.{Bool}
 use mathlib.Core.List.{List}
-use Prim.Native.Nat.{ℕ}
+use Prim.Native.Nat.{ℕ, _+_, min}
 use lib.ListN.{length}
 use Rattle.figures.specs.Promises.{Determined}
 use Rattle.figures.specs.Bytes.{within, every, laid, startsWith, sameBytes}
-use Rattle.figures.specs.Decimal.{isDigit, numberIn, digitsOf}
+use Rattle.figures.specs.Decimal.{isDigit, numberIn, digitsOf, decimalOf}
+use Rattle.figures.specs.Rooms.{putAt, Puts}
 use Rattle.figures.specs.declared.Said.{Said}
 
 -- one equation: the answer, or the one thing that is lent
@@ -49,3 +50,15 @@ starts-determined = by-equation (List ℕ × List ℕ) Bool (λ i. startsWith (i
 
 pub same-determined : Determined (List ℕ × List ℕ) Bool (λ i r. r ≡ sameBytes (i .0) (i .1))
 same-determined = by-equation (List ℕ × List ℕ) Bool (λ i. sameBytes (i .0) (i .1))
+
+-- a room, a place in it and a text go in; where the next part begins and the room come out
+pub put-determined : Determined (List ℕ × ℕ × List ℕ) (ℕ × List ℕ) (λ i o. Puts (i .0) (i .1) (i .2) (o .0) (o .1))
+put-determined =
+    by-two (List ℕ × ℕ × List ℕ) ℕ (List ℕ) (λ i. min (i .1 + length (i .2)) (length (i .0))) (λ i. putAt (i .0) (i .1) (i .2))
+
+pub put-decimal-determined : Determined (List ℕ × ℕ × ℕ) (ℕ × List ℕ) (λ i o. Puts (i .0) (i .1) (decimalOf (i .2)) (o .0) (o .1))
+put-decimal-determined i = put-determined (i .0, i .1, decimalOf (i .2))
+
+-- `wide`, `place_of`, `figure`, `wide_index` and `wide_count`: the same number
+pub cast-determined : Determined ℕ ℕ (λ n r. r ≡ n)
+cast-determined = by-equation ℕ ℕ (λ n. n)

@@ -1,4 +1,6 @@
 pub mod Bytes
 pub mod Decimal
+pub mod Places
+pub mod Putting
 pub mod Tests
 pub mod Determined

@@ -1,18 +1,34 @@
--- Tests and what they say; and tests of a number: what a function computes at each number of a run, it is there, and a number above all of a list is none of it.
+-- Tests and what they say; and tests of a number: what a function computes at each number of a run, and that a number above all of a list is none of it.
 use Prim.Native.Nat.{ℕ, zero, suc, _+_, _-_, _<_, _≤_}
-use mathlib.Core.Path.{_≡_, refl}
-use mathlib.Core.Bool.{Bool, true, false, cond, _&&_, and-eq-true-iff}
+use mathlib.Core.Path.{_≡_, refl, sym, _∙_}
+use mathlib.Core.Bool.{Bool, true, false, cond, not, _&&_, and-eq-true-iff}
 use mathlib.Core.List.{List, [], _∷_}
 use mathlib.Core.Logic.{⊎-elim}
 use native.Mathlib.Nat.{eq-or-lt-of-le}
 use native.Mathlib.Omega.{arith}
-use borrow.Author.Tests.{ne-eqb, leb-true}
+use borrow.Author.Tests.{not-true, not-false, ne-eqb, leb-true}
 use lib.Dec.{eqb, leb}
 use lib.ListN.{replicate}
 use Rattle.figures.specs.Bytes.{among, every}
 
 pub both : (a b : Bool) → a && b ≡ true → (a ≡ true) × (b ≡ true)
 both a b = and-eq-true-iff a b .0
+
+-- the first of two tests settles it, or leaves it to the second
+
+pub and-on : {t r : Bool} → t ≡ true → t && r ≡ r
+and-on e = rw e
+
+pub and-off : {t : Bool} (r : Bool) → t ≡ false → t && r ≡ false
+and-off r e = rw e
+
+-- of a call that ensures that its result r is t, where `if !r` was left, and where it was taken
+
+pub passed : {r t : Bool} → r ≡ t → not r ≡ false → t ≡ true
+passed {r} e n = sym e ∙ not-false r n
+
+pub failed : {r t : Bool} → r ≡ t → not r ≡ true → t ≡ false
+failed {r} e n = sym e ∙ not-true r n
 
 pub by-test : {A : Type 0} (b : Bool) → (b ≡ true → A) → (b ≡ false → A) → A
 by-test true f g = f refl

@@ -2,7 +2,7 @@
 use Prim.Native.Nat.{ℕ, zero, suc, _+_, _-_, _*_, _/_, _%_}
 use mathlib.Core.Bool.{Bool, cond, _&&_}
 use mathlib.Core.List.{List, [], _∷_, _++_}
-use lib.Dec.{leb}
+use lib.Dec.{leb, ltb}
 use lib.ListN.{length}
 use Rattle.figures.specs.Bytes.{within, every}
 use Rattle.figures.specs.declared.Said.{Said}
@@ -28,3 +28,15 @@ digitsOf (suc k) n = digitsOf k (n / 10) ++ ((48 + n % 10) ∷ [])
 -- no word has more than 16 digits
 abbrev pub numberIn : List ℕ → Said
 numberIn s = cond (leb (length s) 16 && every isDigit s) (Number (numberOf s)) Not
+
+-- how many digits a number has; one below 2^64 has 20 at most
+unfoldable pub placesBy : ℕ → ℕ → ℕ
+placesBy zero n = 1
+placesBy (suc k) n = cond (ltb n 10) 1 (suc (placesBy k (n / 10)))
+
+abbrev pub places : ℕ → ℕ
+places = placesBy 19
+
+-- a number in its fewest digits
+abbrev pub decimalOf : ℕ → List ℕ
+decimalOf n = digitsOf (places n) n

@@ -1,3 +1,5 @@
+pub mod Text
 pub mod Bytes
 pub mod Decimal
+pub mod Rooms
 pub mod Promises

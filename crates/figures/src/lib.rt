@@ -1,19 +1,17 @@
 // Decimal figures in bytes, and byte strings laid down or compared: what every layer above reads and writes with.
+pub mod casts;
+pub mod rooms;
+
 ghost use mathlib.Core.Path.{_≡_};
 ghost use lib.ListN.{length};
 ghost use Rattle.figures.specs.Decimal.{numberIn, digitsOf, isDigit};
 ghost use Rattle.figures.specs.Bytes.{laid, startsWith, sameBytes, every, within};
+use crate::casts::wide;
 
 // What digits say; Not where a byte is no digit, or there are more of them than a word can have.
 pub enum Said {
     Not,
     Number(u64),
-}
-
-fn wide(b: u8) -> u64
-    ensures { λ r. ⌜ r ≡ b ⌝ }
-{
-    b as u64
 }
 
 pub fn digit(b: u8) -> bool

@@ -1,32 +1,31 @@
 -- Of a line or a sheet nothing is cut off either: a reply has at most 306 bytes, a sheet 352, and a wrong line starts at 352 at most.
-use Prim.Native.Nat.{ℕ, _+_, _-_, _*_, _≤_}
+use Prim.Native.Nat.{ℕ, _+_, _≤_}
 use mathlib.Core.Path.{_≡_, _∙_}
-use mathlib.Core.List.{List, [], _∷_, _++_}
+use mathlib.Core.Bool.{true}
+use mathlib.Core.List.{List, []}
 use native.Mathlib.Omega.{arith}
 use lib.Dec.{eqb, leb}
-use lib.ListN.{length, getD, drop}
+use lib.ListN.{length, drop}
 use Rattle.figures.specs.Bytes.{startsWith}
-use Rattle.state.specs.Settings.{rows}
-use Rattle.state.specs.Values.{putKept}
-use Rattle.state.specs.Entries.{valueOf}
+use Rattle.instrument.specs.Settings.{rows, settingsN}
+use Rattle.instrument.specs.Values.{valuesN}
 use Rattle.state.specs.Image.{stateIn, isImage}
-use Rattle.state.specs.declared.settings.Row.{Row}
-use Rattle.state.specs.declared.values.Kept.the-variants.{Never}
-use Rattle.state.specs.declared.values.Value.{Value}
+use Rattle.instrument.specs.declared.values.Value.{Value}
 use Rattle.state.proofs.Images.{image-of}
 use Rattle.lines.specs.Verdicts.{verdictNumber}
 use Rattle.lines.specs.Machine.{Outcome, outcome, run, step, Called, played, call}
 use Rattle.lines.specs.declared.verdicts.Verdict.the-variants.{Room}
 use Rattle.lines.proofs.Longest.{reply-most}
 use Rattle.sheets.specs.Answers.{sheetNumber, sheetTells}
-use Rattle.sheets.specs.Keys.{settingKeys, valueKeys}
-use Rattle.sheets.specs.Sheet.{seriesLine, sheetOf}
-use Rattle.sheets.specs.Loading.{settingStands, neverStands, charactersIn, valueStands, Part, wrongAt, settingsPart, valuesPart, settingsIn, valuesAt}
-use Rattle.sheets.specs.Loading.{Loading, wrong, right, afterValues, afterSettings, loadingOf, Loaded·image, loadedBy, loaded, Written·room, fitted, writtenSheet}
+use Rattle.sheets.specs.Lines.{Part, wrongAt}
+use Rattle.sheets.specs.Sheet.{seriesLine, settingLine, valueLine, sheetOf, Sheet·room, sheetInRoom, writtenSheet}
+use Rattle.sheets.specs.Loading.{settingSays, settingRight, valueSays, valueRight, settingsFrom, settingsIn, valuesFrom}
+use Rattle.sheets.specs.Loading.{Loading, wrong, right, afterValues, afterSettings, loadingOf, Loaded·image, loadedBy, loaded}
 use Rattle.sheets.specs.declared.loading.Came.{Came}
 use Rattle.sheets.specs.declared.loading.Came.the-variants.{Wrong, To}
 use Rattle.sheets.specs.declared.answers.Sheeted.{Sheeted}
-use Rattle.sheets.proofs.Sizes.{keysN, sheet-most}
+use Rattle.sheets.proofs.Linewise.{kept-few}
+use Rattle.sheets.proofs.Sizes.{totalFrom, settingHere, setting-size, settings-here, sheet-most, placeOf, part-most}
 use Rattle.host.specs.Machine.{lineWhole, toldSheet, sheetWhole, CallsC, WritesSheetC, LoadsC}
 use Rattle.host.proofs.Whole.{packed-whole, cond-when}
 
@@ -35,40 +34,30 @@ line-most : (image line room : List ℕ) → call image line room .answer .count
 line-most image line room =
     let s = stateIn image in
     cond-when (λ (c : Called). c .answer .count ≤ 306) (isImage image) (played (step s line (length room)) room) _
-    (λ _. cond-when (λ (o : Outcome). length (o .reply) ≤ 306) (leb (length (run s line .reply)) (length room)) (run s line) (outcome Room [] s) (λ _. reply-most s line) (omega arith))
+    (λ _. cond-when (λ (o : Outcome). length (o .reply) ≤ 306) (leb (length (run s line .reply)) (length room)) (run s line) (outcome Room [] s)
+    (λ _. reply-most s line) (omega arith))
     (omega arith)
 
 -- a sheet that was written
 written-most : (image room : List ℕ) → sheetTells (writtenSheet image room .answer) ≤ 352
 written-most image room =
     let sheet = sheetOf (stateIn image) in
-    cond-when (λ (w : Written·room). sheetTells (w .answer) ≤ 352) (isImage image) (fitted sheet room) _
-    (λ e. cond-when (λ (w : Written·room). sheetTells (w .answer) ≤ 352) (leb (length sheet) (length room)) _ _ (λ _. sheet-most (stateIn image) (image-of image e .0)) (omega arith))
+    cond-when (λ (w : Sheet·room). sheetTells (w .answer) ≤ 352) (isImage image) (sheetInRoom sheet room) _
+    (λ e. cond-when (λ (w : Sheet·room). sheetTells (w .answer) ≤ 352) (leb (length sheet) (length room)) _ _
+    (λ _. sheet-most (stateIn image) (image-of image e .0)) (omega arith))
     (omega arith)
 
 -- a sheet that was loaded: where the first line that isn't right in its turn starts at most
-abbrev placeOf : Came → ℕ
-placeOf (Wrong at) = at
-placeOf (To at) = at
 
-settings-most : (ks : List (List ℕ)) (rs : List Row) (at : ℕ) (rest got : List ℕ) → placeOf (settingsPart ks rs at rest got .came) ≤ at + keysN ks + 2 * length ks
-unfolding settingsPart keysN
-settings-most [] rs at rest got = omega arith
-settings-most (k ∷ ks) [] at rest got = omega arith
-settings-most (k ∷ ks) (r ∷ rs) at rest got =
-    cond-when (λ (p : Part ℕ). placeOf (p .came) ≤ at + (length k + keysN ks) + 2 * length (k ∷ ks)) (settingStands k (r .highest) rest) _ (wrongAt at)
-    (λ _. omega (arith, settings-most ks rs (at + (length k + 2)) (drop (length k + 2) rest) (got ++ ((getD rest (length k) 0 - 48) ∷ [])))) (omega arith)
+values-most : (sheet : List ℕ) (at : ℕ) → placeOf (valuesFrom sheet at .came) ≤ at + 220
+unfolding totalFrom
+values-most sheet at = part-most valueLine valueRight valueSays (λ i. 20) (λ i v r. kept-few i (v .kept)) valuesN 0 at (drop at sheet) []
 
-values-most : (ks : List (List ℕ)) (place at : ℕ) (rest : List ℕ) (got : List Value) → placeOf (valuesPart ks place at rest got .came) ≤ at + keysN ks + 16 * length ks
-unfolding valuesPart keysN
-values-most [] place at rest got = omega arith
-values-most (k ∷ ks) place at rest got =
-    let Most : Part Value → Type 0 = λ p. placeOf (p .came) ≤ at + (length k + keysN ks) + 16 * length (k ∷ ks) in
-    cond-when Most (neverStands k rest) _ _
-    (λ _. omega (arith, values-most ks (place + 1) (at + (length k + 1)) (drop (length k + 1) rest) (got ++ (valueOf Never ∷ []))))
-    (cond-when Most (valueStands place k rest) _ (wrongAt at)
-    (λ _. omega (arith, values-most ks (place + 1) (at + (length k + 16)) (drop (length k + 16) rest) (got ++ (valueOf (putKept (charactersIn k rest)) ∷ []))))
-    (omega arith))
+settings-most : (sheet : List ℕ) → placeOf (settingsFrom sheet 14 .came) ≤ 132
+settings-most sheet =
+    let few : (i p : ℕ) → settingRight rows i p ≡ true → length (settingLine rows i p) ≤ settingHere i = λ i p r. omega (arith, setting-size i p r) in
+    let most = part-most (settingLine rows) (settingRight rows) (settingSays rows) settingHere few settingsN 0 14 (drop 14 sheet) [] in
+    omega (arith, settings-here)
 
 module _ (image sheet : List ℕ) where
   abbrev Short : Loading → Type 0
@@ -79,21 +68,20 @@ module _ (image sheet : List ℕ) where
   values-short settings values (To at) h = cond-when Short (eqb at (length sheet)) (right settings values) (wrong at) (λ _. omega arith) h
 
   settings-short : (settings : List ℕ) (c : Came) → placeOf c ≤ 132 → Short (afterSettings sheet settings c)
-  unfolding keysN valueKeys
   settings-short settings (Wrong at) h = omega arith
   settings-short settings (To at) h =
-      values-short settings (valuesAt sheet at .got) (valuesAt sheet at .came) (omega (arith, values-most valueKeys 0 at (drop at sheet) []))
+      values-short settings (valuesFrom sheet at .got) (valuesFrom sheet at .came) (omega (arith, values-most sheet at))
 
   loaded-most : sheetTells (loaded image sheet .answer) ≤ 352
-  unfolding keysN settingKeys
   loaded-most =
       cond-when (λ (l : Loaded·image). sheetTells (l .answer) ≤ 352) (isImage image) (loadedBy image (loadingOf sheet)) _
       (λ _. settings-short (settingsIn sheet .got) (settingsIn sheet .came)
-      (cond-when (λ (p : Part ℕ). placeOf (p .came) ≤ 132) (startsWith seriesLine sheet) _ (wrongAt 0) (λ _. omega (arith, settings-most settingKeys rows 14 (drop 14 sheet) [])) (omega arith)))
+      (cond-when (λ (p : Part ℕ). placeOf (p .came) ≤ 132) (startsWith seriesLine sheet) _ (wrongAt 0) (λ _. settings-most sheet) (omega arith)))
       (omega arith)
 
 -- so the promises say
-pub gsi-line-whole : (image line room : List ℕ) {r : ℕ} {image′ room′ : List ℕ} → CallsC image line room r image′ room′ → r ≡ lineWhole (call image line room .answer)
+pub gsi-line-whole : (image line room : List ℕ) {r : ℕ} {image′ room′ : List ℕ} → CallsC image line room r image′ room′
+    → r ≡ lineWhole (call image line room .answer)
 gsi-line-whole image line room h =
     let a = call image line room .answer in
     h .0 ∙ packed-whole (verdictNumber (a .verdict)) (a .count) (omega (arith, line-most image line room))

@@ -9,14 +9,16 @@ use Rattle.figures.specs.Promises.{Determined}
 use Rattle.figures.proofs.Determined.{by-equation, by-two, by-three}
 use Rattle.words.specs.declared.records.Word.{Word}
 use Rattle.blocks.specs.Judging.{judged, filled}
-use Rattle.blocks.specs.Composing.{written, listOf}
+use Rattle.blocks.specs.Composing.{written}
+use Rattle.blocks.specs.Keeping.{listOf}
 use Rattle.blocks.specs.declared.answers.Answer.{Answer}
 use Rattle.blocks.specs.declared.judging.Block.{Block}
 use Rattle.state.specs.Entries.{factoryState}
 use Rattle.state.specs.Image.{imageN, imageOf}
 use Rattle.lines.specs.Machine.{call}
 use Rattle.lines.specs.declared.machine.Told.{Told}
-use Rattle.sheets.specs.Loading.{loaded, writtenSheet}
+use Rattle.sheets.specs.Sheet.{writtenSheet}
+use Rattle.sheets.specs.Loading.{loaded}
 use Rattle.sheets.specs.declared.answers.Sheeted.{Sheeted}
 use Rattle.host.specs.Answers.{readTold, wroteTold, isYes, ReadsC, WritesC}
 use Rattle.host.specs.Machine.{toldLine, toldSheet, LaysFactory, CallsC, WritesSheetC, LoadsC}
@@ -31,7 +33,8 @@ put-told-determined =
 
 pub gsi-read-determined : Determined (List ℕ × List Word) (ℕ × List Word) (λ i o. ReadsC (i .0) (i .1) (o .0) (o .1))
 gsi-read-determined =
-    by-two (List ℕ × List Word) ℕ (List Word) (λ i. readTold (judged (i .0) (length (i .1)) .answer)) (λ i. filled (judged (i .0) (length (i .1)) .words) (i .1))
+    by-two (List ℕ × List Word) ℕ (List Word) (λ i. readTold (judged (i .0) (length (i .1)) .answer))
+    (λ i. filled (judged (i .0) (length (i .1)) .words) (i .1))
 
 pub gsi-write-determined : Determined (List Word × ℕ × ℕ × List ℕ) (ℕ × List ℕ) (λ i o. WritesC (i .0) (i .1) (i .2) (i .3) (o .0) (o .1))
 gsi-write-determined =

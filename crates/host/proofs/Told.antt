@@ -10,7 +10,8 @@ use Rattle.blocks.specs.declared.answers.Refusal.{Refusal}
 use Rattle.blocks.specs.declared.answers.Refusal.the-variants as refusal
 use Rattle.blocks.specs.Answers.{refusalNumber}
 use Rattle.lines.specs.declared.verdicts.Verdict.{Verdict}
-use Rattle.lines.specs.declared.verdicts.Verdict.the-variants.{Accepted, Unended, Long, Shape, Setting, Parameter, Index, Word, NeverPut, Full, NoEntry, Room, NoState}
+use Rattle.lines.specs.declared.verdicts.Verdict.the-variants.{Accepted, Unended, Long, Shape, Setting, Parameter, Index}
+use Rattle.lines.specs.declared.verdicts.Verdict.the-variants.{Word, NeverPut, Full, NoEntry, Room, NoState}
 use Rattle.lines.specs.Verdicts.{verdictNumber}
 use Rattle.sheets.specs.declared.answers.Sheeted.{Sheeted}
 use Rattle.sheets.specs.declared.answers.Sheeted.the-variants as sheet

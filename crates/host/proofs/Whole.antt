@@ -19,8 +19,11 @@ use Rattle.blocks.specs.declared.answers.Answer.the-variants as answer
 use Rattle.blocks.specs.declared.answers.Wrote.the-variants as wrote
 use Rattle.blocks.specs.Answers.{refusalNumber, refusalTells}
 use Rattle.blocks.specs.Judging.{Judgement, isAt, endedAt, judged}
-use Rattle.blocks.specs.Composing.{starBytes, endBytes, wordsBytes, blockBytes, unlessWrong, Written·room, refusedRoom, fitted, written}
+use Rattle.blocks.specs.Composing.{starBytes, wordsBytes, blockBytes, unlessWrong, Written·room, refusedRoom, blockInRoom, written}
+use Rattle.figures.specs.Text.{endBytes}
 use Rattle.blocks.proofs.Counts.{size-le, judged-by}
+use Rattle.blocks.proofs.Rooms.{star-small}
+use Rattle.blocks.proofs.Composes.{end-small}
 use Rattle.host.specs.Answers.{packed, refusedTold, refusedWhole, readTold, readWhole, wroteTold, wroteWhole, isYes, ReadsC, WritesC}
 
 pub packed-whole : (number told : ℕ) → told ≤ 771 → packed number told ≡ number * 4294967296 + told
@@ -44,52 +47,53 @@ read-whole block places =
     (λ wide at rest ws h few. ended-whole wide at rest (length ws) h (few .0)) block
 
 -- a list that was written
-star-le : (wide : Bool) → length (starBytes wide) ≤ 1
-star-le true = omega arith
-star-le false = omega arith
-
-end-le : (crlf : Bool) → length (endBytes crlf) ≤ 2
-end-le true = omega arith
-end-le false = omega arith
-
 pub cond-when : {A : Type 0} (P : A → Type 0) (t : Bool) (a b : A) → (t ≡ true → P a) → P b → P (cond t a b)
 cond-when P true a b h k = h refl
 cond-when P false a b h k = k
 
 -- what holds of each of the first 32 numbers and, where the words have their bytes, of what comes then
-wrong-by : {A : Type 0} (P : A → Type 0) (wide : Bool) (i : ℕ) (ws : List Word) (wrong : ℕ → A) (next : A) → i + length ws ≤ 32 → ((j : ℕ) → j < 32 → P (wrong j))
-    → (length (wordsBytes wide ws) ≤ length ws * 24 → P next) → P (unlessWrong wide i ws wrong next)
+wrong-by : {A : Type 0} (P : A → Type 0) (wide : Bool) (i : ℕ) (ws : List Word) (wrong : ℕ → A) (next : A) → i + length ws ≤ 32
+    → ((j : ℕ) → j < 32 → P (wrong j)) → (length (wordsBytes wide ws) ≤ length ws * 24 → P next) → P (unlessWrong wide i ws wrong next)
 unfolding unlessWrong wordsBytes
 wrong-by P wide i [] wrong next h at last = last (omega arith)
 wrong-by P wide i (w ∷ ws) wrong next h at last =
     cond-when P (isRight wide w) (unlessWrong wide (i + 1) ws wrong next) (wrong i)
-    (λ e. wrong-by P wide (i + 1) ws wrong next (omega arith) at (λ k. last (omega (arith, length-append (bytesOf wide w) (wordsBytes wide ws), bytes-length wide w e, size-le wide))))
+    (λ e. wrong-by P wide (i + 1) ws wrong next (omega arith) at
+    (λ k. last (omega (arith, length-append (bytesOf wide w) (wordsBytes wide ws), bytes-length wide w e, size-le wide))))
     (at i (omega arith))
 
 module _ (ws : List Word) (wide crlf : Bool) (room : List ℕ) where
   abbrev Whole : Written·room → Type 0
   Whole v = wroteTold (v .answer) ≡ wroteWhole (v .answer)
 
-  fitted-by : (short : Bool) (n : ℕ) (room′ : List ℕ) → n ≤ 771 → Whole (cond short (refusedRoom room (Room n)) (record { answer = wrote.Written n; room = room′ }))
+  abbrev all : List ℕ
+  all = blockBytes wide crlf ws
+
+  fitted-by : (short : Bool) (n : ℕ) (room′ : List ℕ) → n ≤ 771
+      → Whole (cond short (refusedRoom room (Room n)) (record { answer = wrote.Written n; room = room′ }))
   fitted-by true n room′ h = refused-whole (Room n) h
   fitted-by false n room′ h = let fits : n < 4294967296 = omega arith in rw (mod-eq-of-lt fits) (omega arith)
 
   counted-by : (none many : Bool) → ltb 32 (length ws) ≡ many
-      → Whole (cond (none || many) (refusedRoom room Count) (unlessWrong wide 0 ws (λ i. refusedRoom room (Record i)) (fitted (blockBytes wide crlf ws) room)))
+      → Whole (cond (none || many) (refusedRoom room Count) (unlessWrong wide 0 ws (λ i. refusedRoom room (Record i)) (blockInRoom all room)))
   counted-by true many e = refused-whole Count (omega arith)
   counted-by false true e = refused-whole Count (omega arith)
   counted-by false false e =
       let most = ltb-false 32 (length ws) e in
-      wrong-by Whole wide 0 ws (λ i. refusedRoom room (Record i)) (fitted (blockBytes wide crlf ws) room) (omega arith) (λ j h. refused-whole (Record j) (omega arith))
-      (λ h. fitted-by (ltb (length room) (length (blockBytes wide crlf ws))) (length (blockBytes wide crlf ws)) (laid (blockBytes wide crlf ws) room)
-      (omega (arith, length-append (starBytes wide) (wordsBytes wide ws ++ endBytes crlf), length-append (wordsBytes wide ws) (endBytes crlf), star-le wide, end-le crlf)))
+      let words = wordsBytes wide ws in
+      let end = endBytes crlf in
+      wrong-by Whole wide 0 ws (λ i. refusedRoom room (Record i)) (blockInRoom all room) (omega arith) (λ j h. refused-whole (Record j) (omega arith))
+      (λ h. fitted-by (ltb (length room) (length all)) (length all) (laid all room)
+      (omega (arith, length-append (starBytes wide) (words ++ end), length-append words end, star-small wide, end-small crlf)))
 
   pub wrote-whole : wroteTold (written ws wide crlf room .answer) ≡ wroteWhole (written ws wide crlf room .answer)
   wrote-whole = counted-by (eqb (length ws) 0) (ltb 32 (length ws)) refl
 
 -- so the promises say
-pub gsi-read-whole : (block : List ℕ) (list : List Word) {r : ℕ} {list′ : List Word} → ReadsC block list r list′ → r ≡ readWhole (judged block (length list) .answer)
+pub gsi-read-whole : (block : List ℕ) (list : List Word) {r : ℕ} {list′ : List Word} → ReadsC block list r list′
+    → r ≡ readWhole (judged block (length list) .answer)
 gsi-read-whole block list h = h .0 ∙ read-whole block (length list)
 
-pub gsi-write-whole : (list : List Word) (wide crlf : ℕ) (room : List ℕ) {r : ℕ} {room′ : List ℕ} → WritesC list wide crlf room r room′ → r ≡ wroteWhole (written list (isYes wide) (isYes crlf) room .answer)
+pub gsi-write-whole : (list : List Word) (wide crlf : ℕ) (room : List ℕ) {r : ℕ} {room′ : List ℕ} → WritesC list wide crlf room r room′
+    → r ≡ wroteWhole (written list (isYes wide) (isYes crlf) room .answer)
 gsi-write-whole list wide crlf room h = h .0 ∙ wrote-whole list (isYes wide) (isYes crlf) room

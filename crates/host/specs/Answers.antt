@@ -1,4 +1,4 @@
--- What the C functions answer: "number * 2^32 + told".
+-- What the C functions answer: number * 2^32 + told, our own packing.
 use Prim.Native.Nat.{ℕ, _+_, _*_, _%_}
 use mathlib.Core.Path.{_≡_}
 use mathlib.Core.Bool.{Bool, cond, not}
@@ -26,7 +26,7 @@ refusedTold r = packed (refusalNumber r) (refusalTells r)
 abbrev pub bitOf : Bool → ℕ → ℕ
 bitOf on weight = cond on weight 0
 
--- "told when read: bytes used + 2^16 * words + 2^24 * (1 if wide) + 2^25 * (1 if CR LF)", each in its own bits
+-- told when read: bytes used + 2^16 * words + 2^24 * (1 if wide) + 2^25 * (1 if CR LF), each in its own bits
 abbrev pub readingTold : Reading → ℕ
 readingTold k = k .used % 65536 + k .words % 256 * 65536 + bitOf (k .wide) 16777216 + bitOf (k .crlf) 33554432
 
@@ -34,7 +34,7 @@ abbrev pub readTold : Answer → ℕ
 readTold (answer.Refused r) = refusedTold r
 readTold (answer.Read k) = readingTold k
 
--- "told when written: the bytes"
+-- told when written: the bytes
 abbrev pub wroteTold : Wrote → ℕ
 wroteTold (wrote.Refused r) = refusedTold r
 wroteTold (wrote.Written n) = packed 0 n
@@ -51,7 +51,7 @@ abbrev pub wroteWhole : Wrote → ℕ
 wroteWhole (wrote.Refused r) = refusedWhole r
 wroteWhole (wrote.Written n) = n
 
--- "wide and crlf: 0 is no, any other number is yes"
+-- wide and crlf: 0 is no, any other number is yes
 abbrev pub isYes : ℕ → Bool
 isYes n = not (eqb n 0)
 

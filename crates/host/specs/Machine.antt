@@ -11,7 +11,8 @@ use Rattle.lines.specs.Verdicts.{verdictNumber}
 use Rattle.lines.specs.Machine.{call}
 use Rattle.lines.specs.declared.machine.Told.{Told}
 use Rattle.sheets.specs.Answers.{sheetNumber, sheetTells}
-use Rattle.sheets.specs.Loading.{loaded, writtenSheet}
+use Rattle.sheets.specs.Sheet.{writtenSheet}
+use Rattle.sheets.specs.Loading.{loaded}
 use Rattle.sheets.specs.declared.answers.Sheeted.{Sheeted}
 use Rattle.host.specs.Answers.{packed}
 

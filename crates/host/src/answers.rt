@@ -1,7 +1,7 @@
 // An answer as one number: its own number in the high 32 bits, what it tells in the low ones.
 ghost use mathlib.Core.Path.{_≡_};
 ghost use Prim.Native.Nat.{_≤_};
-ghost use Rattle.blocks.specs.Composing.{listOf};
+ghost use Rattle.blocks.specs.Keeping.{listOf};
 ghost use Rattle.host.specs.Answers.{packed, bitOf, refusedTold, readingTold, readTold, wroteTold, WritesC};
 use blocks::answers::Answer;
 use blocks::answers::Reading;

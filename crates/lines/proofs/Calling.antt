@@ -10,7 +10,7 @@ use lib.ListN.{length, take}
 use lib.Seq.{length-take-le}
 use Rattle.figures.specs.Bytes.{laid}
 use Rattle.state.specs.Entries.{entriesN}
-use Rattle.state.specs.Image.{imageN, imageOf, encodedIn, stateIn, decodeOf}
+use Rattle.state.specs.Image.{imageN, imageOf, encodedIn, stateIn, isImage, decodeOf}
 use Rattle.state.specs.declared.entries.State.{State}
 use Rattle.state.specs.declared.image.Known.the-variants.{Not, Is}
 use Rattle.state.specs.declared.image.Decoded.{Decoded}
@@ -18,11 +18,13 @@ use Rattle.state.proofs.Images.{image-of, decoded-is, decoded-not}
 use Rattle.lines.specs.Shapes.{fromEnd, endOf, textOf, isPlain, isEnded, orderOf}
 use Rattle.lines.specs.Verdicts.{isAccepted, orderVerdict}
 use Rattle.lines.specs.Orders.{doneOf}
-use Rattle.lines.specs.Replies.{endBytes, wrong, bodyOf}
-use Rattle.lines.specs.Machine.{Outcome, outcome, run, step, told, ranOf, Ends, played, call, Calls}
+use Rattle.lines.specs.Replies.{replyEnd, wrong, bodyOf}
+use Rattle.lines.specs.Machine.{Outcome, outcome, run, told, Calls}
+use Rattle.lines.specs.Keeping.{ranOf, Ends}
 use Rattle.lines.specs.declared.shapes.Order.{Order}
 use Rattle.lines.specs.declared.verdicts.Verdict.{Verdict}
-use Rattle.lines.specs.declared.verdicts.Verdict.the-variants.{Accepted, Unended, Long, Shape, Setting, Parameter, Index, Word, NeverPut, Full, NoEntry, Room, NoState}
+use Rattle.lines.specs.declared.verdicts.Verdict.the-variants.{Accepted, Unended, Long, Shape, Setting, Parameter, Index, Word, NeverPut}
+use Rattle.lines.specs.declared.verdicts.Verdict.the-variants.{Full, NoEntry, Room, NoState}
 use Rattle.lines.specs.declared.machine.Ran.{Ran}
 use Rattle.lines.proofs.Shape.{from-start}
 use Rattle.lines.proofs.Replying.{laid-none}
@@ -74,56 +76,71 @@ accepted-is Room e = absurd (false≢true e)
 accepted-is NoState e = absurd (false≢true e)
 
 module _ (s : State) (line : List ℕ) where
-  run-unended : isEnded line ≡ false → run s line ≡ outcome Unended (wrong ++ endBytes s) s
+  run-unended : isEnded line ≡ false → run s line ≡ outcome Unended (wrong ++ replyEnd s) s
   run-unended e = rw e
 
-  run-long : isEnded line ≡ true → 100 < length (textOf line) → run s line ≡ outcome Long (wrong ++ endBytes s) s
+  run-long : isEnded line ≡ true → 100 < length (textOf line) → run s line ≡ outcome Long (wrong ++ replyEnd s) s
   run-long e h = rw (e, lt-leb (length (textOf line)) 100 h)
 
-  run-judged : isEnded line ≡ true → length (textOf line) ≤ 100 → (v : Verdict) → v ≡ orderVerdict s (textOf line) (orderOf (textOf line)) → isAccepted v ≡ false
-      → run s line ≡ outcome v (wrong ++ endBytes s) s
+  run-judged : isEnded line ≡ true → length (textOf line) ≤ 100 → (v : Verdict) → v ≡ orderVerdict s (textOf line) (orderOf (textOf line))
+      → isAccepted v ≡ false → run s line ≡ outcome v (wrong ++ replyEnd s) s
   run-judged e h v q n = rw (e, le-leb (length (textOf line)) 100 h, ← q, n)
 
   run-accepted : isEnded line ≡ true → length (textOf line) ≤ 100 → orderVerdict s (textOf line) (orderOf (textOf line)) ≡ Accepted
-      → run s line ≡ outcome Accepted (bodyOf s (textOf line) (orderOf (textOf line)) ++ endBytes s) (doneOf s (textOf line) (orderOf (textOf line)))
+      → run s line ≡ outcome Accepted (bodyOf s (textOf line) (orderOf (textOf line)) ++ replyEnd s) (doneOf s (textOf line) (orderOf (textOf line)))
   run-accepted e h q = rw (e, le-leb (length (textOf line)) 100 h, q)
 
-  -- the same as the code finds it: its end, its text, whether that is plain, its order and its verdict
-  module _ (e : ℕ) (ends : e ≡ endOf line) where
-    abbrev part : List ℕ
-    part = take ((length line - e) - 0) line
+  -- the same as the code finds it: the text before the end, and whether that is plain
+  abbrev part : ℕ → List ℕ
+  part e = take ((length line - e) - 0) line
 
-    text-is : part ≡ textOf line
+  module _ (e : ℕ) (ends : e ≡ endOf line) where
+    text-is : part e ≡ textOf line
     text-is = from-start (length line - e) line ∙ ap (λ (k : ℕ). take (length line - k) line) ends
 
     text-length : length (textOf line) ≡ length line - e
     text-length = length-take-le (length line - endOf line) line (omega arith) ∙ omega arith
 
-    pub found-none : e ≡ 0 → run s line ≡ outcome Unended (wrong ++ endBytes s) s
+    pub found-none : e ≡ 0 → run s line ≡ outcome Unended (wrong ++ replyEnd s) s
     found-none z = run-unended (ap (λ (b : Bool). b && isPlain (textOf line)) (le-ltb 0 (endOf line) (omega arith)))
 
-    module _ (some : e ≡ 0 → ⊥) (plain : Bool) (is : plain ≡ isPlain part) where
+    module _ (some : e ≡ 0 → ⊥) (plain : Bool) (is : plain ≡ isPlain (part e)) where
       ended : isEnded line ≡ plain
       ended = ap (λ (b : Bool). b && isPlain (textOf line)) (lt-ltb 0 (endOf line) (omega arith)) ∙ sym (is ∙ ap isPlain text-is)
 
-      pub found-broken : plain ≡ false → run s line ≡ outcome Unended (wrong ++ endBytes s) s
+      pub found-broken : plain ≡ false → run s line ≡ outcome Unended (wrong ++ replyEnd s) s
       found-broken z = run-unended (ended ∙ z)
 
-      pub found-long : plain ≡ true → 100 < length line - e → run s line ≡ outcome Long (wrong ++ endBytes s) s
+      pub found-long : plain ≡ true → 100 < length line - e → run s line ≡ outcome Long (wrong ++ replyEnd s) s
       found-long y h = run-long (ended ∙ y) (omega (arith, text-length))
 
-      module _ (y : plain ≡ true) (few : length line - e ≤ 100) (o : Order) (eo : o ≡ orderOf part) (v : Verdict) (ev : v ≡ orderVerdict s part o) where
-        judged : v ≡ orderVerdict s (textOf line) (orderOf (textOf line))
-        judged = ev ∙ rw (eo, text-is)
+  -- a line that is ended, plain and short enough, as the code finds it: the length of its end, its order and its verdict
+  pub record Judged (e : ℕ) (o : Order) (v : Verdict) : Type 0 where
+    pub ends : e ≡ endOf line
+    pub some : e ≡ 0 → ⊥
+    pub plain : isPlain (part e) ≡ true
+    pub few : length line - e ≤ 100
+    pub order : o ≡ orderOf (part e)
+    pub verdict : v ≡ orderVerdict s (part e) o
 
-        pub found-refused : isAccepted v ≡ false → run s line ≡ outcome v (wrong ++ endBytes s) s
-        found-refused n = run-judged (ended ∙ y) (omega (arith, text-length)) v judged n
+  module _ (e : ℕ) (o : Order) (v : Verdict) (j : Judged e o v) where
+    is-ended : isEnded line ≡ true
+    is-ended = ended e (j .ends) (j .some) true (sym (j .plain))
 
-        pub found-accepts : isAccepted v ≡ true → (orderVerdict s part o ≡ Accepted) × (length part ≤ 100)
-        found-accepts a = (sym ev ∙ accepted-is v a, omega (arith, ap length text-is, text-length))
+    is-short : length (textOf line) ≤ 100
+    is-short = omega (arith, text-length e (j .ends), j .few)
 
-        pub found-accepted : isAccepted v ≡ true → run s line ≡ outcome Accepted (bodyOf s part o ++ endBytes s) (doneOf s part o)
-        found-accepted a = run-accepted (ended ∙ y) (omega (arith, text-length)) (sym judged ∙ accepted-is v a) ∙ rw (eo, text-is)
+    judged : v ≡ orderVerdict s (textOf line) (orderOf (textOf line))
+    judged = j .verdict ∙ rw (j .order, text-is e (j .ends))
+
+    pub found-refused : isAccepted v ≡ false → run s line ≡ outcome v (wrong ++ replyEnd s) s
+    found-refused n = run-judged is-ended is-short v judged n
+
+    pub found-accepts : isAccepted v ≡ true → (orderVerdict s (part e) o ≡ Accepted) × (length (part e) ≤ 100)
+    found-accepts a = (sym (j .verdict) ∙ accepted-is v a, omega (arith, ap length (text-is e (j .ends)), is-short))
+
+    pub found-accepted : isAccepted v ≡ true → run s line ≡ outcome Accepted (bodyOf s (part e) o ++ replyEnd s) (doneOf s (part e) o)
+    found-accepted a = run-accepted is-ended is-short (sym judged ∙ accepted-is v a) ∙ rw (j .order, text-is e (j .ends))
 
 -- the image
 
@@ -137,13 +154,25 @@ module _ (image : List ℕ) (d : Decoded) (e : d ≡ decodeOf image) where
   pub call-none : d .answer ≡ Not → (line room : List ℕ) → Calls image line room (told NoState 0) image room
   call-none q line room = rw (decoded-not image d e q) (refl, (refl, refl))
 
-  pub call-some : d .answer ≡ Is → (line room : List ℕ) (r : Ran) (image′ room′ : List ℕ) → Ends (d .state) (run (d .state) line) room r room′
-      → image′ ≡ encodedIn (r .state) image → Calls image line room (r .told) image′ room′
-  call-some q line room r image′ room′ h l =
-      let i = decoded-is image d e q in
-      let s = stateIn image in
-      let f = subst (λ (t : State). Ends t (run t line) room r room′) (i .1) h in
-      let is : call image line room ≡ played (step s line (length room)) room = ap (λ (b : Bool). cond b (played (step s line (length room)) room) (record { answer = told NoState 0; image = image; room = room })) (i .0) in
-      let long : eqb (length image) imageN ≡ true = and-eq-true-iff (eqb (length image) imageN) _ .0 (i .0) .0 in
-      let down : image′ ≡ imageOf (step s line (length room) .next) = l ∙ ap (λ (b : Bool). cond b (imageOf (r .state)) image) long ∙ ap (λ (x : Ran). imageOf (x .state)) (f .0) in
-      rw is (ap (λ (x : Ran). x .told) (f .0), (down, f .1))
+-- a line that ran on the state of a lent image
+pub record RanOn (image line room : List ℕ) (r : Ran) (room′ : List ℕ) : Type 0 where
+  pub decoded : Decoded
+  pub is : decoded ≡ decodeOf image
+  pub known : decoded .answer ≡ Is
+  pub ends : Ends (decoded .state) (run (decoded .state) line) room r room′
+
+module _ (image line room : List ℕ) (r : Ran) (room′ : List ℕ) (h : RanOn image line room r room′) where
+  pub ran-image : isImage image ≡ true
+  ran-image = decoded-is image (h .decoded) (h .is) (h .known) .0
+
+  pub ran-ends : Ends (stateIn image) (run (stateIn image) line) room r room′
+  ran-ends = subst (λ (s : State). Ends s (run s line) room r room′) (decoded-is image (h .decoded) (h .is) (h .known) .1) (h .ends)
+
+  -- laid down, as the image is as long as one
+  pub laid-down : (s : State) → encodedIn s image ≡ imageOf s
+  laid-down s = let long : eqb (length image) imageN ≡ true = and-eq-true-iff (eqb (length image) imageN) _ .0 ran-image .0 in rw long
+
+  pub call-some : (image′ : List ℕ) → image′ ≡ encodedIn (r .state) image → Calls image line room (r .told) image′ room′
+  call-some image′ l =
+      let down = l ∙ laid-down (r .state) ∙ ap (λ (x : Ran). imageOf (x .state)) (ran-ends .0) in
+      rw ran-image (ap (λ (x : Ran). x .told) (ran-ends .0), (down, ran-ends .1))

@@ -1,29 +1,31 @@
 -- What an accepted line does to a state leaves a state: SET and PUT within their rows, UNDO and KEEP.
-use Prim.Native.Nat.{ℕ, zero, suc, _-_, _<_, _≤_}
+use Prim.Native.Nat.{ℕ, zero, suc, _-_, _<_}
 use mathlib.Core.Path.{_≡_, refl, sym, ap, _∙_}
 use mathlib.Core.Bool.{Bool, true, false, _&&_, and-eq-true-iff}
 use mathlib.Core.List.{List}
 use native.Mathlib.Nat.{zero-add}
 use native.Mathlib.Numerals.{add-one}
 use native.Mathlib.Omega.{arith}
-use borrow.Author.Tests.{leb-true, le-leb, lt-ltb, eq-eqb, ne-eqb}
-use lib.Dec.{eqb, leb, ltb}
+use borrow.Author.Tests.{lt-ltb, eq-eqb, ne-eqb}
+use lib.Dec.{eqb, ltb}
 use lib.ListN.{length, getD, set, length-set, List·getD-map}
 use lib.Seq.{getD-set-same, set-set, set-getD}
-use Rattle.state.specs.Settings.{rows, row, rowAt, inRanges}
-use Rattle.state.specs.Values.{isPut, keptRight}
-use Rattle.state.specs.Entries.{settingsN, valuesN, entriesN, valueOf, entryOf, blankEntry, isNever, itemRight, entryRight, entriesRight, valuesRight, putsOf, backRight, putsBack, sound}
-use Rattle.state.specs.declared.values.Kept.{Kept}
-use Rattle.state.specs.declared.values.Kept.the-variants.{Never}
-use Rattle.state.specs.declared.values.Value.{Value}
+use Rattle.instrument.specs.Settings.{rows, noRow, rowAt, inRange, inRanges, settingsN}
+use Rattle.instrument.specs.Values.{isPut, keptRight, valuesN}
+use Rattle.state.specs.Entries.{entriesN, valueOf, entryOf, blankEntry, isNever}
+use Rattle.state.specs.Entries.{itemRight, entryRight, entriesRight, valuesRight, putsOf, backRight, putsBack, sound}
+use Rattle.instrument.specs.declared.values.Kept.{Kept}
+use Rattle.instrument.specs.declared.values.Kept.the-variants.{Never}
+use Rattle.instrument.specs.declared.values.Value.{Value}
 use Rattle.state.specs.declared.entries.Item.{Item}
 use Rattle.state.specs.declared.entries.Item.the-variants.{Free, Setting, Stored}
 use Rattle.state.specs.declared.entries.Former.{Former}
 use Rattle.state.specs.declared.entries.Entry.{Entry}
 use Rattle.state.specs.declared.entries.State.{State}
-use Rattle.lines.specs.Verdicts.{valueIn}
+use Rattle.lines.specs.Verdicts.{valueHeld}
 use Rattle.lines.specs.Orders.{setOf, putOf, settingsBack, valuesBack, newest, takenBack, undoOf, keepOf}
-use Rattle.lines.proofs.Parts.{Parts, both, ranges-at, ranges-set, values-at, values-set, entries-stand, entries-push, entries-pop, sound-past, map-set}
+use Rattle.instrument.proofs.Ranges.{ranges-at}
+use Rattle.lines.proofs.Parts.{Parts, both, ranges-set, values-at, values-set, entries-stand, entries-push, entries-pop, sound-past, map-set}
 use Rattle.lines.proofs.Undone.{added}
 
 sound-turn : (n : ℕ) (puts : List Bool) (u : List Entry) (e : Entry) → getD u n blankEntry ≡ e
@@ -54,22 +56,23 @@ module _ (s : State) (settings : List ℕ) (values : List Value) (e : Entry) (p 
         back = rw add-one (added-sound named back);
       }
 
-pub set-parts : (s : State) (i q : ℕ) → Parts s → s .count < entriesN → i < settingsN → q ≤ rowAt i .highest → Parts (setOf s i q)
+pub set-parts : (s : State) (i q : ℕ) → Parts s → s .count < entriesN → i < settingsN → inRange (rowAt i) q ≡ true → Parts (setOf s i q)
 set-parts s i q p free place high =
     let was = getD (s .settings) i 0 in
-    let entry = both (lt-ltb i settingsN place) (both (le-leb was (rowAt i .highest) (ranges-at rows (s .settings) i (row 0 0 0) (p .ranges))) refl) in
+    let entry = both (lt-ltb i settingsN place) (both (ranges-at rows (s .settings) i (p .ranges)) refl) in
     added-parts s (set (s .settings) i q) (s .values) (entryOf (Setting i) was Never) p free
-    (ranges-set rows (s .settings) i q (row 0 0 0) (p .ranges) high) (p .values-long) (p .values-right) entry refl refl
+    (ranges-set rows (s .settings) i q noRow (p .ranges) high) (p .values-long) (p .values-right) entry refl refl
 
 pub put-parts : (s : State) (i : ℕ) (k : Kept) → Parts s → s .count < entriesN → i < valuesN → isPut k ≡ true → keptRight i k ≡ true → Parts (putOf s i k)
 put-parts s i k p free place put right =
     let vs = s .values in
-    let was = valueIn vs i .kept in
+    let was = valueHeld vs i .kept in
     let put-at : Value → Bool = λ v. isPut (v .kept) in
     let entry = both (lt-ltb i valuesN place) (both {a = eqb 0 0} refl (rw zero-add at (values-at 0 vs i (p .values-right)))) in
     let puts : putsOf (set vs i (valueOf k)) ≡ set (putsOf vs) i (isPut k) = map-set put-at vs i (valueOf k) in
+    let held = getD-set-same vs i (valueOf k) (valueOf Never) (omega (arith, p .values-long)) in
     let named : getD (putsOf (set vs i (valueOf k))) i false ≡ true =
-    List·getD-map put-at (set vs i (valueOf k)) i (valueOf Never) ∙ ap put-at (getD-set-same vs i (valueOf k) (valueOf Never) (omega (arith, p .values-long))) ∙ put
+    List·getD-map put-at (set vs i (valueOf k)) i (valueOf Never) ∙ ap put-at held ∙ put
     in
     let back : set (putsOf (set vs i (valueOf k))) i (isPut was) ≡ putsOf vs =
     rw puts
@@ -85,10 +88,10 @@ settings-kept : (i : Item) (f : Former) (l : List ℕ) → inRanges rows l ≡ t
     → inRanges rows (settingsBack l i f) ≡ true
 settings-kept Free f l e h = e
 settings-kept (Setting i) f l e h =
-    let high = leb (f .parameter) (rowAt i .highest) in
+    let high = inRange (rowAt i) (f .parameter) in
     let never = isNever (f .kept) in
     let right = and-eq-true-iff high never .0 (and-eq-true-iff (ltb i settingsN) (high && never) .0 h .1) in
-    ranges-set rows l i (f .parameter) (row 0 0 0) e (leb-true (f .parameter) (rowAt i .highest) (right .0))
+    ranges-set rows l i (f .parameter) noRow e (right .0)
 settings-kept (Stored i) f l e h = e
 
 values-kept : (i : Item) (f : Former) (l : List Value) → valuesRight 0 l ≡ true → itemRight i (f .parameter) (f .kept) ≡ true
@@ -122,6 +125,7 @@ module _ (s : State) (p : Parts s) where
       let back : backRight (putsOf (s .values)) (e .item) && sound n puts u ≡ true =
       sym (sound-turn n (putsOf (s .values)) u e last) ∙ (rw count at (p .back))
       in
+      let left = and-eq-true-iff (backRight (putsOf (s .values)) (e .item)) (sound n puts u) .0 back .1 in
       record {
         few = omega (arith, p .few);
         ranges = settings-kept (e .item) f (s .settings) (p .ranges) entry;
@@ -129,7 +133,7 @@ module _ (s : State) (p : Parts s) where
         values-right = values-kept (e .item) f (s .values) (p .values-right) entry;
         undo-long = length-set u (s .count - 1) blankEntry ∙ p .undo-long;
         entries-right = rw less (entries-pop u n (rw count at (p .entries-right)));
-        back = rw (less, puts-kept (e .item) f (s .values)) (sound-past n puts u n blankEntry (omega arith) ∙ and-eq-true-iff (backRight (putsOf (s .values)) (e .item)) (sound n puts u) .0 back .1);
+        back = rw (less, puts-kept (e .item) f (s .values)) (sound-past n puts u n blankEntry (omega arith) ∙ left);
       }
 
   pub undo-parts : Parts (undoOf s)

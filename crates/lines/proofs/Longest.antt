@@ -10,15 +10,15 @@ use lib.ListN.{length, length-append}
 use Rattle.state.specs.declared.entries.State.{State}
 use Rattle.lines.specs.Shapes.{isEnded, textOf, orderOf}
 use Rattle.lines.specs.Verdicts.{isAccepted, orderVerdict, lineVerdict}
-use Rattle.lines.specs.Replies.{endsLf, endBytes, wrong, bodyOf}
+use Rattle.lines.specs.Replies.{endsLf, replyEnd, wrong, bodyOf}
 use Rattle.lines.specs.Machine.{run, step}
 use Rattle.lines.proofs.Replying.{end-long, body-short}
 use Rattle.lines.proofs.Calling.{accepted-is}
 use Rattle.lines.proofs.Runs.{judged}
 
-ended-most : (s : State) (body : List ℕ) (b : Bool) → (b ≡ true → length body ≤ 304) → length (cond b body wrong ++ endBytes s) ≤ 306
-ended-most s body true h = omega (arith, h refl, length-append body (endBytes s), end-long (endsLf s))
-ended-most s body false h = omega (arith, length-append wrong (endBytes s), end-long (endsLf s))
+ended-most : (s : State) (body : List ℕ) (b : Bool) → (b ≡ true → length body ≤ 304) → length (cond b body wrong ++ replyEnd s) ≤ 306
+ended-most s body true h = omega (arith, h refl, length-append body (replyEnd s), end-long (endsLf s))
+ended-most s body false h = omega (arith, length-append wrong (replyEnd s), end-long (endsLf s))
 
 pub reply-most : (s : State) (line : List ℕ) → length (run s line .reply) ≤ 306
 reply-most s line =

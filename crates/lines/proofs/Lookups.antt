@@ -10,15 +10,13 @@ use lib.ListN.{length, getD, drop, length-drop}
 use lib.Seq.{getD-drop, drop-drop}
 use Rattle.figures.specs.Decimal.{isDigit}
 use Rattle.units.specs.Kinds.{indexOf}
-use Rattle.state.specs.Rows.{seek}
-use Rattle.state.specs.Settings.{row, rows, settingAt}
-use Rattle.state.specs.Values.{unitsOf, stored, storedAt, valueAt}
-use Rattle.state.specs.Entries.{settingsN, valuesN}
-use Rattle.state.specs.declared.settings.Row.{Row}
-use Rattle.state.specs.declared.settings.Found.the-variants.{Nothing, At}
-use Rattle.state.specs.declared.values.Stored.{Stored}
-use Rattle.state.specs.declared.values.Value.{Value}
-use Rattle.state.proofs.Seek.{found-at}
+use Rattle.instrument.specs.Rows.{seek}
+use Rattle.instrument.specs.Settings.{rows, noRow, settingNumber, settingPlace, settingsN}
+use Rattle.instrument.specs.Values.{stored, noStored, storedAt, indexNumber, valuePlace, valuesN}
+use Rattle.instrument.specs.declared.settings.Row.{Row}
+use Rattle.instrument.specs.declared.settings.Found.the-variants.{Nothing, At}
+use Rattle.instrument.specs.declared.values.Value.{Value}
+use Rattle.instrument.proofs.Seek.{found-at}
 use Rattle.lines.specs.Shapes.{groupsIn}
 use Rattle.lines.specs.Verdicts.{placeNamed, getBy, getVerdict}
 use Rattle.lines.specs.declared.verdicts.Verdict.the-variants.{Accepted}
@@ -27,36 +25,39 @@ use Rattle.lines.specs.declared.verdicts.Verdict.the-variants.{Accepted}
 
 fourDigits : List Row → Bool
 fourDigits [] = true
-fourDigits (r ∷ l) = leb (r .number) 9999 && fourDigits l
+fourDigits (r ∷ l) = leb (settingNumber r) 9999 && fourDigits l
 
-seek-above : (l : List Row) (i n : ℕ) → fourDigits l ≡ true → 9999 < n → seek (λ (r : Row). r .number) l i n ≡ Nothing
+seek-above : (l : List Row) (i n : ℕ) → fourDigits l ≡ true → 9999 < n → seek settingNumber l i n ≡ Nothing
 unfolding seek fourDigits
 seek-above [] i n e h = refl
 seek-above (r ∷ l) i n e h =
-    let both = and-eq-true-iff (leb (r .number) 9999) (fourDigits l) .0 e in
-    rw (ne-eqb (r .number) n (λ q. omega (arith, leb-true (r .number) 9999 (both .0)))) (seek-above l (i + 1) n (both .1) h)
+    let both = and-eq-true-iff (leb (settingNumber r) 9999) (fourDigits l) .0 e in
+    rw (ne-eqb (settingNumber r) n (λ q. omega (arith, leb-true (settingNumber r) 9999 (both .0)))) (seek-above l (i + 1) n (both .1) h)
 
-pub setting-none : (n : ℕ) → 9999 < n → settingAt n ≡ Nothing
+pub setting-none : (n : ℕ) → 9999 < n → settingPlace n ≡ Nothing
 unfolding rows fourDigits
 setting-none n h = seek-above rows 0 n refl h
 
 -- a place that is found is one of the list
 
-pub setting-in : (n i : ℕ) → settingAt n ≡ At i → i < settingsN
+pub setting-in : (n i : ℕ) → settingPlace n ≡ At i → i < settingsN
 unfolding rows
-setting-in n i e = found-at (λ (r : Row). r .number) rows (row 0 0 0) n i e .0
+setting-in n i e = found-at settingNumber rows noRow n i e .0
 
-pub value-found : (n i : ℕ) → valueAt n ≡ At i → (i < valuesN) × (storedAt i .index ≡ n)
+pub value-found : (n i : ℕ) → valuePlace n ≡ At i → (i < valuesN) × (indexNumber (storedAt i) ≡ n)
 unfolding stored
-value-found n i e = found-at (λ (r : Stored). r .index) stored (unitsOf 0 0 0) n i e
+value-found n i e = found-at indexNumber stored noStored n i e
 
-pub named : (a b i : ℕ) → placeNamed a b ≡ At i → (isDigit a ≡ true) × (isDigit b ≡ true) × (valueAt (indexOf a b) ≡ At i)
+abbrev Digits : ℕ → ℕ → ℕ → Type 0
+Digits a b i = (isDigit a ≡ true) × (isDigit b ≡ true) × (valuePlace (indexOf a b) ≡ At i)
+
+pub named : (a b i : ℕ) → placeNamed a b ≡ At i → Digits a b i
 named a b i e = go (isDigit a) (isDigit b) refl refl e
   where
     none : {A : Type 0} → Nothing ≡ At i → A
     none q = let z : _≡_ {A = ℕ} 0 1 = cc in absurd (omega arith)
 
-    go : (d d′ : Bool) → isDigit a ≡ d → isDigit b ≡ d′ → cond (d && d′) (valueAt (indexOf a b)) Nothing ≡ At i → (isDigit a ≡ true) × (isDigit b ≡ true) × (valueAt (indexOf a b) ≡ At i)
+    go : (d d′ : Bool) → isDigit a ≡ d → isDigit b ≡ d′ → cond (d && d′) (valuePlace (indexOf a b)) Nothing ≡ At i → Digits a b i
     go false d′ p p′ e = none e
     go true false p p′ e = none e
     go true true p p′ e = (p, p′, e)

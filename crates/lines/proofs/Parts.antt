@@ -9,12 +9,13 @@ use borrow.Author.Tests.{eqb-true, eq-eqb, leb-true, le-leb, lt-ltb, le-ltb}
 use lib.Dec.{eqb, leb, ltb}
 use lib.ListN.{length, getD, set}
 use lib.Seq.{getD-set-other}
-use Rattle.state.specs.Settings.{rows, inRanges}
-use Rattle.state.specs.Values.{keptRight}
-use Rattle.state.specs.Entries.{valuesN, entriesN, valueOf, blankEntry, isBlank, entryRight, entriesRight, valuesRight, putsOf, backRight, putsBack, sound, isState}
-use Rattle.state.specs.declared.settings.Row.{Row}
-use Rattle.state.specs.declared.values.Kept.the-variants.{Never}
-use Rattle.state.specs.declared.values.Value.{Value}
+use Rattle.instrument.specs.Settings.{rows, inRanges, inRange}
+use Rattle.instrument.specs.Values.{keptRight, valuesN}
+use Rattle.state.specs.Entries.{entriesN, valueOf, blankEntry, isBlank}
+use Rattle.state.specs.Entries.{entryRight, entriesRight, valuesRight, putsOf, backRight, putsBack, sound, isState}
+use Rattle.instrument.specs.declared.settings.Row.{Row}
+use Rattle.instrument.specs.declared.values.Kept.the-variants.{Never}
+use Rattle.instrument.specs.declared.values.Value.{Value}
 use Rattle.state.specs.declared.entries.Entry.{Entry}
 use Rattle.state.specs.declared.entries.State.{State}
 
@@ -68,22 +69,14 @@ state-path s t a b c d = λ i. record { settings = a i; values = b i; undo = c i
 
 -- settings
 
-pub ranges-at : (rs : List Row) (ps : List ℕ) (i : ℕ) (d : Row) → inRanges rs ps ≡ true → getD ps i 0 ≤ getD rs i d .highest
-unfolding inRanges
-ranges-at [] [] i d e = omega arith
-ranges-at [] (p ∷ ps) i d e = absurd (false≢true e)
-ranges-at (r ∷ rs) [] i d e = absurd (false≢true e)
-ranges-at (r ∷ rs) (p ∷ ps) zero d e = leb-true p (r .highest) (and-eq-true-iff (leb p (r .highest)) (inRanges rs ps) .0 e .0)
-ranges-at (r ∷ rs) (p ∷ ps) (suc i) d e = ranges-at rs ps i d (and-eq-true-iff (leb p (r .highest)) (inRanges rs ps) .0 e .1)
-
-pub ranges-set : (rs : List Row) (ps : List ℕ) (i p : ℕ) (d : Row) → inRanges rs ps ≡ true → p ≤ getD rs i d .highest → inRanges rs (set ps i p) ≡ true
+pub ranges-set : (rs : List Row) (ps : List ℕ) (i p : ℕ) (d : Row) → inRanges rs ps ≡ true → inRange (getD rs i d) p ≡ true → inRanges rs (set ps i p) ≡ true
 unfolding inRanges
 ranges-set [] [] i p d e h = refl
 ranges-set [] (q ∷ ps) i p d e h = absurd (false≢true e)
 ranges-set (r ∷ rs) [] i p d e h = absurd (false≢true e)
-ranges-set (r ∷ rs) (q ∷ ps) zero p d e h = both (le-leb p (r .highest) h) (and-eq-true-iff (leb q (r .highest)) (inRanges rs ps) .0 e .1)
+ranges-set (r ∷ rs) (q ∷ ps) zero p d e h = both h (and-eq-true-iff (inRange r q) (inRanges rs ps) .0 e .1)
 ranges-set (r ∷ rs) (q ∷ ps) (suc i) p d e h =
-    let t = and-eq-true-iff (leb q (r .highest)) (inRanges rs ps) .0 e in
+    let t = and-eq-true-iff (inRange r q) (inRanges rs ps) .0 e in
     both (t .0) (ranges-set rs ps i p d (t .1) h)
 
 -- values, those at the places from k on
@@ -96,7 +89,8 @@ values-at k (v ∷ vs) (suc i) e =
     let q : k + suc i ≡ k + 1 + i = omega arith in
     rw q (values-at (k + 1) vs i (and-eq-true-iff (keptRight k (v .kept)) (valuesRight (k + 1) vs) .0 e .1))
 
-pub values-set : (k : ℕ) (vs : List Value) (i : ℕ) (v : Value) → valuesRight k vs ≡ true → keptRight (k + i) (v .kept) ≡ true → valuesRight k (set vs i v) ≡ true
+pub values-set : (k : ℕ) (vs : List Value) (i : ℕ) (v : Value) → valuesRight k vs ≡ true → keptRight (k + i) (v .kept) ≡ true
+    → valuesRight k (set vs i v) ≡ true
 unfolding valuesRight
 values-set k [] i v e h = refl
 values-set k (w ∷ vs) zero v e h = both (rw add-zero at h) (and-eq-true-iff (keptRight k (w .kept)) (valuesRight (k + 1) vs) .0 e .1)

@@ -11,18 +11,19 @@ use Rattle.figures.specs.Bytes.{laid}
 use Rattle.figures.specs.Decimal.{digitsOf}
 use Rattle.figures.proofs.Bytes.{laid-fits, laid-on, length-on}
 use Rattle.figures.proofs.Decimal.{digits-on, digits-length}
-use Rattle.state.specs.Settings.{settingAt}
-use Rattle.state.specs.Values.{isPut, getWord}
-use Rattle.state.specs.Entries.{valuesN}
-use Rattle.state.specs.declared.settings.Found.{Found}
-use Rattle.state.specs.declared.settings.Found.the-variants.{Nothing, At}
-use Rattle.state.specs.declared.values.Kept.{Kept}
-use Rattle.state.specs.declared.values.Kept.the-variants.{Never, Put}
-use Rattle.state.specs.declared.values.Value.{Value}
+use Rattle.instrument.specs.Settings.{settingPlace}
+use Rattle.instrument.specs.Values.{isPut, getWord, valuesN}
+use Rattle.instrument.specs.declared.settings.Found.{Found}
+use Rattle.instrument.specs.declared.settings.Found.the-variants.{Nothing, At}
+use Rattle.instrument.specs.declared.values.Kept.{Kept}
+use Rattle.instrument.specs.declared.values.Kept.the-variants.{Never, Put}
+use Rattle.instrument.specs.declared.values.Value.{Value}
 use Rattle.state.specs.declared.entries.State.{State}
 use Rattle.lines.specs.Shapes.{groupsIn, orderOf}
-use Rattle.lines.specs.Verdicts.{confBy, confVerdict, placeNamed, valueIn, getBy, getVerdict, orderVerdict}
-use Rattle.lines.specs.Replies.{endsLf, lineEnd, endBytes, confBody, getBody, bodyOf, GetFits}
+use Rattle.lines.specs.Verdicts.{confBy, confVerdict, placeNamed, valueHeld, getBy, getVerdict, orderVerdict}
+use Rattle.lines.specs.Replies.{endsLf, replyEnd, confBody, getBody, bodyOf}
+use Rattle.lines.specs.Keeping.{GetFits}
+use Rattle.figures.specs.Text.{endBytes}
 use Rattle.lines.specs.declared.shapes.Order.{Order}
 use Rattle.lines.specs.declared.shapes.Order.the-variants as order
 use Rattle.lines.specs.declared.verdicts.Verdict.{Verdict}
@@ -38,7 +39,7 @@ not-both f i p q = let z : _≡_ {A = ℕ} 0 1 = cc in omega arith
 
 -- a text and its end
 
-pub end-long : (lf : Bool) → length (lineEnd lf) ≤ 2
+pub end-long : (lf : Bool) → length (endBytes lf) ≤ 2
 end-long true = omega arith
 end-long false = omega arith
 
@@ -63,7 +64,7 @@ Named f = (i : ℕ) × (f ≡ At i)
 
 one-right : (values : List Value) (f : Found) (next : Verdict) → getBy values f next ≡ Accepted → (next ≡ Accepted) × Named f
 one-right values Nothing next e = let z : _≡_ {A = ℕ} 0 1 = cc in absurd (omega arith)
-one-right values (At i) next e = (put (isPut (valueIn values i .kept)) e, (i, refl))
+one-right values (At i) next e = (put (isPut (valueHeld values i .kept)) e, (i, refl))
   where
     put : (b : Bool) → cond b next NeverPut ≡ Accepted → next ≡ Accepted
     put true e = e
@@ -80,11 +81,11 @@ body-long values zero g e = refl
 body-long values (suc n) g e =
     let r = first-right values n g e in
     let i = r .1 .0 in
-    let k = valueIn values i .kept in
+    let k = valueHeld values i .kept in
     rw (r .1 .1) (omega (arith, length-append (getWord i k) (getBody values n (drop 5 g)), word-long i k, body-long values n (drop 5 g) (r .0)))
 
 body-more : (values : List Value) (m n : ℕ) (g : List ℕ) (i : ℕ) → m ≡ suc n → placeNamed (getD g 3 0) (getD g 4 0) ≡ At i
-    → getBody values m g ≡ getWord i (valueIn values i .kept) ++ getBody values n (drop 5 g)
+    → getBody values m g ≡ getWord i (valueHeld values i .kept) ++ getBody values n (drop 5 g)
 unfolding getBody
 body-more values m n g i z e = rw (z, e)
 
@@ -141,12 +142,12 @@ module _ (values : List Value) (g room₀ : List ℕ) (fit : GetFits values g ro
         (omega (arith, h .long), (r .0, (q, place-in (getD g (i + 3) 0) (getD g (i + 4) 0) (r .0) q)))
 
     pub got-more : (p : ℕ) (last : List ℕ) → i < length g → placeNamed (getD g (i + 3) 0) (getD g (i + 4) 0) ≡ At p
-        → last ≡ laid (getWord p (valueIn values p .kept)) (midOf at (length room - at) room)
+        → last ≡ laid (getWord p (valueHeld values p .kept)) (midOf at (length room - at) room)
         → Got values g room₀ (putMid at (length room - at) room last) (i + 5) (at + 16)
     got-more p last e q el =
         let n = h .left - 1 in
-        let w = getWord p (valueIn values p .kept) in
-        let lw = word-long p (valueIn values p .kept) in
+        let w = getWord p (valueHeld values p .kept) in
+        let lw = word-long p (valueHeld values p .kept) in
         let z : h .left ≡ suc n = omega (arith, h .long) in
         let next = body-more values (h .left) n (drop i g) p z (rw (getD-drop i g 3 0, getD-drop i g 4 0) q) in
         record {
@@ -161,8 +162,8 @@ module _ (values : List Value) (g room₀ : List ℕ) (fit : GetFits values g ro
 
 -- CONF: a place that is found, and its nine characters
 
-pub conf-named : (n : ℕ) → confVerdict n ≡ Accepted → Named (settingAt n)
-conf-named n e = by (settingAt n) e
+pub conf-named : (n : ℕ) → confVerdict n ≡ Accepted → Named (settingPlace n)
+conf-named n e = by (settingPlace n) e
   where
     by : (f : Found) → confBy f ≡ Accepted → Named f
     by Nothing e = let z : _≡_ {A = ℕ} 0 1 = cc in absurd (omega arith)
@@ -206,18 +207,18 @@ module _ (s : State) (t : List ℕ) (o : Order) (e : o ≡ order.Get) (is : o �
   pub get-body-long : length (bodyOf s t o) ≡ (length t - 5) / 5 * 16
   get-body-long = rw get-body (omega (arith, body-long (s .values) (groupsIn (drop 5 t)) (drop 5 t) get-judged, length-drop 5 t))
 
-  pub get-fits : (room : List ℕ) → length (bodyOf s t o) + length (endBytes s) ≤ length room → GetFits (s .values) (take (length t - 5) (drop 5 t)) room
+  pub get-fits : (room : List ℕ) → length (bodyOf s t o) + length (replyEnd s) ≤ length room → GetFits (s .values) (take (length t - 5) (drop 5 t)) room
   get-fits room f =
       rw (to-end 5 t)
       record { groups = order-get t (sym is ∙ e) .1; accepted = get-judged; fits = omega (arith, ap length get-body) }
 
 -- a text is the reply, and a flag says how it ends
 pub reply-fits : (s : State) (t : List ℕ) (o : Order) (w : List ℕ) (lf : Bool) (n : ℕ) → w ≡ bodyOf s t o → lf ≡ endsLf s
-    → length (bodyOf s t o) + length (endBytes s) ≤ n → length w + length (lineEnd lf) ≤ n
+    → length (bodyOf s t o) + length (replyEnd s) ≤ n → length w + length (endBytes lf) ≤ n
 reply-fits s t o w lf n ew el h = rw (ew, el) h
 
 pub reply-laid : (s : State) (t : List ℕ) (o : Order) (w : List ℕ) (lf : Bool) (room last : List ℕ) → w ≡ bodyOf s t o → lf ≡ endsLf s
-    → last ≡ laid (w ++ lineEnd lf) room → last ≡ laid (bodyOf s t o ++ endBytes s) room
+    → last ≡ laid (w ++ endBytes lf) room → last ≡ laid (bodyOf s t o ++ replyEnd s) room
 reply-laid s t o w lf room last ew el h = h ∙ rw (ew, el)
 
 -- a line of at most a hundred characters has a short reply

@@ -4,45 +4,51 @@ use mathlib.Core.Path.{_≡_, refl, sym, ap, _∙_}
 use mathlib.Core.Bool.{Bool, true, false, cond, _&&_, false≢true, and-eq-true-iff}
 use mathlib.Core.List.{List, [], _∷_}
 use native.Mathlib.Omega.{arith}
-use borrow.Author.Tests.{eqb-true, eqb-false, eq-eqb, leb-true, leb-false, lt-leb, le-ltb, ltb-false}
-use lib.Dec.{eqb, leb, ltb}
+use borrow.Author.Tests.{eqb-true, eqb-false, leb-true, leb-false}
+use lib.Dec.{eqb, leb}
 use lib.ListN.{length, getD, take}
 use Rattle.figures.specs.Bytes.{startsWith, sameBytes}
 use Rattle.units.specs.Kinds.{indexOf}
 use Rattle.words.specs.Reading.{pos}
-use Rattle.state.specs.Settings.{rows, row, rowAt, settingAt}
-use Rattle.state.specs.Values.{putRight, putKept, keptRight}
-use Rattle.state.specs.Entries.{settingsN, valuesN, entriesN}
-use Rattle.state.specs.Image.{imageN, imageOf, encodedIn, stateIn, decodeOf}
-use Rattle.state.specs.declared.settings.Row.{Row}
-use Rattle.state.specs.declared.settings.Found.{Found}
-use Rattle.state.specs.declared.settings.Found.the-variants.{Nothing, At}
+use Rattle.instrument.specs.Settings.{rows, noRow, rowAt, settingPlace, inRange, settingsN}
+use Rattle.instrument.specs.Values.{putRight, putKept, keptRight, valuesN}
+use Rattle.state.specs.Entries.{entriesN}
+use Rattle.state.specs.Image.{imageOf, stateIn}
+use Rattle.instrument.specs.declared.settings.Row.{Row}
+use Rattle.instrument.specs.declared.settings.Found.{Found}
+use Rattle.instrument.specs.declared.settings.Found.the-variants.{Nothing, At}
 use Rattle.state.specs.declared.entries.State.{State}
-use Rattle.state.specs.declared.image.Known.the-variants.{Is}
-use Rattle.state.specs.declared.image.Decoded.{Decoded}
-use Rattle.state.proofs.Kept.{put-kept-right}
-use Rattle.state.proofs.Images.{image-of, decoded-is}
+use Rattle.instrument.proofs.Kept.{put-kept-right}
+use Rattle.instrument.proofs.Ranges.{range-high}
+use Rattle.state.proofs.Images.{image-of}
 use Rattle.lines.specs.Shapes.{endOf, isEnded, textOf, conf-slash, get-i, undo-word, keep-word, orderOf}
 use Rattle.lines.specs.Verdicts.{isAccepted, setBy, setVerdict, fullVerdict, placeNamed, putBy, putVerdict, undoVerdict, orderVerdict, lineVerdict}
-use Rattle.lines.specs.Orders.{setOf, putOf, setDone, putDone, doneOf}
+use Rattle.lines.specs.Orders.{doneOf}
 use Rattle.lines.specs.Replies.{replyOf}
-use Rattle.lines.specs.Machine.{Outcome, outcome, run, step, Ends, Calls}
+use Rattle.lines.specs.Machine.{Outcome, outcome, step, Calls}
 use Rattle.lines.specs.declared.shapes.Order.{Order}
 use Rattle.lines.specs.declared.verdicts.Verdict.{Verdict}
 use Rattle.lines.specs.declared.verdicts.Verdict.the-variants.{Accepted, Unended, Long, Parameter, Word, Full, NoEntry, Room}
 use Rattle.lines.specs.declared.machine.Ran.{Ran}
 use Rattle.lines.proofs.Shape.{order-by}
 use Rattle.lines.proofs.Lookups.{setting-in, value-found, named}
-use Rattle.lines.proofs.Calling.{accepted-is, call-some}
+use Rattle.lines.proofs.Calling.{accepted-is, RanOn, ran-image, ran-ends, laid-down, call-some}
 
-pub clash : _≡_ {A = ℕ} 0 1 → ⊥
+clash : _≡_ {A = ℕ} 0 1 → ⊥
 clash e = omega arith
 
 -- a call
 
+-- what a line is judged as, and what it does, by its own order
+abbrev lineJudged : State → List ℕ → Verdict
+lineJudged s line = orderVerdict s (textOf line) (orderOf (textOf line))
+
+abbrev lineDone : State → List ℕ → State
+lineDone s line = doneOf s (textOf line) (orderOf (textOf line))
+
 pub data Comes (s : State) (line : List ℕ) (o : Outcome) : Type 0 where
   stays : isAccepted (o .verdict) ≡ false → o .next ≡ s → Comes s line o
-  runs : isAccepted (o .verdict) ≡ true → orderVerdict s (textOf line) (orderOf (textOf line)) ≡ Accepted → o .next ≡ doneOf s (textOf line) (orderOf (textOf line)) → Comes s line o
+  runs : isAccepted (o .verdict) ≡ true → lineJudged s line ≡ Accepted → o .next ≡ lineDone s line → Comes s line o
 
 pub judged : (ended short : Bool) (v : Verdict) → cond ended (cond short v Long) Unended ≡ Accepted → (short ≡ true) × (v ≡ Accepted)
 judged false short v e = absurd (clash (cc))
@@ -50,8 +56,8 @@ judged true false v e = absurd (clash (cc))
 judged true true v e = (refl, e)
 
 comes-by : (s : State) (line : List ℕ) (fits : Bool) (v : Verdict) (reply : List ℕ) (b : Bool) → isAccepted v ≡ b
-    → (v ≡ Accepted → orderVerdict s (textOf line) (orderOf (textOf line)) ≡ Accepted)
-    → Comes s line (cond fits (outcome v reply (cond b (doneOf s (textOf line) (orderOf (textOf line))) s)) (outcome Room [] s))
+    → (v ≡ Accepted → lineJudged s line ≡ Accepted)
+    → Comes s line (cond fits (outcome v reply (cond b (lineDone s line) s)) (outcome Room [] s))
 comes-by s line false v reply b e f = stays refl refl
 comes-by s line true v reply false e f = stays e refl
 comes-by s line true v reply true e f = runs e (f (accepted-is v e)) refl
@@ -59,12 +65,13 @@ comes-by s line true v reply true e f = runs e (f (accepted-is v e)) refl
 pub comes : (s : State) (line : List ℕ) (room : ℕ) → Comes s line (step s line room)
 comes s line room =
     let v = lineVerdict s line in
-    comes-by s line (leb (length (replyOf s (textOf line) (orderOf (textOf line)) v)) room) v (replyOf s (textOf line) (orderOf (textOf line)) v) (isAccepted v) refl
-    (λ e. judged (isEnded line) (leb (length (textOf line)) 100) (orderVerdict s (textOf line) (orderOf (textOf line))) e .1)
+    let reply = replyOf s (textOf line) (orderOf (textOf line)) v in
+    comes-by s line (leb (length reply) room) v reply (isAccepted v) refl
+    (λ e. judged (isEnded line) (leb (length (textOf line)) 100) (lineJudged s line) e .1)
 
 -- a call that leaves the state leaves the image, which it would be laid down as
 
-left-so : (s : State) (line : List ℕ) (o : Outcome) → Comes s line o → (isAccepted (o .verdict) ≡ true → doneOf s (textOf line) (orderOf (textOf line)) ≡ s) → o .next ≡ s
+left-so : (s : State) (line : List ℕ) (o : Outcome) → Comes s line o → (isAccepted (o .verdict) ≡ true → lineDone s line ≡ s) → o .next ≡ s
 left-so s line o (stays n e) f = e
 left-so s line o (runs a v e) f = e ∙ f a
 
@@ -75,8 +82,8 @@ starts-other x y v w (z ∷ s) zero d e = refl
 starts-other x y v w (z ∷ s) (suc n) d e = rw (eqb-true z x (and-eq-true-iff (eqb z x) (startsWith v s) .0 e .0), d)
 
 -- CONF and GET, by their first letter
-asks-idle : (s : State) (line : List ℕ) (n x : ℕ) (v : List ℕ) → startsWith (x ∷ v) line ≡ true → eqb x 83 ≡ false → eqb x 80 ≡ false → eqb x 85 ≡ false → eqb x 75 ≡ false
-    → doneOf s (take n line) (orderOf (take n line)) ≡ s
+asks-idle : (s : State) (line : List ℕ) (n x : ℕ) (v : List ℕ) → startsWith (x ∷ v) line ≡ true
+    → eqb x 83 ≡ false → eqb x 80 ≡ false → eqb x 85 ≡ false → eqb x 75 ≡ false → doneOf s (take n line) (orderOf (take n line)) ≡ s
 asks-idle s line n x v e set put undo keep =
     let t = take n line in
     let other : (y : ℕ) (w : List ℕ) → eqb x y ≡ false → startsWith (y ∷ w) t ≡ true → ⊥ = λ y w d p. false≢true (sym (starts-other x y v w line n d e) ∙ p) in
@@ -84,25 +91,26 @@ asks-idle s line n x v e set put undo keep =
     order-by (λ (o : Order). doneOf s t o ≡ s) t refl (λ p _ _. absurd (other 83 _ set p)) (λ _. refl) (λ p _. absurd (other 80 _ put p)) (λ _ _. refl)
     (λ p. absurd (other 85 _ undo (starts undo-word p))) (λ p. absurd (other 75 _ keep (starts keep-word p)))
 
-module _ (image : List ℕ) (d : Decoded) (e : d ≡ decodeOf image) (q : d .answer ≡ Is) (line room : List ℕ) (r : Ran) (room′ : List ℕ) (h : Ends (d .state) (run (d .state) line) room r room′) where
-  call-left : (isAccepted (r .told .verdict) ≡ true → doneOf (d .state) (textOf line) (orderOf (textOf line)) ≡ d .state) → Calls image line room (r .told) image room′
+module _ (image line room : List ℕ) (r : Ran) (room′ : List ℕ) (h : RanOn image line room r room′) where
+  abbrev standing : State
+  standing = stateIn image
+
+  call-left : (isAccepted (r .told .verdict) ≡ true → lineDone standing line ≡ standing) → Calls image line room (r .told) image room′
   call-left f =
-      let i = decoded-is image d e q in
-      let verdict = ap (λ (x : Ran). isAccepted (x .told .verdict)) (h .0) in
-      let left = left-so (d .state) line (step (d .state) line (length room)) (comes (d .state) line (length room)) (λ a. f (verdict ∙ a)) in
-      let same : r .state ≡ stateIn image = ap (λ (x : Ran). x .state) (h .0) ∙ left ∙ i .1 in
-      let long : eqb (length image) imageN ≡ true = and-eq-true-iff (eqb (length image) imageN) _ .0 (i .0) .0 in
-      let down : encodedIn (r .state) image ≡ image = ap (λ (b : Bool). cond b (imageOf (r .state)) image) long ∙ ap imageOf same ∙ sym (image-of image (i .0) .1) in
-      call-some image d e q line room r image room′ h (sym down)
+      let ends = ran-ends image line room r room′ h in
+      let verdict = ap (λ (x : Ran). isAccepted (x .told .verdict)) (ends .0) in
+      let left = left-so standing line (step standing line (length room)) (comes standing line (length room)) (λ a. f (verdict ∙ a)) in
+      let same = ap (λ (x : Ran). imageOf (x .state)) (ends .0) ∙ ap imageOf left ∙ sym (image-of image (ran-image image line room r room′ h) .1) in
+      call-some image line room r room′ h image (sym (laid-down image line room r room′ h (r .state) ∙ same))
 
   pub call-refused : isAccepted (r .told .verdict) ≡ false → Calls image line room (r .told) image room′
   call-refused n = call-left (λ a. absurd (false≢true (sym n ∙ a)))
 
   pub call-conf : startsWith conf-slash line ≡ true → Calls image line room (r .told) image room′
-  call-conf p = call-left (λ _. asks-idle (d .state) line (length line - endOf line) 67 _ p refl refl refl refl)
+  call-conf p = call-left (λ _. asks-idle standing line (length line - endOf line) 67 _ p refl refl refl refl)
 
   pub call-get : startsWith get-i line ≡ true → Calls image line room (r .told) image room′
-  call-get p = call-left (λ _. asks-idle (d .state) line (length line - endOf line) 71 _ p refl refl refl refl)
+  call-get p = call-left (λ _. asks-idle standing line (length line - endOf line) 71 _ p refl refl refl refl)
 
 -- SET
 
@@ -113,40 +121,41 @@ full-free count false p e = leb-false entriesN count p
 -- each row's highest parameter is a byte
 bytes-high : List Row → Bool
 bytes-high [] = true
-bytes-high (r ∷ rs) = leb (r .highest) 255 && bytes-high rs
+bytes-high (r ∷ rs) = leb (r .2) 255 && bytes-high rs
 
-bytes-at : (rs : List Row) (i : ℕ) → bytes-high rs ≡ true → getD rs i (row 0 0 0) .highest ≤ 255
+bytes-at : (rs : List Row) (i : ℕ) → bytes-high rs ≡ true → getD rs i noRow .2 ≤ 255
 unfolding bytes-high
 bytes-at [] i e = omega arith
-bytes-at (r ∷ rs) zero e = leb-true (r .highest) 255 (and-eq-true-iff (leb (r .highest) 255) (bytes-high rs) .0 e .0)
-bytes-at (r ∷ rs) (suc i) e = bytes-at rs i (and-eq-true-iff (leb (r .highest) 255) (bytes-high rs) .0 e .1)
+bytes-at (r ∷ rs) zero e = leb-true (r .2) 255 (and-eq-true-iff (leb (r .2) 255) (bytes-high rs) .0 e .0)
+bytes-at (r ∷ rs) (suc i) e = bytes-at rs i (and-eq-true-iff (leb (r .2) 255) (bytes-high rs) .0 e .1)
 
-rows-high : (i : ℕ) → rowAt i .highest ≤ 255
+rows-high : (i : ℕ) → rowAt i .2 ≤ 255
 unfolding bytes-high rows
 rows-high i = bytes-at rows i refl
 
 pub record SetRuns (s : State) (n p : ℕ) : Type 0 where
   pub at : ℕ
-  pub found : settingAt n ≡ At at
+  pub found : settingPlace n ≡ At at
   pub place : at < settingsN
-  pub high : p ≤ rowAt at .highest
+  pub high : inRange (rowAt at) p ≡ true
   pub free : s .count < entriesN
 
 pub set-runs : (s : State) (n p : ℕ) → setVerdict (s .count) n p ≡ Accepted → SetRuns s n p
-set-runs s n p e = go (settingAt n) refl e
+set-runs s n p e = go (settingPlace n) refl e
   where
-    low : (i : ℕ) (b : Bool) → ltb (rowAt i .highest) p ≡ b → cond b Parameter (fullVerdict (s .count)) ≡ Accepted → (p ≤ rowAt i .highest) × (s .count < entriesN)
-    low i true h e = absurd (clash (cc))
-    low i false h e = (ltb-false (rowAt i .highest) p h, full-free (s .count) (leb entriesN (s .count)) refl e)
+    low : (i : ℕ) (b : Bool) → inRange (rowAt i) p ≡ b → cond b (fullVerdict (s .count)) Parameter ≡ Accepted
+        → (inRange (rowAt i) p ≡ true) × (s .count < entriesN)
+    low i false h e = absurd (clash (cc))
+    low i true h e = (h, full-free (s .count) (leb entriesN (s .count)) refl e)
 
-    go : (f : Found) → settingAt n ≡ f → setBy (s .count) p f ≡ Accepted → SetRuns s n p
+    go : (f : Found) → settingPlace n ≡ f → setBy (s .count) p f ≡ Accepted → SetRuns s n p
     go Nothing f e = absurd (clash (cc))
     go (At i) f e =
-        let h = low i (ltb (rowAt i .highest) p) refl e in
+        let h = low i (inRange (rowAt i) p) refl e in
         record { at = i; found = f; place = setting-in n i f; high = h .0; free = h .1 }
 
-pub set-done : (s : State) (n p : ℕ) (r : SetRuns s n p) → setDone s n p ≡ setOf s (r .at) p
-set-done s n p r = rw (r .found, lt-leb settingsN (r .at) (r .place), le-ltb 255 p (omega (arith, r .high, rows-high (r .at))), lt-leb entriesN (s .count) (r .free))
+pub set-byte : (s : State) (n p : ℕ) → SetRuns s n p → p < 256
+set-byte s n p r = omega (arith, range-high (rowAt (r .at)) p (r .high), rows-high (r .at))
 
 -- PUT
 
@@ -172,9 +181,6 @@ put-runs s word e = go (placeNamed (pos 1 word) (pos 2 word)) refl e
         let at = value-found (indexOf (pos 1 word) (pos 2 word)) i (digits .2) in
         record { at = i; found = f; place = at .0; right = λ long. put-kept-right i word long (at .1) (digits .0) (digits .1) (h .0); free = h .1 }
 
-pub put-done : (s : State) (word : List ℕ) (r : PutRuns s word) → putDone s word ≡ putOf s (r .at) (putKept word)
-put-done s word r = rw (r .found, lt-leb valuesN (r .at) (r .place), lt-leb entriesN (s .count) (r .free))
-
 -- UNDO
 
 pub undo-some : (n : ℕ) → undoVerdict n ≡ Accepted → n ≡ 0 → ⊥
@@ -183,13 +189,3 @@ undo-some n e = judge (eqb n 0) refl e
     judge : (b : Bool) → eqb n 0 ≡ b → cond b NoEntry Accepted ≡ Accepted → n ≡ 0 → ⊥
     judge true p e z = clash (cc)
     judge false p e z = eqb-false n 0 p z
-
-pub undo-none : (n : ℕ) → undoVerdict n ≡ NoEntry → n ≡ 0
-undo-none n e = judge (eqb n 0) refl e
-  where
-    judge : (b : Bool) → eqb n 0 ≡ b → cond b NoEntry Accepted ≡ NoEntry → n ≡ 0
-    judge true p e = eqb-true n 0 p
-    judge false p e = absurd (clash (cc))
-
-pub none-undone : (n : ℕ) → n ≡ 0 → undoVerdict n ≡ NoEntry
-none-undone n e = rw (eq-eqb n 0 e)

@@ -1,8 +1,8 @@
 -- Laws of a line's shape: its parts, the first slash, the groups of GET, a number, what an order says of the line.
 use Prim.Native.Nat.{ℕ, zero, suc, _+_, _-_, _*_, _/_, _<_, _≤_}
 use mathlib.Core.Path.{_≡_, refl, ap, subst}
-use mathlib.Core.Bool.{Bool, true, false, cond, _&&_, false≢true, and-eq-true-iff}
-use mathlib.Core.List.{List, [], _∷_}
+use mathlib.Core.Bool.{Bool, true, false, cond, _&&_, and-eq-true-iff}
+use mathlib.Core.List.{List, []}
 use native.Mathlib.Nat.{sub-zero}
 use native.Mathlib.Numerals.{add-one}
 use native.Mathlib.Omega.{arith}
@@ -13,18 +13,13 @@ use lib.Seq.{drop-cons, take-all}
 use Rattle.figures.specs.Bytes.{startsWith, sameBytes}
 use Rattle.figures.specs.Decimal.{numberOf}
 use Rattle.figures.specs.declared.Said.the-variants as said
-use Rattle.figures.proofs.Bytes.{same-true}
-use Rattle.lines.specs.Shapes.{slashAt, numberRight, numberShape, groupRight, groupsRight, groupsIn, set-slash, conf-slash, put-slash, get-i, undo-word, keep-word, orderOf}
+use Rattle.figures.proofs.Bytes.{same-true, starts-length}
+use Rattle.lines.specs.Shapes.{slashAt, numberRight, numberShape, groupRight, groupsRight, groupsIn, orderOf}
+use Rattle.lines.specs.Shapes.{set-slash, conf-slash, put-slash, get-i, undo-word, keep-word}
 use Rattle.lines.specs.declared.shapes.Order.{Order}
 use Rattle.lines.specs.declared.shapes.Order.the-variants.{Not, Set, Conf, Put, Get, Undo, Keep}
 
 -- parts of a line
-
-pub starts-length : (w s : List ℕ) → startsWith w s ≡ true → length w ≤ length s
-unfolding startsWith
-starts-length [] s e = omega arith
-starts-length (x ∷ w) [] e = absurd (false≢true e)
-starts-length (x ∷ w) (y ∷ s) e = omega (arith, starts-length w s (and-eq-true-iff (eqb y x) (startsWith w s) .0 e .1))
 
 pub from-start : (k : ℕ) (s : List ℕ) → take (k - 0) s ≡ take k s
 from-start k s = rw (sub-zero k)
@@ -120,7 +115,8 @@ Says t Keep = Unit {0}
 
 order-says : (t : List ℕ) → Says t (orderOf t)
 order-says t =
-    order-by (Says t) t tt (λ _ n p. tt) (λ n. tt) (λ _ long. long) (λ e groups. (starts-length get-i t e, groups)) (λ e. ap length (same-true t undo-word e)) (λ _. tt)
+    order-by (Says t) t tt (λ _ n p. tt) (λ n. tt) (λ _ long. long) (λ e groups. (starts-length get-i t e, groups))
+    (λ e. ap length (same-true t undo-word e)) (λ _. tt)
 
 pub order-put : (t : List ℕ) → orderOf t ≡ Put → length t ≡ 20
 order-put t e = subst (Says t) e (order-says t)

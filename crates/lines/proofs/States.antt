@@ -5,7 +5,7 @@ use mathlib.Core.Bool.{true}
 use mathlib.Core.List.{List, [], _∷_}
 use native.Mathlib.Omega.{arith}
 use lib.ListN.{drop, length-drop}
-use Rattle.state.specs.Values.{putKept}
+use Rattle.instrument.specs.Values.{putKept}
 use Rattle.state.specs.Entries.{isState}
 use Rattle.state.specs.declared.entries.State.{State}
 use Rattle.lines.specs.Shapes.{textOf, orderOf}
@@ -19,17 +19,17 @@ use Rattle.lines.specs.declared.verdicts.Verdict.the-variants.{Accepted}
 use Rattle.lines.proofs.Parts.{Parts, parts, whole}
 use Rattle.lines.proofs.Lasting.{set-parts, put-parts, undo-parts, keep-parts}
 use Rattle.lines.proofs.Shape.{order-put}
-use Rattle.lines.proofs.Runs.{Comes, stays, runs, comes, set-runs, set-done, put-runs, put-done}
+use Rattle.lines.proofs.Runs.{Comes, stays, runs, comes, set-runs, put-runs}
 
 done-parts : (s : State) (t : List ℕ) (o : Order) → orderOf t ≡ o → orderVerdict s t o ≡ Accepted → Parts s → Parts (doneOf s t o)
 done-parts s t Not e v p = p
 done-parts s t (Set n q) e v p =
     let r = set-runs s n q v in
-    subst Parts (sym (set-done s n q r)) (set-parts s (r .at) q p (r .free) (r .place) (r .high))
+    rw (r .found) (set-parts s (r .at) q p (r .free) (r .place) (r .high))
 done-parts s t (Conf n) e v p = p
 done-parts s t Put e v p =
     let r = put-runs s (drop 4 t) v in
-    subst Parts (sym (put-done s (drop 4 t) r))
+    rw (r .found)
     (put-parts s (r .at) (putKept (drop 4 t)) p (r .free) (r .place) refl (r .right (omega (arith, length-drop 4 t, order-put t e))))
 done-parts s t Get e v p = p
 done-parts s t Undo e v p = undo-parts s p

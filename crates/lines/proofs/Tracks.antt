@@ -1,24 +1,26 @@
 -- How a state follows what stands of the calls: the entries taken back, newest first, strike the unstruck lines after the last KEEP, newest first.
 use Prim.Native.Nat.{ℕ, _<_}
 use mathlib.Core.Path.{_≡_, refl, sym, ap, subst, _∙_}
-use mathlib.Core.Bool.{true, false, cond}
+use mathlib.Core.Bool.{true, cond}
 use mathlib.Core.List.{List, [], _∷_}
 use native.Mathlib.Omega.{arith}
+use borrow.Author.Tests.{eq-eqb, ne-eqb}
 use lib.ListN.{drop}
-use Rattle.state.specs.Values.{putKept}
+use Rattle.instrument.specs.Values.{putKept}
 use Rattle.state.specs.Entries.{isState}
 use Rattle.state.specs.declared.entries.State.{State}
 use Rattle.lines.specs.Shapes.{textOf, orderOf}
-use Rattle.lines.specs.Verdicts.{isAccepted, orderVerdict}
+use Rattle.lines.specs.Verdicts.{isAccepted, undoVerdict, orderVerdict}
 use Rattle.lines.specs.Orders.{setOf, putOf, undoOf, doneOf}
 use Rattle.lines.specs.Machine.{Outcome, step}
-use Rattle.lines.specs.Demand.{Call, Contents, contentsOf, setting, value, stores, play, Mark, stored, kept, strike, mark, marked, marks, after, playAll, stands}
+use Rattle.lines.specs.Demand.{Call, Contents, contentsOf, setting, value, stores, play, playAll, after}
+use Rattle.lines.specs.Demand.{Mark, stored, kept, strike, mark, marked, marks, stands}
 use Rattle.lines.specs.declared.shapes.Order.{Order}
 use Rattle.lines.specs.declared.shapes.Order.the-variants.{Not, Set, Conf, Put, Get, Undo, Keep}
-use Rattle.lines.specs.declared.verdicts.Verdict.the-variants.{Accepted}
+use Rattle.lines.specs.declared.verdicts.Verdict.the-variants.{Accepted, NoEntry}
 use Rattle.lines.proofs.Parts.{Parts, parts}
 use Rattle.lines.proofs.Undone.{undo-set, undo-put}
-use Rattle.lines.proofs.Runs.{Comes, stays, runs, comes, clash, set-runs, set-done, put-runs, put-done, undo-some}
+use Rattle.lines.proofs.Runs.{Comes, stays, runs, comes, set-runs, put-runs, undo-some}
 use Rattle.lines.proofs.States.{step-state}
 
 abbrev pub Tracks : Contents → State → List Mark → Type 0
@@ -33,15 +35,11 @@ module _ (c : Contents) where
   contents s (stored line ∷ ms) t = t .1
   contents s (kept ∷ ms) t = t .1
 
-  pub none-stands : (s : State) (ms : List Mark) → Tracks c s ms → s .count ≡ 0 → stands ms ≡ false
-  none-stands s [] t e = refl
-  none-stands s (stored line ∷ ms) t e = absurd (omega (arith, t .0))
-  none-stands s (kept ∷ ms) t e = refl
-
-  pub none-counts : (s : State) (ms : List Mark) → Tracks c s ms → stands ms ≡ false → s .count ≡ 0
-  none-counts s [] t e = t .0
-  none-counts s (stored line ∷ ms) t e = absurd (clash (cc))
-  none-counts s (kept ∷ ms) t e = t .0
+  -- an UNDO takes an entry back where a line stands to be struck
+  pub undo-stands : (s : State) (ms : List Mark) → Tracks c s ms → undoVerdict (s .count) ≡ cond (stands ms) Accepted NoEntry
+  undo-stands s [] t = rw (eq-eqb (s .count) 0 (t .0))
+  undo-stands s (stored line ∷ ms) t = rw (ne-eqb (s .count) 0 (λ e. omega (arith, t .0)))
+  undo-stands s (kept ∷ ms) t = rw (eq-eqb (s .count) 0 (t .0))
 
   -- a line more, which its entry takes back
   stored-more : (s s′ : State) (ms : List Mark) (line : List ℕ) → Tracks c s ms → 0 < s′ .count → undoOf s′ ≡ s → contentsOf s′ ≡ play (contentsOf s) line
@@ -60,17 +58,15 @@ module _ (c : Contents) where
   done-tracks s ms line Not e v p t = t
   done-tracks s ms line (Set n q) e v p t =
       let r = set-runs s n q v in
-      let same : contentsOf (setOf s (r .at) q) ≡ play (contentsOf s) line = sym (ap (stores (contentsOf s) (textOf line)) e ∙ ap (setting (contentsOf s) q) (r .found)) in
-      subst (λ (d : State). Tracks c d (stored line ∷ ms)) (sym (set-done s n q r))
-      (stored-more s (setOf s (r .at) q) ms line t (omega arith) (undo-set s (r .at) q p (r .free)) same)
+      let same = sym (ap (stores (contentsOf s) (textOf line)) e ∙ ap (setting (contentsOf s) q) (r .found)) in
+      rw (r .found) (stored-more s (setOf s (r .at) q) ms line t (omega arith) (undo-set s (r .at) q p (r .free)) same)
   done-tracks s ms line (Conf n) e v p t = t
   done-tracks s ms line Put e v p t =
       let word = drop 4 (textOf line) in
       let k = putKept word in
       let r = put-runs s word v in
-      let same : contentsOf (putOf s (r .at) k) ≡ play (contentsOf s) line = sym (ap (stores (contentsOf s) (textOf line)) e ∙ ap (value (contentsOf s) k) (r .found)) in
-      subst (λ (d : State). Tracks c d (stored line ∷ ms)) (sym (put-done s word r))
-      (stored-more s (putOf s (r .at) k) ms line t (omega arith) (undo-put s (r .at) k p (r .free)) same)
+      let same = sym (ap (stores (contentsOf s) (textOf line)) e ∙ ap (value (contentsOf s) k) (r .found)) in
+      rw (r .found) (stored-more s (putOf s (r .at) k) ms line t (omega arith) (undo-put s (r .at) k p (r .free)) same)
   done-tracks s ms line Get e v p t = t
   done-tracks s ms line Undo e v p t = struck s ms (undo-some (s .count) v) t
   done-tracks s ms line Keep e v p t = (refl, contents s ms t)

@@ -9,14 +9,14 @@ use lib.Dec.{eqb}
 use lib.ListN.{getD, set}
 use lib.Seq.{getD-set-same, set-set, set-getD}
 use Rattle.state.specs.Entries.{entriesN, valueOf, entryOf, blankEntry, isNever, isFree, isBlank}
-use Rattle.state.specs.declared.values.Kept.{Kept}
-use Rattle.state.specs.declared.values.Kept.the-variants.{Never, Put}
-use Rattle.state.specs.declared.values.Value.{Value}
+use Rattle.instrument.specs.declared.values.Kept.{Kept}
+use Rattle.instrument.specs.declared.values.Kept.the-variants.{Never, Put}
+use Rattle.instrument.specs.declared.values.Value.{Value}
 use Rattle.state.specs.declared.entries.Item.{Item}
 use Rattle.state.specs.declared.entries.Item.the-variants.{Free, Setting, Stored}
 use Rattle.state.specs.declared.entries.Entry.{Entry}
 use Rattle.state.specs.declared.entries.State.{State}
-use Rattle.lines.specs.Verdicts.{valueIn}
+use Rattle.lines.specs.Verdicts.{valueHeld}
 use Rattle.lines.specs.Orders.{stateOf, pushed, setOf, putOf, settingsBack, valuesBack, undoOf}
 use Rattle.lines.proofs.Parts.{Parts, state-path, entries-blank}
 
@@ -52,11 +52,11 @@ undo-added : (s : State) (settings : List ℕ) (values : List Value) (e : Entry)
 undo-added s settings values e p free a b =
     let q : s .count + 1 - 1 ≡ s .count = omega arith in
     let some : eqb (s .count + 1) 0 ≡ false = ne-eqb (s .count + 1) 0 (omega arith) in
-    let last : getD (set (s .undo) (s .count) e) (s .count) blankEntry ≡ e = getD-set-same (s .undo) (s .count) e blankEntry (omega (arith, p .undo-long)) in
-    let blank : getD (s .undo) (s .count) blankEntry ≡ blankEntry = blank-is (getD (s .undo) (s .count) blankEntry) (entries-blank (s .undo) (s .count) (s .count) (p .entries-right) (omega arith)) in
-    let freed : set (set (s .undo) (s .count) e) (s .count) blankEntry ≡ s .undo =
-    set-set (s .undo) (s .count) e blankEntry ∙ ap (set (s .undo) (s .count)) (sym blank) ∙ set-getD (s .undo) (s .count) blankEntry
-    in
+    let u = s .undo in
+    let n = s .count in
+    let last : getD (set u n e) n blankEntry ≡ e = getD-set-same u n e blankEntry (omega (arith, p .undo-long)) in
+    let blank : getD u n blankEntry ≡ blankEntry = blank-is (getD u n blankEntry) (entries-blank u n n (p .entries-right) (omega arith)) in
+    let freed : set (set u n e) n blankEntry ≡ u = set-set u n e blankEntry ∙ ap (set u n) (sym blank) ∙ set-getD u n blankEntry in
     rw (some, q, last) (state-path _ s a b freed refl)
 
 pub undo-set : (s : State) (i p : ℕ) → Parts s → s .count < entriesN → undoOf (setOf s i p) ≡ s
@@ -66,5 +66,5 @@ undo-set s i p parts free =
 
 pub undo-put : (s : State) (i : ℕ) (k : Kept) → Parts s → s .count < entriesN → undoOf (putOf s i k) ≡ s
 undo-put s i k parts free =
-    undo-added s (s .settings) (set (s .values) i (valueOf k)) (entryOf (Stored i) 0 (valueIn (s .values) i .kept)) parts free refl
-    (set-set (s .values) i (valueOf k) (valueIn (s .values) i) ∙ set-getD (s .values) i (valueOf Never))
+    undo-added s (s .settings) (set (s .values) i (valueOf k)) (entryOf (Stored i) 0 (valueHeld (s .values) i .kept)) parts free refl
+    (set-set (s .values) i (valueOf k) (valueHeld (s .values) i) ∙ set-getD (s .values) i (valueOf Never))

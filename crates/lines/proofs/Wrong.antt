@@ -2,18 +2,19 @@
 use Prim.Native.Nat.{ℕ, _+_}
 use mathlib.Core.Path.{_≡_, refl, sym, ap, _∙_}
 use mathlib.Core.Bool.{Bool, true, false, cond, false≢true}
-use mathlib.Core.List.{List, [], _∷_}
+use mathlib.Core.List.{List, [], _∷_, _++_}
 use borrow.Author.Tests.{eqb-false}
 use lib.Dec.{eqb}
 use lib.ListN.{length, getD}
 use Rattle.figures.specs.Bytes.{every, startsWith}
 use Rattle.figures.specs.Decimal.{numberFrom}
-use Rattle.state.specs.Rows.{seek}
-use Rattle.state.specs.Settings.{rows}
+use Rattle.instrument.specs.Rows.{seek}
+use Rattle.instrument.specs.Settings.{rows}
 use Rattle.state.specs.Entries.{factoryState}
 use Rattle.state.specs.declared.entries.State.{State}
 use Rattle.lines.specs.Shapes.{slashAt, textOf, orderOf}
 use Rattle.lines.specs.Verdicts.{isAccepted}
+use Rattle.lines.specs.Replies.{replyEnd, done}
 use Rattle.lines.specs.Machine.{Outcome, outcome, step}
 use Rattle.lines.specs.Demand.{Call, after, Contents, contentsOf, Mark, strike, mark, marked, marks, playAll}
 use Rattle.lines.specs.declared.shapes.Order.{Order}
@@ -91,11 +92,15 @@ unfolding computing
 refuses-all m no-line h =
     false≢true (sym (no-line 0 factoryState set-30 enough) ∙ ap (λ (o : Outcome). isAccepted (o .verdict)) (h 0 factoryState set-30 enough))
 
--- it answers `?` and CR LF to all
-pub agrees-to-all : (m : Machine) → ((k : ℕ) (s : State) (line : List ℕ) (room : ℕ) → m k s line room .reply ≡ 63 ∷ 13 ∷ 10 ∷ []) → Exact m → ⊥
-unfolding rows
+-- it answers `?` to all, in the factory state at least
+pub agrees-to-all : (m : Machine) → ((line : List ℕ) (room : ℕ) → m 0 factoryState line room .reply ≡ done ++ replyEnd factoryState) → Exact m → ⊥
+unfolding rows seek
 agrees-to-all m all h =
-    eqb-false 3 7 refl (ap length (sym (all 0 factoryState [] enough) ∙ ap (λ (o : Outcome). o .reply) (h 0 factoryState [] enough)))
+    eqb-false 3 7 refl (ap length (sym (all [] enough) ∙ ap (λ (o : Outcome). o .reply) (h 0 factoryState [] enough)))
+
+-- and so in every state, ended "as setting 73 said before the line"
+pub agrees-everywhere : (m : Machine) → ((k : ℕ) (s : State) (line : List ℕ) (room : ℕ) → m k s line room .reply ≡ done ++ replyEnd s) → Exact m → ⊥
+agrees-everywhere m all = agrees-to-all m (all 0 factoryState)
 
 -- it touches nothing
 pub touches-nothing : (m : Machine) → ((k : ℕ) (s : State) (line : List ℕ) (room : ℕ) → m k s line room .next ≡ s) → Exact m → ⊥
@@ -133,15 +138,20 @@ calls : List (List ℕ) → List Call
 calls [] = []
 calls (line ∷ lines) = record { line = line; room = enough } ∷ calls lines
 
--- the lines and the place of a setting at which the two sides differ
+-- a setting on the two sides, by its place: as the lines left it, and as what stands of them, played anew, leaves it
+abbrev came : Machine → List (List ℕ) → ℕ → ℕ
+came m lines i = getD (afterBy m 0 factoryState (calls lines) .settings) i 0
+
+abbrev wanted : Machine → List (List ℕ) → ℕ → ℕ
+wanted m lines i = getD (playAll (contentsOf factoryState) (marksBy m 0 factoryState (calls lines) []) .settings) i 0
+
+-- the lines and the place at which they differ
 abbrev Differs : Machine → List (List ℕ) → ℕ → Type 0
-Differs m lines i =
-    eqb (getD (afterBy m 0 factoryState (calls lines) .settings) i 0)
-    (getD (playAll (contentsOf factoryState) (marksBy m 0 factoryState (calls lines) []) .settings) i 0) ≡ false
+Differs m lines i = eqb (came m lines i) (wanted m lines i) ≡ false
 
 fails : (m : Machine) (lines : List (List ℕ)) (i : ℕ) → Differs m lines i → Plays m → ⊥
 fails m lines i e h =
-    eqb-false (getD (afterBy m 0 factoryState (calls lines) .settings) i 0) (getD (playAll (contentsOf factoryState) (marksBy m 0 factoryState (calls lines) []) .settings) i 0) e
+    eqb-false (came m lines i) (wanted m lines i) e
     (ap (λ (c : Contents). getD (c .settings) i 0) (h factoryState factory-start (calls lines)))
 
 pub idle-fails : Plays idle → ⊥

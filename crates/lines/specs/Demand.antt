@@ -3,23 +3,23 @@ use Prim.Native.Nat.{ℕ}
 use mathlib.Core.Path.{_≡_}
 use mathlib.Core.Bool.{Bool, true, false, cond}
 use mathlib.Core.List.{List, [], _∷_}
-use lib.ListN.{set, drop}
+use lib.ListN.{length, set, drop}
 use Rattle.words.specs.Reading.{pos}
-use Rattle.state.specs.Settings.{settingAt}
-use Rattle.state.specs.Values.{putKept}
+use Rattle.instrument.specs.Settings.{settingPlace}
+use Rattle.instrument.specs.Values.{putKept}
 use Rattle.state.specs.Entries.{valueOf, isState}
-use Rattle.state.specs.declared.settings.Found.{Found}
-use Rattle.state.specs.declared.settings.Found.the-variants.{Nothing, At}
-use Rattle.state.specs.declared.values.Kept.{Kept}
-use Rattle.state.specs.declared.values.Value.{Value}
+use Rattle.instrument.specs.declared.settings.Found.{Found}
+use Rattle.instrument.specs.declared.settings.Found.the-variants.{Nothing, At}
+use Rattle.instrument.specs.declared.values.Kept.{Kept}
+use Rattle.instrument.specs.declared.values.Value.{Value}
 use Rattle.state.specs.declared.entries.State.{State}
 use Rattle.lines.specs.Shapes.{textOf, orderOf}
 use Rattle.lines.specs.Verdicts.{placeNamed, isAccepted}
-use Rattle.lines.specs.Machine.{step}
+use Rattle.lines.specs.Machine.{step, call}
 use Rattle.lines.specs.declared.shapes.Order.{Order}
 use Rattle.lines.specs.declared.shapes.Order.the-variants.{Not, Set, Conf, Put, Get, Undo, Keep}
 
--- "From the factory state or a loaded sheet": a state with no undo entry
+-- the factory state or a loaded sheet: a state with no undo entry
 pub record Start (s : State) : Type 0 where
   pub state : isState s ≡ true
   pub none : s .count ≡ 0
@@ -53,7 +53,7 @@ value c k (At i) = record { settings = c .settings; values = set (c .values) i (
 -- "playing a line only stores what it names"
 abbrev pub stores : Contents → List ℕ → Order → Contents
 stores c t Not = c
-stores c t (Set n p) = setting c p (settingAt n)
+stores c t (Set n p) = setting c p (settingPlace n)
 stores c t (Conf n) = c
 stores c t Put = value c (putKept (drop 4 t)) (placeNamed (pos 1 (drop 4 t)) (pos 2 (drop 4 t)))
 stores c t Get = c
@@ -68,7 +68,7 @@ pub data Mark : Type 0 where
   stored : List ℕ → Mark
   kept : Mark
 
--- "each accepted UNDO strikes the newest"
+-- each accepted UNDO strikes the newest
 unfoldable pub strike : List Mark → List Mark
 strike [] = []
 strike (stored line ∷ ms) = ms
@@ -97,8 +97,22 @@ playAll c [] = c
 playAll c (stored line ∷ ms) = play (playAll c ms) line
 playAll c (kept ∷ ms) = playAll c ms
 
--- an unstruck SET or PUT line stands after the last KEEP, "the start counting as one"
+-- an unstruck SET or PUT line stands after the last KEEP, the start counting as one
 abbrev pub stands : List Mark → Bool
 stands [] = false
 stands (stored line ∷ ms) = true
 stands (kept ∷ ms) = false
+
+-- a line, and the room's bytes that are lent for its reply
+pub record Lent : Type 0 where
+  pub line : List ℕ
+  pub room : List ℕ
+
+-- a call looks at the room's length alone
+abbrev pub inRoom : Lent → Call
+inRoom c = record { line = c .line; room = length (c .room) }
+
+-- the image after some calls
+unfoldable pub imageAfter : List ℕ → List Lent → List ℕ
+imageAfter image [] = image
+imageAfter image (c ∷ cs) = imageAfter (call image (c .line) (c .room) .image) cs

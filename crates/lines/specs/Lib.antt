@@ -4,3 +4,4 @@ pub mod Orders
 pub mod Replies
 pub mod Machine
 pub mod Demand
+pub mod Keeping

@@ -15,7 +15,6 @@ use Rattle.lines.specs.Replies.{replyOf}
 use Rattle.lines.specs.declared.verdicts.Verdict.{Verdict}
 use Rattle.lines.specs.declared.verdicts.Verdict.the-variants.{Room, NoState}
 use Rattle.lines.specs.declared.machine.Told.{Told}
-use Rattle.lines.specs.declared.machine.Ran.{Ran}
 
 pub record Outcome : Type 0 where
   pub verdict : Verdict
@@ -32,23 +31,15 @@ run s line =
     outcome v (replyOf s (textOf line) (orderOf (textOf line)) v) (cond (isAccepted v) (doneOf s (textOf line) (orderOf (textOf line))) s)
 
 -- 30: "reply or sheet, `@W127` included, longer than the room: nothing written or changed"
-abbrev pub fitted : State → ℕ → Outcome → Outcome
-fitted s room o = cond (leb (length (o .reply)) room) o (outcome Room [] s)
+abbrev pub replyInRoom : State → ℕ → Outcome → Outcome
+replyInRoom s room o = cond (leb (length (o .reply)) room) o (outcome Room [] s)
 
 abbrev pub step : State → List ℕ → ℕ → Outcome
-step s line room = fitted s room (run s line)
+step s line room = replyInRoom s room (run s line)
 
 -- "A call returns its number, 0 if accepted, and the count of reply bytes written (0 at 30 and 31)."
 abbrev pub told : Verdict → ℕ → Told
 told v n = record { verdict = v; count = n }
-
--- the same as the code keeps it: what a line that runs to an outcome comes to in a room
-abbrev pub ranOf : Verdict → ℕ → State → Ran
-ranOf v n s = record { told = told v n; state = s }
-
-abbrev pub Ends : State → Outcome → List ℕ → Ran → List ℕ → Type 0
-Ends s o room r room′ =
-    let f = fitted s (length room) o in (r ≡ ranOf (f .verdict) (length (f .reply)) (f .next)) × (room′ ≡ laid (f .reply) room)
 
 -- what a call on an image comes to
 pub record Called : Type 0 where

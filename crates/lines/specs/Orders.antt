@@ -1,25 +1,25 @@
 -- What an accepted line does to the state: "An accepted SET or PUT adds one, even if nothing altered. UNDO takes the newest back, restoring
 -- "never put" too. KEEP empties the list".
 use Prim.Native.Nat.{ℕ, _+_, _-_}
-use mathlib.Core.Bool.{cond, _||_}
+use mathlib.Core.Bool.{cond}
 use mathlib.Core.List.{List}
-use lib.Dec.{eqb, leb, ltb}
-use lib.ListN.{getD, set, drop, replicate}
+use lib.Dec.{eqb}
+use lib.ListN.{getD, set, drop}
 use Rattle.words.specs.Reading.{pos}
-use Rattle.state.specs.Settings.{settingAt}
-use Rattle.state.specs.Values.{putKept}
-use Rattle.state.specs.Entries.{settingsN, valuesN, entriesN, valueOf, entryOf, blankEntry}
-use Rattle.state.specs.declared.settings.Found.{Found}
-use Rattle.state.specs.declared.settings.Found.the-variants.{Nothing, At}
-use Rattle.state.specs.declared.values.Kept.{Kept}
-use Rattle.state.specs.declared.values.Kept.the-variants.{Never}
-use Rattle.state.specs.declared.values.Value.{Value}
+use Rattle.instrument.specs.Settings.{settingPlace}
+use Rattle.instrument.specs.Values.{putKept}
+use Rattle.state.specs.Entries.{valueOf, entryOf, blankEntry, noEntries}
+use Rattle.instrument.specs.declared.settings.Found.{Found}
+use Rattle.instrument.specs.declared.settings.Found.the-variants.{Nothing, At}
+use Rattle.instrument.specs.declared.values.Kept.{Kept}
+use Rattle.instrument.specs.declared.values.Kept.the-variants.{Never}
+use Rattle.instrument.specs.declared.values.Value.{Value}
 use Rattle.state.specs.declared.entries.Item.{Item}
 use Rattle.state.specs.declared.entries.Item.the-variants.{Free, Setting, Stored}
 use Rattle.state.specs.declared.entries.Former.{Former}
 use Rattle.state.specs.declared.entries.Entry.{Entry}
 use Rattle.state.specs.declared.entries.State.{State}
-use Rattle.lines.specs.Verdicts.{placeNamed, valueIn}
+use Rattle.lines.specs.Verdicts.{placeNamed, valueHeld}
 use Rattle.lines.specs.declared.shapes.Order.{Order}
 use Rattle.lines.specs.declared.shapes.Order.the-variants as order
 
@@ -34,7 +34,7 @@ abbrev pub setOf : State → ℕ → ℕ → State
 setOf s i p = stateOf (set (s .settings) i p) (s .values) (pushed s (entryOf (Setting i) (getD (s .settings) i 0) Never)) (s .count + 1)
 
 abbrev pub putOf : State → ℕ → Kept → State
-putOf s i k = stateOf (s .settings) (set (s .values) i (valueOf k)) (pushed s (entryOf (Stored i) 0 (valueIn (s .values) i .kept))) (s .count + 1)
+putOf s i k = stateOf (s .settings) (set (s .values) i (valueOf k)) (pushed s (entryOf (Stored i) 0 (valueHeld (s .values) i .kept))) (s .count + 1)
 
 -- an item with its former content again
 abbrev pub settingsBack : List ℕ → Item → Former → List ℕ
@@ -59,22 +59,22 @@ abbrev pub undoOf : State → State
 undoOf s = cond (eqb (s .count) 0) s (takenBack s (newest s))
 
 abbrev pub keepOf : State → State
-keepOf s = stateOf (s .settings) (s .values) (replicate entriesN blankEntry) 0
+keepOf s = noEntries (s .settings) (s .values)
 
--- what a SET or PUT that is accepted names is in the lists and in range, and an entry is free
-abbrev pub setAt : State → ℕ → Found → State
-setAt s p Nothing = s
-setAt s p (At i) = cond (leb settingsN i || (ltb 255 p || leb entriesN (s .count))) s (setOf s i p)
+-- by what the line names; one that names nothing isn't accepted
+abbrev pub setNamed : State → ℕ → Found → State
+setNamed s p Nothing = s
+setNamed s p (At i) = setOf s i p
 
 abbrev pub setDone : State → ℕ → ℕ → State
-setDone s n p = setAt s p (settingAt n)
+setDone s n p = setNamed s p (settingPlace n)
 
-abbrev pub putAt : State → Kept → Found → State
-putAt s k Nothing = s
-putAt s k (At i) = cond (leb valuesN i || leb entriesN (s .count)) s (putOf s i k)
+abbrev pub putNamed : State → Kept → Found → State
+putNamed s k Nothing = s
+putNamed s k (At i) = putOf s i k
 
 abbrev pub putDone : State → List ℕ → State
-putDone s word = putAt s (putKept word) (placeNamed (pos 1 word) (pos 2 word))
+putDone s word = putNamed s (putKept word) (placeNamed (pos 1 word) (pos 2 word))
 
 -- the state once the line has run
 abbrev pub doneOf : State → List ℕ → Order → State

@@ -4,6 +4,7 @@ use mathlib.Core.Bool.{Bool, cond, not, _&&_, _||_}
 use mathlib.Core.List.{List, [], _∷_}
 use lib.Dec.{eqb, leb, ltb}
 use lib.ListN.{length, getD, take, drop}
+use Rattle.figures.specs.Text.{codes}
 use Rattle.figures.specs.Bytes.{within, every, startsWith, sameBytes}
 use Rattle.figures.specs.Decimal.{isDigit, numberOf}
 use Rattle.figures.specs.declared.Said.{Said}
@@ -54,7 +55,7 @@ confOrder s = cond (numberRight s) (Conf (numberOf s)) Not
 
 -- `/WI` and two digits
 abbrev pub groupRight : List ℕ → Bool
-groupRight g = leb 5 (length g) && (startsWith (47 ∷ 87 ∷ 73 ∷ []) g && (isDigit (getD g 3 0) && isDigit (getD g 4 0)))
+groupRight g = leb 5 (length g) && (startsWith (codes "/WI") g && (isDigit (getD g 3 0) && isDigit (getD g 4 0)))
 
 -- n groups and nothing after them
 unfoldable pub groupsRight : ℕ → List ℕ → Bool
@@ -70,22 +71,22 @@ getOrder s = cond (ltb 0 (length s) && groupsRight (groupsIn s) s) Get Not
 
 -- the keywords
 abbrev pub set-slash : List ℕ
-set-slash = 83 ∷ 69 ∷ 84 ∷ 47 ∷ []
+set-slash = codes "SET/"
 
 abbrev pub conf-slash : List ℕ
-conf-slash = 67 ∷ 79 ∷ 78 ∷ 70 ∷ 47 ∷ []
+conf-slash = codes "CONF/"
 
 abbrev pub put-slash : List ℕ
-put-slash = 80 ∷ 85 ∷ 84 ∷ 47 ∷ []
+put-slash = codes "PUT/"
 
 abbrev pub get-i : List ℕ
-get-i = 71 ∷ 69 ∷ 84 ∷ 47 ∷ 73 ∷ []
+get-i = codes "GET/I"
 
 abbrev pub undo-word : List ℕ
-undo-word = 85 ∷ 78 ∷ 68 ∷ 79 ∷ []
+undo-word = codes "UNDO"
 
 abbrev pub keep-word : List ℕ
-keep-word = 75 ∷ 69 ∷ 69 ∷ 80 ∷ []
+keep-word = codes "KEEP"
 
 -- the shapes; "`PUT/` and 16 characters"
 abbrev pub orderOf : List ℕ → Order

@@ -2,24 +2,25 @@
 use Prim.Native.Nat.{ℕ, zero, suc}
 use mathlib.Core.Bool.{Bool, cond, _&&_}
 use mathlib.Core.List.{List}
-use lib.Dec.{eqb, leb, ltb}
+use lib.Dec.{eqb, leb}
 use lib.ListN.{length, getD, drop}
 use Rattle.figures.specs.Decimal.{isDigit}
 use Rattle.units.specs.Kinds.{indexOf}
 use Rattle.words.specs.Reading.{pos}
-use Rattle.state.specs.Settings.{rowAt, settingAt}
-use Rattle.state.specs.Values.{valueAt, putRight, isPut}
+use Rattle.instrument.specs.Settings.{rowAt, settingPlace, inRange}
+use Rattle.instrument.specs.Values.{valuePlace, putRight, isPut}
 use Rattle.state.specs.Entries.{entriesN, valueOf}
-use Rattle.state.specs.declared.settings.Found.{Found}
-use Rattle.state.specs.declared.settings.Found.the-variants.{Nothing, At}
-use Rattle.state.specs.declared.values.Kept.the-variants.{Never}
-use Rattle.state.specs.declared.values.Value.{Value}
+use Rattle.instrument.specs.declared.settings.Found.{Found}
+use Rattle.instrument.specs.declared.settings.Found.the-variants.{Nothing, At}
+use Rattle.instrument.specs.declared.values.Kept.the-variants.{Never}
+use Rattle.instrument.specs.declared.values.Value.{Value}
 use Rattle.state.specs.declared.entries.State.{State}
 use Rattle.lines.specs.Shapes.{isEnded, textOf, groupsIn, orderOf}
 use Rattle.lines.specs.declared.shapes.Order.{Order}
 use Rattle.lines.specs.declared.shapes.Order.the-variants as order
 use Rattle.lines.specs.declared.verdicts.Verdict.{Verdict}
-use Rattle.lines.specs.declared.verdicts.Verdict.the-variants.{Accepted, Unended, Long, Shape, Setting, Parameter, Index, Word, NeverPut, Full, NoEntry, Room, NoState}
+use Rattle.lines.specs.declared.verdicts.Verdict.the-variants.{Accepted, Unended, Long, Shape, Setting, Parameter}
+use Rattle.lines.specs.declared.verdicts.Verdict.the-variants.{Index, Word, NeverPut, Full, NoEntry, Room, NoState}
 
 abbrev pub verdictNumber : Verdict → ℕ
 verdictNumber Accepted = 0
@@ -46,10 +47,10 @@ fullVerdict count = cond (leb entriesN count) Full Accepted
 -- 23, 24, 28
 abbrev pub setBy : ℕ → ℕ → Found → Verdict
 setBy count p Nothing = Setting
-setBy count p (At i) = cond (ltb (rowAt i .highest) p) Parameter (fullVerdict count)
+setBy count p (At i) = cond (inRange (rowAt i) p) (fullVerdict count) Parameter
 
 abbrev pub setVerdict : ℕ → ℕ → ℕ → Verdict
-setVerdict count n p = setBy count p (settingAt n)
+setVerdict count n p = setBy count p (settingPlace n)
 
 -- 23
 abbrev pub confBy : Found → Verdict
@@ -57,11 +58,11 @@ confBy Nothing = Setting
 confBy (At i) = Accepted
 
 abbrev pub confVerdict : ℕ → Verdict
-confVerdict n = confBy (settingAt n)
+confVerdict n = confBy (settingPlace n)
 
 -- the place of the stored value that two characters name
 abbrev pub placeNamed : ℕ → ℕ → Found
-placeNamed tens ones = cond (isDigit tens && isDigit ones) (valueAt (indexOf tens ones)) Nothing
+placeNamed tens ones = cond (isDigit tens && isDigit ones) (valuePlace (indexOf tens ones)) Nothing
 
 -- 25, 26, 28
 abbrev pub putBy : ℕ → List ℕ → Found → Verdict
@@ -71,13 +72,13 @@ putBy count word (At i) = cond (putRight i word) (fullVerdict count) Word
 abbrev pub putVerdict : ℕ → List ℕ → Verdict
 putVerdict count word = putBy count word (placeNamed (pos 1 word) (pos 2 word))
 
-abbrev pub valueIn : List Value → ℕ → Value
-valueIn values i = getD values i (valueOf Never)
+abbrev pub valueHeld : List Value → ℕ → Value
+valueHeld values i = getD values i (valueOf Never)
 
 -- 25, then 27, index by index
 abbrev pub getBy : List Value → Found → Verdict → Verdict
 getBy values Nothing next = Index
-getBy values (At i) next = cond (isPut (valueIn values i .kept)) next NeverPut
+getBy values (At i) next = cond (isPut (valueHeld values i .kept)) next NeverPut
 
 unfoldable pub getVerdict : List Value → ℕ → List ℕ → Verdict
 getVerdict values zero g = Accepted

@@ -7,8 +7,9 @@ ghost use lib.ListN.{length};
 ghost use Rattle.state.specs.Entries.{entriesN};
 ghost use Rattle.lines.specs.Verdicts.{isAccepted};
 ghost use Rattle.lines.specs.Orders.{doneOf};
-ghost use Rattle.lines.specs.Replies.{wrong, endBytes, bodyOf, Accepts};
-ghost use Rattle.lines.specs.Machine.{outcome, run, ranOf, Ends, Calls};
+ghost use Rattle.lines.specs.Replies.{wrong, replyEnd, bodyOf};
+ghost use Rattle.lines.specs.Machine.{outcome, run, Calls};
+ghost use Rattle.lines.specs.Keeping.{ranOf, Ends, Accepts};
 use crate::orders::done;
 use crate::replies::body_length;
 use crate::replies::ends_lf;
@@ -40,7 +41,7 @@ pub struct Ran {
 }
 
 fn end_length(s: State) -> usize
-    ensures { λ r. ⌜ r ≡ length (endBytes s) ⌝ }
+    ensures { λ r. ⌜ r ≡ length (replyEnd s) ⌝ }
 {
     if ends_lf(s) { 2 } else { 1 }
 }
@@ -61,7 +62,7 @@ fn with_state(verdict: Verdict, count: usize, state: State) -> Ran
 // A refused line: `@W127` where it fits.
 fn refuse(s: State, verdict: Verdict, room: &mut [u8]) -> Ran
     requires { ⌜ isAccepted verdict ≡ false ⌝ }
-    ensures { λ r. ⌜ Ends s (outcome verdict (wrong ++ endBytes s) s) (now (room .entry)) r (now (room .exit)) ⌝ }
+    ensures { λ r. ⌜ Ends s (outcome verdict (wrong ++ replyEnd s) s) (now (room .entry)) r (now (room .exit)) ⌝ }
 {
     let n = 5 + end_length(s);
     if room.len() < n {
@@ -74,7 +75,7 @@ fn refuse(s: State, verdict: Verdict, room: &mut [u8]) -> Ran
 // An accepted line: its reply where it fits, and what it does.
 fn accept(s: State, text: &[u8], order: Order, room: &mut [u8]) -> Ran
     requires { ⌜ (s .count ≤ entriesN) × Accepts s (now text) order ⌝ }
-    ensures { λ r. ⌜ Ends s (outcome Verdict.Accepted (bodyOf s (now (text .entry)) order ++ endBytes s) (doneOf s (now (text .entry)) order)) (now (room .entry)) r (now (room .exit)) ⌝ }
+    ensures { λ r. ⌜ Ends s (outcome Verdict.Accepted (bodyOf s (now (text .entry)) order ++ replyEnd s) (doneOf s (now (text .entry)) order)) (now (room .entry)) r (now (room .exit)) ⌝ }
 {
     let n = body_length(s, text, order) + end_length(s);
     if room.len() < n {

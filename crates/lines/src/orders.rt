@@ -1,38 +1,37 @@
 // What an accepted line does to the state.
 ghost use mathlib.Core.Path.{_≡_};
 ghost use Prim.Native.Nat.{_<_, _≤_};
-ghost use lib.ListN.{length};
-ghost use Rattle.state.specs.Entries.{settingsN, valuesN, entriesN};
-ghost use Rattle.lines.specs.Shapes.{orderOf};
+ghost use Rattle.state.specs.Entries.{entriesN};
+ghost use Rattle.instrument.specs.Values.{valuesN};
+ghost use Rattle.instrument.specs.Settings.{settingsN};
+ghost use Rattle.lines.specs.Verdicts.{setVerdict, putVerdict};
 ghost use Rattle.lines.specs.Orders.{setOf, putOf, undoOf, keepOf, setDone, putDone, doneOf};
+ghost use Rattle.lines.specs.Keeping.{Accepts};
+ghost use Rattle.lines.specs.declared.verdicts.Verdict as Verdict;
 use crate::shapes::Order;
 use crate::verdicts::place_named;
 use crate::verdicts::setting_of;
 use crate::verdicts::word_of;
+use figures::casts::place_of;
+use instrument::settings::Found;
+use instrument::settings::SETTINGS;
+use instrument::values::Kept;
+use instrument::values::VALUES;
+use instrument::values::Value;
+use instrument::values::put_kept;
 use state::entries::ENTRIES;
 use state::entries::Entry;
 use state::entries::Former;
 use state::entries::Item;
 use state::entries::State;
 use state::entries::blank_entry;
-use state::settings::Found;
-use state::settings::SETTINGS;
-use state::values::Kept;
-use state::values::VALUES;
-use state::values::Value;
-use state::values::put_kept;
+use state::entries::with_no_entries;
 
 fn byte(n: usize) -> u8
     requires { ⌜ n < 256 ⌝ }
     ensures { λ r. ⌜ r ≡ n ⌝ }
 {
     n as u8
-}
-
-fn place_of(b: u8) -> usize
-    ensures { λ r. ⌜ r ≡ b ⌝ }
-{
-    b as usize
 }
 
 // The parameter stored, and the former one kept in an entry.
@@ -122,12 +121,9 @@ pub(crate) fn undo(s: State) -> State
 pub(crate) fn keep(s: State) -> State
     ensures { λ r. ⌜ r ≡ keepOf s ⌝ }
 {
-    let blank = blank_entry();
-    let undo = [blank; ENTRIES];
-    let mut t = s;
-    t.undo = undo;
-    t.count = 0;
-    t
+    let settings = s.settings;
+    let values = s.values;
+    with_no_entries(settings, values)
 }
 
 fn small(n: u64) -> u8
@@ -138,43 +134,28 @@ fn small(n: u64) -> u8
 }
 
 fn set_done(s: State, number: u64, parameter: u64) -> State
-    requires { ⌜ s .count ≤ entriesN ⌝ }
+    requires { ⌜ setVerdict (s .count) number parameter ≡ Verdict.Verdict.Accepted ⌝ }
     ensures { λ r. ⌜ r ≡ setDone s number parameter ⌝ }
 {
     let Found::At(place) = setting_of(number) else {
         return s;
     };
-    if SETTINGS <= place {
-        return s;
-    }
-    if 255 < parameter {
-        return s;
-    }
-    if ENTRIES <= s.count {
-        return s;
-    }
     set(s, place, small(parameter))
 }
 
 fn put_done(s: State, word: [u8; 16]) -> State
-    requires { ⌜ s .count ≤ entriesN ⌝ }
+    requires { ⌜ putVerdict (s .count) word ≡ Verdict.Verdict.Accepted ⌝ }
     ensures { λ r. ⌜ r ≡ putDone s word ⌝ }
 {
     let Found::At(place) = place_named(word[0], word[1]) else {
         return s;
     };
-    if VALUES <= place {
-        return s;
-    }
-    if ENTRIES <= s.count {
-        return s;
-    }
     put(s, place, put_kept(word))
 }
 
 // The state once an accepted line has run.
 pub(crate) fn done(s: State, text: &[u8], order: Order) -> State
-    requires { ⌜ (s .count ≤ entriesN) × (order ≡ orderOf (now text)) ⌝ }
+    requires { ⌜ (s .count ≤ entriesN) × Accepts s (now text) order ⌝ }
     ensures { λ r. ⌜ r ≡ doneOf s (now (text .entry)) order ⌝ }
 {
     match order {

@@ -6,28 +6,33 @@ ghost use lib.ListN.{length};
 ghost use Rattle.figures.specs.Bytes.{laid};
 ghost use Rattle.lines.specs.Shapes.{groupsIn};
 ghost use Rattle.lines.specs.Verdicts.{confVerdict};
-ghost use Rattle.lines.specs.Replies.{endsLf, lineEnd, endBytes, wrong, confBody, getBody, bodyOf, GetFits, Accepts};
+ghost use Rattle.lines.specs.Replies.{endsLf, replyEnd, wrong, confBody, getBody, bodyOf};
+ghost use Rattle.lines.specs.Keeping.{GetFits, Accepts};
+ghost use Rattle.figures.specs.Text.{endBytes};
 ghost use Rattle.lines.specs.declared.verdicts.Verdict as Verdict;
 use crate::shapes::Order;
 use crate::verdicts::place_named;
 use crate::verdicts::setting_of;
+use figures::casts::wide;
+use instrument::settings::Found;
+use instrument::settings::SETTINGS;
+use instrument::settings::parameter_of;
+use instrument::values::VALUES;
+use instrument::values::Value;
+use instrument::values::get_word;
 use state::entries::State;
-use state::settings::Found;
-use state::settings::SETTINGS;
-use state::values::VALUES;
-use state::values::Value;
-use state::values::get_word;
 
-// Whether a reply ends in CR LF.
+// Whether a reply ends in CR LF: setting 73.
 pub(crate) fn ends_lf(s: State) -> bool
     ensures { λ r. ⌜ r ≡ endsLf s ⌝ }
 {
-    s.settings[10] != 0
+    let settings = s.settings;
+    parameter_of(settings, 73) != 0
 }
 
 // Lays CR or CR LF.
 fn put_end(lf: bool, room: &mut [u8])
-    ensures { λ _. ⌜ now (room .exit) ≡ laid (lineEnd lf) (now (room .entry)) ⌝ }
+    ensures { λ _. ⌜ now (room .exit) ≡ laid (endBytes lf) (now (room .entry)) ⌝ }
 {
     if lf {
         figures::lay(b"\r\n", room);
@@ -38,8 +43,8 @@ fn put_end(lf: bool, room: &mut [u8])
 
 // Lays a text and the reply's end.
 fn put_text(w: &[u8], lf: bool, room: &mut [u8])
-    requires { ⌜ length (now w) + length (lineEnd lf) ≤ length (now room) ⌝ }
-    ensures { λ _. ⌜ now (room .exit) ≡ laid (now (w .entry) ++ lineEnd lf) (now (room .entry)) ⌝ }
+    requires { ⌜ length (now w) + length (endBytes lf) ≤ length (now room) ⌝ }
+    ensures { λ _. ⌜ now (room .exit) ≡ laid (now (w .entry) ++ endBytes lf) (now (room .entry)) ⌝ }
 {
     let n = w.len();
     figures::lay(w, room);
@@ -67,12 +72,6 @@ fn put_get(values: [Value; VALUES], groups: &[u8], room: &mut [u8])
         at += 16;
         i += 5;
     }
-}
-
-fn wide(b: u8) -> u64
-    ensures { λ r. ⌜ r ≡ b ⌝ }
-{
-    b as u64
 }
 
 // The nine characters that CONF answers.
@@ -110,8 +109,8 @@ pub(crate) fn body_length(s: State, text: &[u8], order: Order) -> usize
 
 // Lays the reply to an accepted line.
 pub(crate) fn put_reply(s: State, text: &[u8], order: Order, room: &mut [u8])
-    requires { ⌜ Accepts s (now text) order × (length (bodyOf s (now text) order) + length (endBytes s) ≤ length (now room)) ⌝ }
-    ensures { λ _. ⌜ now (room .exit) ≡ laid (bodyOf s (now (text .entry)) order ++ endBytes s) (now (room .entry)) ⌝ }
+    requires { ⌜ Accepts s (now text) order × (length (bodyOf s (now text) order) + length (replyEnd s) ≤ length (now room)) ⌝ }
+    ensures { λ _. ⌜ now (room .exit) ≡ laid (bodyOf s (now (text .entry)) order ++ replyEnd s) (now (room .entry)) ⌝ }
 {
     let lf = ends_lf(s);
     match order {
@@ -133,8 +132,8 @@ pub(crate) fn put_reply(s: State, text: &[u8], order: Order, room: &mut [u8])
 
 // Lays the reply to a refused line.
 pub(crate) fn put_wrong(s: State, room: &mut [u8])
-    requires { ⌜ 5 + length (endBytes s) ≤ length (now room) ⌝ }
-    ensures { λ _. ⌜ now (room .exit) ≡ laid (wrong ++ endBytes s) (now (room .entry)) ⌝ }
+    requires { ⌜ 5 + length (replyEnd s) ≤ length (now room) ⌝ }
+    ensures { λ _. ⌜ now (room .exit) ≡ laid (wrong ++ replyEnd s) (now (room .entry)) ⌝ }
 {
     put_text(b"@W127", ends_lf(s), room);
 }

@@ -3,20 +3,23 @@ ghost use mathlib.Core.Path.{_≡_};
 ghost use Prim.Native.Nat.{_≤_};
 ghost use lib.ListN.{length, drop};
 ghost use mathlib.Core.Bool.{true};
-ghost use Rattle.state.specs.Settings.{settingAt};
+ghost use Rattle.instrument.specs.Settings.{settingPlace};
 ghost use Rattle.lines.specs.Shapes.{groupsRight, groupsIn, orderOf};
 ghost use Rattle.lines.specs.Verdicts.{verdictNumber, isAccepted, fullVerdict, setVerdict, confVerdict, placeNamed, putVerdict, getVerdict, orderVerdict};
 use crate::shapes::Order;
+use instrument::settings::Found;
+use instrument::settings::in_range;
+use instrument::settings::row_at;
+use instrument::settings::setting_at;
+use instrument::values::VALUES;
+use instrument::values::Value;
+use instrument::values::is_put;
+use instrument::values::put_right;
+use instrument::values::value_at;
 use state::entries::ENTRIES;
 use state::entries::State;
-use state::settings::Found;
-use state::settings::row_at;
-use state::settings::setting_at;
-use state::values::VALUES;
-use state::values::Value;
-use state::values::is_put;
-use state::values::put_right;
-use state::values::value_at;
+use units::kinds::Named;
+use units::kinds::named_by;
 
 pub enum Verdict {
     Accepted,
@@ -73,18 +76,12 @@ fn small(n: u64) -> u16
 
 // A place among the settings, for a number of any size.
 pub(crate) fn setting_of(number: u64) -> Found
-    ensures { λ r. ⌜ r ≡ settingAt number ⌝ }
+    ensures { λ r. ⌜ r ≡ settingPlace number ⌝ }
 {
     if 9999 < number {
         return Found::Nothing;
     }
     setting_at(small(number))
-}
-
-fn wide(b: u8) -> u64
-    ensures { λ r. ⌜ r ≡ b ⌝ }
-{
-    b as u64
 }
 
 fn full(count: usize) -> Verdict
@@ -103,8 +100,7 @@ fn set_verdict(count: usize, number: u64, parameter: u64) -> Verdict
     let Found::At(place) = setting_of(number) else {
         return Verdict::Setting;
     };
-    let row = row_at(place);
-    if wide(row.highest) < parameter {
+    if !in_range(row_at(place), parameter) {
         return Verdict::Parameter;
     }
     full(count)
@@ -119,23 +115,14 @@ fn conf_verdict(number: u64) -> Verdict
     Verdict::Accepted
 }
 
-fn figure(b: u8) -> u16
-    ensures { λ r. ⌜ r ≡ b ⌝ }
-{
-    b as u16
-}
-
 // The place of the stored value that two characters name.
 pub(crate) fn place_named(tens: u8, ones: u8) -> Found
     ensures { λ r. ⌜ r ≡ placeNamed tens ones ⌝ }
 {
-    if !figures::digit(tens) {
+    let Named::Index(index) = named_by(tens, ones) else {
         return Found::Nothing;
-    }
-    if !figures::digit(ones) {
-        return Found::Nothing;
-    }
-    value_at(figure(tens - b'0') * 10 + figure(ones - b'0'))
+    };
+    value_at(index)
 }
 
 // The 16 bytes of PUT's word.

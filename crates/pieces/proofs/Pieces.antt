@@ -88,5 +88,7 @@ pieces-more [] h = absurd (omega arith)
 pieces-more (b ∷ l) h =
     let c = cutOf (b ∷ l) in
     let some = cut-some (b ∷ l) (omega arith) in
-    let left : length (drop c (b ∷ l)) ≤ length l = omega (arith, length-drop c (b ∷ l)) in
-    rw (eqb·suc-zero (length l)) (ap (λ (ps : List (List ℕ)). take c (b ∷ l) ∷ ps) (pieces-enough (length l) (length (drop c (b ∷ l))) (drop c (b ∷ l)) left (omega arith)))
+    let rest = drop c (b ∷ l) in
+    let left : length rest ≤ length l = omega (arith, length-drop c (b ∷ l)) in
+    let enough = pieces-enough (length l) (length rest) rest left (omega arith) in
+    rw (eqb·suc-zero (length l)) (ap (λ (ps : List (List ℕ)). take c (b ∷ l) ∷ ps) enough)

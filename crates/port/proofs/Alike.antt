@@ -11,8 +11,8 @@ use lib.Seq.{take-at, getD-at}
 use Rattle.state.specs.Image.{isImage, stateIn}
 use Rattle.state.specs.declared.entries.State.{State}
 use Rattle.lines.specs.Shapes.{fromEnd, endOf, textOf, isPlain, isEnded}
-use Rattle.lines.specs.Replies.{wrong, endBytes}
-use Rattle.lines.specs.Machine.{Outcome, outcome, run, fitted, told, played, call}
+use Rattle.lines.specs.Replies.{wrong, replyEnd}
+use Rattle.lines.specs.Machine.{Outcome, outcome, run, replyInRoom, told, Called, played, call}
 use Rattle.lines.specs.declared.verdicts.Verdict.the-variants.{Unended, Long, NoState}
 
 -- two texts that are judged alike: the same, or both over 100 characters and both plain or neither
@@ -40,7 +40,7 @@ module _ (l : List ℕ) where
   ended-is : isEnded ended ≡ isPlain l
   ended-is = rw (text-is, end-one)
 
-  run-over : (s : State) (plain : Bool) → isPlain l ≡ plain → 100 < length l → run s ended ≡ outcome (cond plain Long Unended) (wrong ++ endBytes s) s
+  run-over : (s : State) (plain : Bool) → isPlain l ≡ plain → 100 < length l → run s ended ≡ outcome (cond plain Long Unended) (wrong ++ replyEnd s) s
   run-over s true e h = rw (ended-is ∙ e, text-is, lt-leb (length l) 100 h)
   run-over s false e h = rw (ended-is ∙ e)
 
@@ -51,4 +51,5 @@ run-alike k l (over hk hl e) s = run-over k s (isPlain k) refl hk ∙ sym (run-o
 pub call-alike : (image k l room : List ℕ) → Alike k l → call image (k ++ (13 ∷ [])) room ≡ call image (l ++ (13 ∷ [])) room
 call-alike image k l room a =
     let s = stateIn image in
-    ap (λ (o : Outcome). cond (isImage image) (played (fitted s (length room) o) room) (record { answer = told NoState 0; image = image; room = room })) (run-alike k l a s)
+    let none : Called = record { answer = told NoState 0; image = image; room = room } in
+    ap (λ (o : Outcome). cond (isImage image) (played (replyInRoom s (length room) o) room) none) (run-alike k l a s)

@@ -56,27 +56,32 @@ alike-over k l h (same e) = (omega (arith, ap length e), ap isPlain e)
 alike-over k l h (over hk hl e) = (hl, e)
 
 module _ (p : Port) (line : List ℕ) (after : Bool) (b : ℕ) (h : Holds p line after) where
+  abbrev held : List ℕ
+  held = take (p .n) (p .bytes)
+
   within : p .n < 101 → Holds (record { bytes = set (p .bytes) (p .n) b; n = p .n + 1; after = false }) (line ++ (b ∷ [])) false
   within few =
-      let more : take (p .n + 1) (set (p .bytes) (p .n) b) ≡ take (p .n) (p .bytes) ++ (b ∷ []) = rw (add-one (p .n)) (take-suc-set (p .bytes) (p .n) b (omega arith)) in
+      let more : take (p .n + 1) (set (p .bytes) (p .n) b) ≡ held ++ (b ∷ []) = rw (add-one (p .n)) (take-suc-set (p .bytes) (p .n) b (omega arith)) in
       record {
         flag = refl;
         size = length-set (p .bytes) (p .n) b ∙ h .size;
         few = omega arith;
-        kept = rw more (alike-more (take (p .n) (p .bytes)) line b (omega (arith, length-take-le (p .n) (p .bytes) (omega arith))) (h .kept));
+        kept = rw more (alike-more held line b (omega (arith, length-take-le (p .n) (p .bytes) (omega arith))) (h .kept));
       }
 
-  past : 101 ≤ p .n → (end : Bool) → isEnd b ≡ end → Holds (record { bytes = cond end (set (p .bytes) 100 b) (p .bytes); n = p .n; after = false }) (line ++ (b ∷ [])) false
+  past : 101 ≤ p .n → (end : Bool) → isEnd b ≡ end
+      → Holds (record { bytes = cond end (set (p .bytes) 100 b) (p .bytes); n = p .n; after = false }) (line ++ (b ∷ [])) false
   past many end e =
       let bytes = cond end (set (p .bytes) 100 b) (p .bytes) in
       let size : length bytes ≡ 101 = long end in
-      let all : take (p .n) (p .bytes) ≡ p .bytes = take-all (p .n) (p .bytes) (omega arith) in
+      let all : held ≡ p .bytes = take-all (p .n) (p .bytes) (omega arith) in
       let was = alike-over (p .bytes) line (omega arith) (rw all at (h .kept)) in
+      let plain : isPlain bytes ≡ isPlain (line ++ (b ∷ [])) = plain-past (p .bytes) b (h .size) end e ∙ rw (was .1, ← e) (sym (plain-more line b)) in
       record {
         flag = refl;
         size = size;
         few = h .few;
-        kept = rw (take-all (p .n) bytes (omega arith)) (over (omega arith) (omega (arith, was .0, length-append line (b ∷ []))) (plain-past (p .bytes) b (h .size) end e ∙ rw (was .1, ← e) (sym (plain-more line b))));
+        kept = rw (take-all (p .n) bytes (omega arith)) (over (omega arith) (omega (arith, was .0, length-append line (b ∷ []))) plain);
       }
     where
       long : (t : Bool) → length (cond t (set (p .bytes) 100 b) (p .bytes)) ≡ 101
@@ -103,12 +108,13 @@ abbrev thenOf : Called → Spoken → Spoken
 thenOf c later = record { image = later .image; out = take (c .answer .count) (c .room) ++ later .out }
 
 abbrev Says : List ℕ → List ℕ → Type 0
-Says room s = (image : List ℕ) (p : Port) (line : List ℕ) (after : Bool) → Holds p line after → spokenBy room p image s ≡ calledBy room image (linesFrom line after s)
+Says room s =
+    (image : List ℕ) (p : Port) (line : List ℕ) (after : Bool) → Holds p line after → spokenBy room p image s ≡ calledBy room image (linesFrom line after s)
 
 module _ (room : List ℕ) (b : ℕ) (s : List ℕ) (later : Says room s) (image : List ℕ) (p : Port) (line : List ℕ) (after : Bool) (h : Holds p line after) where
   -- what comes of the byte, and of the lines that it ends or goes on
-  so : (next : Heard) (lines : List (List ℕ)) → heard image p b room ≡ next → linesFrom line after (b ∷ s) ≡ lines → saidOf room s next ≡ calledBy room image lines
-      → spokenBy room p image (b ∷ s) ≡ calledBy room image (linesFrom line after (b ∷ s))
+  so : (next : Heard) (lines : List (List ℕ)) → heard image p b room ≡ next → linesFrom line after (b ∷ s) ≡ lines
+      → saidOf room s next ≡ calledBy room image lines → spokenBy room p image (b ∷ s) ≡ calledBy room image (linesFrom line after (b ∷ s))
   unfolding spokenBy
   so next lines eh el e = ap (saidOf room s) eh ∙ e ∙ sym (ap (calledBy room image) el)
 

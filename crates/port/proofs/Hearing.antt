@@ -44,7 +44,8 @@ line-laid p n text long few kept laid-down =
     let w = take n (p .bytes) in
     let size : length w ≡ n = length-take-le n (p .bytes) (omega arith) in
     let down : text ≡ w ++ drop (length w) (replicate 102 0) = laid-down ∙ rw (sub-zero n) (laid-fits w (replicate 102 0) (omega arith)) in
-    rw (sub-zero (n + 1), add-one n, take-suc-set text n 13 (omega (arith, ap length laid-down, length-laid (take (n - 0) (p .bytes)) (replicate 102 0))), down, take-at w _ n size, kept)
+    let wide = ap length laid-down ∙ length-laid (take (n - 0) (p .bytes)) (replicate 102 0) in
+    rw (sub-zero (n + 1), add-one n, take-suc-set text n 13 (omega (arith, wide)), down, take-at w _ n size, kept)
 
 pub answers-so : (image : List ℕ) (p : Port) (room : List ℕ) (r : Told) (image′ room′ : List ℕ) (l : List ℕ) → l ≡ lineOf p → Calls image l room r image′ room′
     → Answers image p room (r .count) image′ room′
@@ -58,7 +59,9 @@ call-fits : (image line room : List ℕ) → call image line room .answer .count
 call-fits image line room = by (run (stateIn image) line) (isImage image) _ refl
   where
     by : (o : Outcome) (is fits : Bool) → leb (length (o .reply)) (length room) ≡ fits
-        → cond is (played (cond fits o (outcome Room [] (stateIn image))) room) (record { answer = told NoState 0; image = image; room = room }) .answer .count ≤ length room
+        → cond is (played (cond fits o (outcome Room [] (stateIn image))) room) (record { answer = told NoState 0; image = image; room = room })
+        .answer .count
+        ≤ length room
     by o true true e = leb-true (length (o .reply)) (length room) e
     by o true false e = omega arith
     by o false fits e = omega arith

@@ -1,32 +1,33 @@
--- The instrument's port: "a line is run at its CR, an LF right after it is swallowed", however long it is.
+-- The instrument's port: a line is run at its CR, and an LF right after it is swallowed, however long the line is.
 use Prim.Native.Nat.{ℕ, _+_}
 use mathlib.Core.Path.{_≡_}
 use mathlib.Core.Bool.{Bool, true, false, cond, _&&_, _||_}
 use mathlib.Core.List.{List, [], _∷_, _++_}
 use lib.Dec.{eqb, ltb}
 use lib.ListN.{take, set, replicate}
+use Rattle.figures.specs.Text.{codes}
 use Rattle.lines.specs.Machine.{Called, call}
 use Rattle.port.specs.declared.Port.{Port}
 use Rattle.port.specs.declared.Turn.{Turn}
 
 -- the bytes of a line that are kept: enough that 20 and 21 are judged of it as of the whole line
-abbrev pub most : ℕ
-most = 101
+abbrev pub keptMost : ℕ
+keptMost = 101
 
 abbrev pub isEnd : ℕ → Bool
 isEnd b = eqb b 13 || eqb b 10
 
 abbrev pub quietPort : Bool → Port
-quietPort after = record { bytes = replicate most 0; n = 0; after = after }
+quietPort after = record { bytes = replicate keptMost 0; n = 0; after = after }
 
 abbrev pub keptBy : Port → ℕ → Port
 keptBy p b =
-    cond (ltb (p .n) most) (record { bytes = set (p .bytes) (p .n) b; n = p .n + 1; after = false })
+    cond (ltb (p .n) keptMost) (record { bytes = set (p .bytes) (p .n) b; n = p .n + 1; after = false })
     (record { bytes = cond (isEnd b) (set (p .bytes) 100 b) (p .bytes); n = p .n; after = false })
 
 -- the line that is run for what came in
 abbrev pub lineOf : Port → List ℕ
-lineOf p = take (p .n) (p .bytes) ++ (13 ∷ [])
+lineOf p = take (p .n) (p .bytes) ++ codes "\r"
 
 abbrev pub Answers : List ℕ → Port → List ℕ → ℕ → List ℕ → List ℕ → Type 0
 Answers image p room r image′ room′ =
@@ -58,7 +59,7 @@ Turns image p b room r image′ room′ =
 unfoldable pub linesFrom : List ℕ → Bool → List ℕ → List (List ℕ)
 linesFrom line after [] = []
 linesFrom line after (b ∷ s) =
-    cond (eqb b 13) ((line ++ (13 ∷ [])) ∷ linesFrom [] true s)
+    cond (eqb b 13) ((line ++ codes "\r") ∷ linesFrom [] true s)
     (cond (eqb b 10 && after) (linesFrom line false s)
     (linesFrom (line ++ (b ∷ [])) false s))
 

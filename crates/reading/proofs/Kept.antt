@@ -12,10 +12,10 @@ use lib.Seq.{take-at, take-all, take-append-le, length-take-le}
 use Rattle.figures.proofs.Bytes.{laid-fits}
 use Rattle.blocks.specs.Judging.{Judgement, judged}
 use Rattle.blocks.proofs.Enough.{judged-enough}
-use Rattle.reports.specs.Rooms.{putAt}
+use Rattle.figures.specs.Rooms.{putAt}
 use Rattle.reports.specs.Piece.{headText, answerText, reportOf, isRead}
-use Rattle.reports.proofs.Putting.{put-past, put-length}
-use Rattle.reading.specs.Turns.{isAccepted}
+use Rattle.figures.proofs.Putting.{put-past, put-length}
+use Rattle.reading.specs.Turns.{isTaken}
 
 pub record Keeps (room : List ℕ) (n : ℕ) (p : List ℕ) : Type 0 where
   pub size : length room ≡ 800
@@ -63,5 +63,5 @@ module _ (room : List ℕ) (n : ℕ) (p : List ℕ) (k : Keeps room n p) where
   pub report-kept : (number at : ℕ) → reportOf number at (take n room) ≡ reportOf number at p
   report-kept number at = ap (λ (j : Judgement). headText number at ++ answerText (j .answer) (j .words)) same
 
-  pub accepted-kept : isAccepted (take n room) ≡ isAccepted p
+  pub accepted-kept : isTaken (take n room) ≡ isTaken p
   accepted-kept = ap (λ (j : Judgement). isRead (j .answer)) same

@@ -3,16 +3,16 @@ mod turns;
 
 ghost use Prim.Native.Nat.{_≤_};
 ghost use lib.ListN.{length};
-ghost use Rattle.reading.specs.Turns.{Goes};
+ghost use Rattle.reading.specs.Turns.{Reached, Goes, GoesOn};
+ghost use Rattle.reading.specs.Printed.{Due};
 use crate::turns::KEPT;
 use crate::turns::Progress;
+use crate::turns::TEXT;
+use crate::turns::close;
 use crate::turns::feed;
-use crate::turns::finish;
 use crate::turns::start;
 use libc::STDIN_FILENO;
 use libc::STDOUT_FILENO;
-use reports::piece::ENOUGH;
-use reports::piece::tally;
 
 // How far the file is read, and whether to go on: not at its end, nor where it can't be read or nothing can be written any more.
 struct Next {
@@ -20,17 +20,18 @@ struct Next {
     on: bool,
 }
 
-// The text's first n bytes.
+// The text's first n bytes, the only ones that are written: what a file's next byte, or its end, puts out.
 fn print(text: &[u8], n: usize) -> bool
     requires { ⌜ n ≤ length (now text) ⌝ }
+    requires { ⌜ Due (now text) n ⌝ }
 {
     io::write_all(STDOUT_FILENO, &text[..n])
 }
 
 // The bytes of one read.
 fn feed_all(bytes: &[u8], room: &mut [u8], progress: Progress, text: &mut [u8]) -> Next
-    requires { ⌜ progress .kept ≤ length (now room) ⌝ }
-    ensures { λ r. ⌜ Goes (record { progress = progress; room = now (room .entry); text = now (text .entry) }) (now (bytes .entry)) r (now (room .exit)) (now (text .exit)) ⌝ }
+    requires { ⌜ Reached (now room) progress (now text) ⌝ }
+    ensures { λ r. ⌜ Goes (now (room .entry)) progress (now (bytes .entry)) (now (text .entry)) r (now (room .exit)) (now (text .exit)) ⌝ }
 {
     let mut at = progress;
     let mut i = 0;
@@ -51,22 +52,10 @@ fn feed_all(bytes: &[u8], room: &mut [u8], progress: Progress, text: &mut [u8]) 
     }
 }
 
-// The report of a last piece without CR, and the last line.
-fn close(room: &[u8], progress: Progress, text: &mut [u8])
-    requires { ⌜ progress .kept ≤ length (now room) ⌝ }
-{
-    let turn = finish(room, progress, text);
-    if print(text, turn.count) {
-        let all = turn.progress;
-        let n = tally(all.blocks, all.accepted, all.refused, text);
-        print(text, n);
-    }
-}
-
 // Reads once. A read that fails isn't the end of the file: nothing more is printed.
 fn turn(room: &mut [u8], progress: Progress, text: &mut [u8]) -> Next
-    requires { ⌜ progress .kept ≤ length (now room) ⌝ }
-    ensures { λ r. ⌜ r .progress .kept ≤ length (now (room .exit)) ⌝ }
+    requires { ⌜ Reached (now room) progress (now text) ⌝ }
+    ensures { λ r. ⌜ GoesOn (now (room .entry)) progress (now (text .entry)) r (now (room .exit)) (now (text .exit)) ⌝ }
 {
     let mut bytes = io::large_buffer();
     let got = libc::read(STDIN_FILENO, &mut bytes);
@@ -75,7 +64,8 @@ fn turn(room: &mut [u8], progress: Progress, text: &mut [u8]) -> Next
         return feed_all(&bytes[..n], room, progress, text);
     }
     if got == 0 {
-        close(room, progress, text);
+        let last = close(room, progress, text);
+        print(text, last);
     }
     Next {
         progress: progress,
@@ -86,7 +76,7 @@ fn turn(room: &mut [u8], progress: Progress, text: &mut [u8]) -> Next
 // A proved loop has to end, so that this one counts its turns down, from a number that no run uses up.
 fn main() {
     let mut room = [0; KEPT];
-    let mut text = [0; ENOUGH];
+    let mut text = [0; TEXT];
     let mut progress = start();
     let mut turns = u64::MAX;
     while turns > 0 {

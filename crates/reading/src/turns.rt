@@ -3,16 +3,21 @@ ghost use mathlib.Core.Path.{_≡_};
 ghost use mathlib.Core.List.{_∷_, []};
 ghost use Prim.Native.Nat.{_≤_};
 ghost use lib.ListN.{length};
-ghost use Rattle.reports.specs.Rooms.{putAt};
-ghost use Rattle.reading.specs.Turns.{moreOf, started, joined, told, toldText, Feeds, finished, finishedText};
+ghost use Rattle.figures.specs.Rooms.{putAt};
+ghost use Rattle.reading.specs.Turns.{moreOf, started, joined, reported, toldText, Feeds, finished, finishedText, Closes};
+use figures::rooms::put;
 use pieces::Mark;
 use pieces::after;
 use pieces::joins;
+use reports::piece::ENOUGH;
 use reports::piece::report;
-use reports::rooms::put;
+use reports::piece::tally;
 
 // Of a piece so many bytes are kept. A block is at most 771 bytes long, so that the piece is judged as if all of it were.
 pub const KEPT: usize = 800;
+
+// Room for the longest report, and for the last line, of at most 87 bytes.
+pub const TEXT: usize = ENOUGH + 87;
 
 // How far the file is read: of the piece that comes in its mark, how many of its bytes are kept and where it starts; the place of the next byte;
 // and the blocks before it.
@@ -77,7 +82,7 @@ fn join(room: &mut [u8], progress: Progress, b: u8) -> Progress
 // The report of the piece, which has ended.
 fn tell(room: &[u8], progress: Progress, text: &mut [u8]) -> Turn
     requires { ⌜ progress .kept ≤ length (now room) ⌝ }
-    ensures { λ r. ⌜ (r ≡ told (now (room .entry)) progress (length (now (text .entry)))) × (now (text .exit) ≡ toldText (now (room .entry)) progress (now (text .entry))) ⌝ }
+    ensures { λ r. ⌜ (r ≡ reported (now (room .entry)) progress (length (now (text .entry)))) × (now (text .exit) ≡ toldText (now (room .entry)) progress (now (text .entry))) ⌝ }
 {
     let kept = progress.kept;
     let blocks = more(progress.blocks);
@@ -126,7 +131,7 @@ pub(crate) fn feed(room: &mut [u8], progress: Progress, b: u8, text: &mut [u8]) 
 }
 
 // The end of the file. Where it ends a piece, the report of that is put.
-pub(crate) fn finish(room: &[u8], progress: Progress, text: &mut [u8]) -> Turn
+fn finish(room: &[u8], progress: Progress, text: &mut [u8]) -> Turn
     requires { ⌜ progress .kept ≤ length (now room) ⌝ }
     ensures { λ r. ⌜ (r ≡ finished (now (room .entry)) progress (length (now (text .entry)))) × (now (text .exit) ≡ finishedText (now (room .entry)) progress (now (text .entry))) ⌝ }
 {
@@ -137,4 +142,15 @@ pub(crate) fn finish(room: &[u8], progress: Progress, text: &mut [u8]) -> Turn
         };
     }
     tell(room, progress, text)
+}
+
+// The end of the file: the report of a last piece without CR and, after it, the last line.
+pub(crate) fn close(room: &[u8], progress: Progress, text: &mut [u8]) -> usize
+    requires { ⌜ progress .kept ≤ length (now room) ⌝ }
+    ensures { λ r. ⌜ Closes (now (room .entry)) progress (now (text .entry)) r (now (text .exit)) ⌝ }
+{
+    let turn = finish(room, progress, text);
+    let all = turn.progress;
+    let n = turn.count;
+    n + tally(all.blocks, all.accepted, all.refused, &mut text[n..])
 }

@@ -1,18 +1,12 @@
 -- The promises of this crate's public functions determine what comes out.
-use Prim.Native.Nat.{ℕ, _+_, min}
+use Prim.Native.Nat.{ℕ}
 use mathlib.Core.Path.{_≡_}
 use mathlib.Core.List.{List}
-use lib.ListN.{length}
 use Rattle.figures.specs.Promises.{Determined}
-use Rattle.figures.proofs.Determined.{by-two}
-use Rattle.reports.specs.Rooms.{putAt, Puts}
+use Rattle.figures.proofs.Determined.{put-determined}
+use Rattle.figures.specs.Rooms.{Puts}
 use Rattle.reports.specs.Piece.{reportOf, Reports, tallyText}
 use Rattle.reports.specs.declared.piece.Reported.{Reported}
-
--- a room, a place in it and a text go in; where the next part begins and the room come out
-pub put-determined : Determined (List ℕ × ℕ × List ℕ) (ℕ × List ℕ) (λ i o. Puts (i .0) (i .1) (i .2) (o .0) (o .1))
-put-determined =
-    by-two (List ℕ × ℕ × List ℕ) ℕ (List ℕ) (λ i. min (i .1 + length (i .2)) (length (i .0))) (λ i. putAt (i .0) (i .1) (i .2))
 
 -- a piece's number, its place and its bytes, and a room go in; the count, whether it was accepted, and the room come out
 pub report-determined : Determined (ℕ × ℕ × List ℕ × List ℕ) (Reported × List ℕ) (λ i o. Reports (i .0) (i .1) (i .2) (i .3) (o .0) (o .1))

@@ -29,7 +29,7 @@ use Rattle.reports.specs.declared.measures.Decimals.the-variants.{One, T
 use Rattle.reports.specs.Measures.{powerOf, placesOf, powerText, decimalsOf, minusText, measureText, tenthText, pairText, shownText, countText}
 use Rattle.reports.specs.Piece.{wordText, wordsText, headText, widthText, endText, readingText, refusalText, answerText, reportOf, Reports}
 use Rattle.reports.specs.declared.piece.Reported.{Reported}
-use Rattle.reports.proofs.Places.{places-most}
+use Rattle.figures.proofs.Places.{places-most}
 
 -- one or the other
 either : (b : Bool) (x y : List ℕ) (n : ℕ) → length x ≤ n → length y ≤ n → length (cond b x y) ≤ n
@@ -66,7 +66,9 @@ count-short wide w (Degree c) = measure-short (c .0) Five (100 ∷ 101 ∷ 103 �
 count-short wide w (Tenth c) = tenth-short (c .0)
 count-short wide w (Mil c) = measure-short (c .0) Four (109 ∷ 105 ∷ 108 ∷ []) (omega arith)
 count-short wide w (Metre c) =
-    either (eqb (w .index) 58) _ _ 82 (measure-short (c .0) One (109 ∷ 109 ∷ []) (omega arith)) (measure-short (c .0) (decimalsOf (c .1)) (109 ∷ []) (omega arith))
+    either (eqb (w .index) 58) _ _ 82
+    (measure-short (c .0) One (109 ∷ 109 ∷ []) (omega arith))
+    (measure-short (c .0) (decimalsOf (c .1)) (109 ∷ []) (omega arith))
 count-short wide w (Feet c) = measure-short (c .0) (decimalsOf (c .1)) (102 ∷ 116 ∷ []) (omega arith)
 count-short wide w (Ppm c) = measure-short (c .0) Four (112 ∷ 112 ∷ 109 ∷ []) (omega arith)
 count-short wide w (Pair p q) = pair-short p q
@@ -84,7 +86,8 @@ unfolding wordsText rightAll
 words-short k wide [] e = omega arith
 words-short k wide (w ∷ ws) e =
     let both = and-eq-true-iff (isRight wide w) (rightAll wide ws) .0 e in
-    omega (arith, length-append (wordText k wide w) (wordsText (suc k) wide ws), word-short k wide w (info-four wide w (both .0)), words-short (suc k) wide ws (both .1))
+    let first = word-short k wide w (info-four wide w (both .0)) in
+    omega (arith, length-append (wordText k wide w) (wordsText (suc k) wide ws), first, words-short (suc k) wide ws (both .1))
 
 head-short : (number at : ℕ) → length (headText number at) ≤ 50
 head-short number at = simp (length-append, digits-length) (omega (arith, places-most number, places-most at))

@@ -1,5 +1,3 @@
-pub mod Putting
-pub mod Places
 pub mod Words
 pub mod Reporting
 pub mod Example

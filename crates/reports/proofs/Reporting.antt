@@ -6,24 +6,25 @@ use mathlib.Core.List.{List, _++_}
 use lib.ListN.{length, take, drop, replicate}
 use lib.Seq.{take-append-seam}
 use Rattle.words.specs.Records.{blank}
-use Rattle.blocks.specs.Judging.{Judgement, judged, keptOf}
+use Rattle.blocks.specs.Judging.{Judgement, judged}
+use Rattle.blocks.specs.Keeping.{keptOf}
 use Rattle.blocks.specs.declared.answers.Refusal.{Refusal}
 use Rattle.blocks.specs.declared.answers.Reading.{Reading}
 use Rattle.blocks.specs.declared.answers.Answer.{Answer}
 use Rattle.blocks.specs.declared.answers.Answer.the-variants.{Refused, Read}
-use Rattle.blocks.specs.declared.judging.Judgement as kept
+use Rattle.blocks.specs.declared.judging.JudgedBlock.{JudgedBlock}
 use Rattle.blocks.proofs.Counts.{judged-few}
-use Rattle.reports.specs.Rooms.{Puts}
+use Rattle.figures.specs.Rooms.{Puts}
 use Rattle.reports.specs.Piece.{wordsText, headText, readingText, refusalText, answerText, isRead}
-use Rattle.reports.proofs.Putting.{puts-as, puts-more}
+use Rattle.figures.proofs.Putting.{puts-as, puts-more}
 
-module _ (j : Judgement) (k : kept.Judgement) (e : k ≡ keptOf j) where
+module _ (j : Judgement) (k : JudgedBlock) (e : k ≡ keptOf j) where
   -- the first so many records that are kept are those that were judged
   words-kept : take (k .block .n) (k .block .words) ≡ j .words
-  words-kept = ap (λ (i : kept.Judgement). take (i .block .n) (i .block .words)) e ∙ take-append-seam (j .words) (drop (length (j .words)) (replicate 32 blank))
+  words-kept = ap (λ (i : JudgedBlock). take (i .block .n) (i .block .words)) e ∙ take-append-seam (j .words) (drop (length (j .words)) (replicate 32 blank))
 
   answered : {a : Answer} → k .answer ≡ a → j .answer ≡ a
-  answered is = sym (ap (λ (i : kept.Judgement). i .answer) e) ∙ is
+  answered is = sym (ap (λ (i : JudgedBlock). i .answer) e) ∙ is
 
   -- head, and then the answer's text
   module _ (number at : ℕ) (room : List ℕ) {one : List ℕ} {m : ℕ} (head : Puts room 0 (headText number at) m one) where
@@ -31,7 +32,8 @@ module _ (j : Judgement) (k : kept.Judgement) (e : k ≡ keptOf j) where
         → Puts room 0 (headText number at ++ answerText (j .answer) (j .words)) n two × (isRead a ≡ isRead (j .answer))
     on a is p =
         let same = answered is in
-        (puts-as room 0 _ _ (ap (λ b. headText number at ++ answerText b (j .words)) same) refl refl (puts-more room 0 (headText number at) (answerText a (j .words)) head p), sym (ap isRead same))
+        let put = puts-more room 0 (headText number at) (answerText a (j .words)) head p in
+        (puts-as room 0 _ _ (ap (λ b. headText number at ++ answerText b (j .words)) same) refl refl put, sym (ap isRead same))
 
     pub refused-on : (r : Refusal) {two : List ℕ} {n : ℕ} → k .answer ≡ Refused r → Puts one m (refusalText r) n two
         → Puts room 0 (headText number at ++ answerText (j .answer) (j .words)) n two × (false ≡ isRead (j .answer))
@@ -42,5 +44,5 @@ module _ (j : Judgement) (k : kept.Judgement) (e : k ≡ keptOf j) where
         → Puts room 0 (headText number at ++ answerText (j .answer) (j .words)) o three × (true ≡ isRead (j .answer))
     read-on r is p q = on (Read r) is (puts-more one m (readingText r) (wordsText 1 (r .wide) (j .words)) p (rw words-kept at q))
 
-pub few-kept : (s : List ℕ) (k : kept.Judgement) → k ≡ keptOf (judged s 32) → k .block .n ≤ 32
-few-kept s k e = rw (ap (λ (i : kept.Judgement). i .block .n) e) (judged-few 32 s .0)
+pub few-kept : (s : List ℕ) (k : JudgedBlock) → k ≡ keptOf (judged s 32) → k .block .n ≤ 32
+few-kept s k e = rw (ap (λ (i : JudgedBlock). i .block .n) e) (judged-few 32 s .0)

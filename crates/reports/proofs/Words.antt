@@ -9,9 +9,9 @@ use native.Mathlib.Omega.{arith}
 use lib.ListN.{length, take, getD}
 use lib.Seq.{take-suc, length-take-le}
 use Rattle.words.specs.declared.records.Word.{Word}
-use Rattle.reports.specs.Rooms.{Puts}
+use Rattle.figures.specs.Rooms.{Puts}
 use Rattle.reports.specs.Piece.{wordText, wordsText}
-use Rattle.reports.proofs.Putting.{puts-as, puts-more}
+use Rattle.figures.proofs.Putting.{puts-as, puts-more}
 
 words-snoc : (k : ℕ) (wide : Bool) (ws : List Word) (w : Word) → wordsText k wide (ws ++ (w ∷ [])) ≡ wordsText k wide ws ++ wordText (k + length ws) wide w
 unfolding wordsText

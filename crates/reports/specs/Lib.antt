@@ -1,3 +1,2 @@
-pub mod Rooms
 pub mod Measures
 pub mod Piece

@@ -1,17 +1,17 @@
--- A word's value as people read it: "`reads` is the value in people's form with its unit's decimals".
+-- A word's value as people read it: `reads` is the value in people's form, with its unit's decimals.
 use Prim.Native.Nat.{ℕ, _/_, _%_}
 use mathlib.Core.Bool.{Bool, cond}
 use mathlib.Core.List.{List, [], _∷_, _++_}
 use lib.Dec.{eqb}
 use lib.ListN.{take}
-use Rattle.figures.specs.Decimal.{digitsOf}
+use Rattle.figures.specs.Text.{codes}
+use Rattle.figures.specs.Decimal.{digitsOf, decimalOf}
 use Rattle.units.specs.Information.{signByte}
 use Rattle.units.specs.declared.counts.Whole.{Whole}
 use Rattle.units.specs.declared.counts.Count.{Count}
 use Rattle.units.specs.declared.counts.Count.the-variants.{Nothing, Text, Gon, Degree, Tenth, Mil, Metre, Feet, Ppm, Pair}
 use Rattle.words.specs.Records.{width, typedOf}
 use Rattle.words.specs.declared.records.Word.{Word}
-use Rattle.reports.specs.Rooms.{decimalOf}
 use Rattle.reports.specs.declared.measures.Decimals.{Decimals}
 use Rattle.reports.specs.declared.measures.Decimals.the-variants.{One, Three, Four, Five}
 
@@ -32,50 +32,50 @@ powerOf Four = 10000
 powerOf Five = 100000
 
 abbrev pub powerText : Decimals → List ℕ
-powerText One = 49 ∷ 48 ∷ []
-powerText Three = 49 ∷ 48 ∷ 48 ∷ 48 ∷ []
-powerText Four = 49 ∷ 48 ∷ 48 ∷ 48 ∷ 48 ∷ []
-powerText Five = 49 ∷ 48 ∷ 48 ∷ 48 ∷ 48 ∷ 48 ∷ []
+powerText One = codes "10"
+powerText Three = codes "1000"
+powerText Four = codes "10000"
+powerText Five = codes "100000"
 
 -- a sign and the fewest digits
 abbrev pub signedOf : Whole → List ℕ
 signedOf w = (signByte (w .minus) ∷ []) ++ decimalOf (w .size)
 
--- "with a minus where there is one"
+-- a minus where there is one
 abbrev pub minusText : ℕ → List ℕ
-minusText m = cond (eqb m 0) [] (45 ∷ [])
+minusText m = cond (eqb m 0) [] (codes "-")
 
 -- ` count=+265965 step=1/1000ft reads=265.965ft`
 abbrev pub measureText : Whole → Decimals → List ℕ → List ℕ
 measureText w d unit =
-    (32 ∷ 99 ∷ 111 ∷ 117 ∷ 110 ∷ 116 ∷ 61 ∷ []) ++ (signedOf w ++ ((32 ∷ 115 ∷ 116 ∷ 101 ∷ 112 ∷ 61 ∷ 49 ∷ 47 ∷ []) ++ (powerText d ++ (unit ++ ((32 ∷ 114 ∷ 101 ∷ 97 ∷ 100 ∷ 115 ∷ 61 ∷ [])
-    ++ (minusText (w .minus) ++ (decimalOf (w .size / powerOf d) ++ ((46 ∷ []) ++ (digitsOf (placesOf d) (w .size) ++ unit)))))))))
+    codes " count=" ++ (signedOf w ++ (codes " step=1/" ++ (powerText d ++ (unit ++ (codes " reads="
+    ++ (minusText (w .minus) ++ (decimalOf (w .size / powerOf d) ++ (codes "." ++ (digitsOf (placesOf d) (w .size) ++ unit)))))))))
 
--- "degrees, minutes and seconds as D-MM-SS.T": ` count=+10075730 step=1/10s reads=279-52-53.0`
+-- degrees, minutes and seconds as D-MM-SS.T: ` count=+10075730 step=1/10s reads=279-52-53.0`
 abbrev pub tenthText : Whole → List ℕ
 tenthText w =
-    (32 ∷ 99 ∷ 111 ∷ 117 ∷ 110 ∷ 116 ∷ 61 ∷ []) ++ (signedOf w ++ ((32 ∷ 115 ∷ 116 ∷ 101 ∷ 112 ∷ 61 ∷ 49 ∷ 47 ∷ 49 ∷ 48 ∷ 115 ∷ 32 ∷ 114 ∷ 101 ∷ 97 ∷ 100 ∷ 115 ∷ 61 ∷ []) ++ (minusText (w .minus) ++ (decimalOf (w .size / 36000)
-    ++ ((45 ∷ []) ++ (digitsOf 2 (w .size / 600 % 60) ++ ((45 ∷ []) ++ (digitsOf 2 (w .size / 10 % 60) ++ ((46 ∷ []) ++ digitsOf 1 (w .size % 10))))))))))
+    codes " count=" ++ (signedOf w ++ (codes " step=1/10s reads=" ++ (minusText (w .minus) ++ (decimalOf (w .size / 36000)
+    ++ (codes "-" ++ (digitsOf 2 (w .size / 600 % 60) ++ (codes "-" ++ (digitsOf 2 (w .size / 10 % 60) ++ (codes "." ++ digitsOf 1 (w .size % 10))))))))))
 
 -- ` ppm=+9 mm=+0`
 abbrev pub pairText : Whole → Whole → List ℕ
-pairText ppm mm = (32 ∷ 112 ∷ 112 ∷ 109 ∷ 61 ∷ []) ++ (signedOf ppm ++ ((32 ∷ 109 ∷ 109 ∷ 61 ∷ []) ++ signedOf mm))
+pairText ppm mm = codes " ppm=" ++ (signedOf ppm ++ (codes " mm=" ++ signedOf mm))
 
 -- ` text=00000003`
 abbrev pub shownText : Bool → List ℕ → List ℕ
-shownText wide text = (32 ∷ 116 ∷ 101 ∷ 120 ∷ 116 ∷ 61 ∷ []) ++ take (width wide) text
+shownText wide text = codes " text=" ++ take (width wide) text
 
 -- by what is counted; 58 counts 1/10 mm
 abbrev pub countText : Bool → Word → Count → List ℕ
 countText wide w Nothing = []
 countText wide w Text = shownText wide (w .text)
-countText wide w (Gon c) = measureText (c .0) Five (103 ∷ 111 ∷ 110 ∷ [])
-countText wide w (Degree c) = measureText (c .0) Five (100 ∷ 101 ∷ 103 ∷ [])
+countText wide w (Gon c) = measureText (c .0) Five (codes "gon")
+countText wide w (Degree c) = measureText (c .0) Five (codes "deg")
 countText wide w (Tenth c) = tenthText (c .0)
-countText wide w (Mil c) = measureText (c .0) Four (109 ∷ 105 ∷ 108 ∷ [])
-countText wide w (Metre c) = cond (eqb (w .index) 58) (measureText (c .0) One (109 ∷ 109 ∷ [])) (measureText (c .0) (decimalsOf (c .1)) (109 ∷ []))
-countText wide w (Feet c) = measureText (c .0) (decimalsOf (c .1)) (102 ∷ 116 ∷ [])
-countText wide w (Ppm c) = measureText (c .0) Four (112 ∷ 112 ∷ 109 ∷ [])
+countText wide w (Mil c) = measureText (c .0) Four (codes "mil")
+countText wide w (Metre c) = cond (eqb (w .index) 58) (measureText (c .0) One (codes "mm")) (measureText (c .0) (decimalsOf (c .1)) (codes "m"))
+countText wide w (Feet c) = measureText (c .0) (decimalsOf (c .1)) (codes "ft")
+countText wide w (Ppm c) = measureText (c .0) Four (codes "ppm")
 countText wide w (Pair p q) = pairText p q
 
 -- of a record that no word gives nothing is shown

@@ -2,4 +2,3 @@
 // refusal.
 pub mod measures;
 pub mod piece;
-pub mod rooms;

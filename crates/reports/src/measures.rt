@@ -1,11 +1,11 @@
 // A word's value as people read it: the count, its step, and the value with its unit's decimals.
 ghost use mathlib.Core.Path.{_≡_};
 ghost use Prim.Native.Nat.{_<_, _≤_};
-ghost use Rattle.reports.specs.Rooms.{Puts};
+ghost use Rattle.figures.specs.Decimal.{digitsOf};
+ghost use Rattle.figures.specs.Rooms.{Puts};
 ghost use Rattle.reports.specs.Measures.{decimalsOf, powerOf, powerText, placesOf, signedOf, minusText, measureText, tenthText, pairText, shownText, valueText};
-use crate::rooms::put;
-use crate::rooms::put_decimal;
-use crate::rooms::put_digits;
+use figures::rooms::put;
+use figures::rooms::put_decimal;
 use units::counts::Count;
 use units::counts::Whole;
 use words::records::Word;
@@ -17,6 +17,16 @@ pub enum Decimals {
     Three,
     Four,
     Five,
+}
+
+// The last k digits of n.
+pub(crate) fn put_digits(room: &mut [u8], at: usize, n: u64, k: usize) -> usize
+    requires { ⌜ k ≤ 20 ⌝ }
+    ensures { λ r. ⌜ Puts (now (room .entry)) at (digitsOf k n) r (now (room .exit)) ⌝ }
+{
+    let mut bytes = [0; 20];
+    figures::put_number(n, &mut bytes[0..k]);
+    put(room, at, &bytes[0..k])
 }
 
 // The decimals of a metre or a foot.

@@ -2,18 +2,20 @@
 ghost use mathlib.Core.Path.{_≡_};
 ghost use Prim.Native.Nat.{_≤_};
 ghost use lib.ListN.{take, length};
-ghost use Rattle.reports.specs.Rooms.{Puts};
+ghost use Rattle.figures.specs.Rooms.{Puts};
 ghost use Rattle.reports.specs.Piece.{wordText, wordsText, headText, readingText, refusalText, tallyText, Reports};
+use crate::measures::put_digits;
 use crate::measures::put_value;
-use crate::rooms::put;
-use crate::rooms::put_decimal;
-use crate::rooms::put_digits;
 use blocks::answers::Answer;
 use blocks::answers::Reading;
 use blocks::answers::Refusal;
 use blocks::answers::refusal_number;
 use blocks::answers::refusal_tells;
 use blocks::judging::judge;
+use figures::casts::wide_count;
+use figures::casts::wide_index;
+use figures::rooms::put;
+use figures::rooms::put_decimal;
 use words::records::Word;
 
 // Room enough for the report of any piece.
@@ -23,18 +25,6 @@ pub const ENOUGH: usize = 5_280;
 pub struct Reported {
     pub count: usize,
     pub accepted: bool,
-}
-
-fn wide_count(n: usize) -> u64
-    ensures { λ r. ⌜ r ≡ n ⌝ }
-{
-    n as u64
-}
-
-fn wide_index(n: u16) -> u64
-    ensures { λ r. ⌜ r ≡ n ⌝ }
-{
-    n as u64
 }
 
 // One word's line.

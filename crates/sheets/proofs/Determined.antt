@@ -9,7 +9,8 @@ use Rattle.figures.specs.Promises.{Determined}
 use Rattle.figures.specs.Bytes.{laid}
 use Rattle.figures.proofs.Determined.{by-equation, by-two}
 use Rattle.sheets.specs.Answers.{sheetNumber, sheetTells}
-use Rattle.sheets.specs.Loading.{loaded, writtenSheet, Loads, WritesSheet}
+use Rattle.sheets.specs.Sheet.{writtenSheet, WritesSheet}
+use Rattle.sheets.specs.Loading.{loaded, Loads}
 use Rattle.sheets.specs.Playing.{printed, Plays}
 use Rattle.sheets.specs.declared.answers.Sheeted.{Sheeted}
 

@@ -9,46 +9,49 @@ use lib.ListN.{length, take, drop}
 use lib.Seq.{take-at}
 use Rattle.figures.specs.Bytes.{laid}
 use Rattle.figures.proofs.Bytes.{laid-fits}
-use Rattle.state.specs.Entries.{isState}
+use Rattle.state.specs.Entries.{noEntries, isState}
 use Rattle.state.specs.Image.{imageOf, stateIn}
 use Rattle.state.specs.declared.entries.State.{State}
 use Rattle.state.proofs.Images.{image-is, image-back}
 use Rattle.sheets.specs.Answers.{sheetTells}
-use Rattle.sheets.specs.Sheet.{sheetOf}
-use Rattle.sheets.specs.Loading.{Loading, wrong, right, loadingOf, startOf, Loaded·image, loadedBy, loaded, Loads, Written·room, fitted, writtenSheet, WritesSheet}
+use Rattle.sheets.specs.Sheet.{sheetOf, Sheet·room, sheetInRoom, writtenSheet, WritesSheet}
+use Rattle.sheets.specs.Loading.{Loading, wrong, right, loadingOf, Loaded·image, loadedBy, loaded, Loads}
 use Rattle.sheets.specs.declared.answers.Sheeted.{Sheeted}
 use Rattle.sheets.specs.declared.answers.Sheeted.the-variants.{NoState, Written, Loaded}
 use Rattle.sheets.proofs.Sheets.{sheet-loads, loads-sheet}
 
 -- a state's image writes the state's sheet where it fits
 pub image-writes : (s : State) (room : List ℕ) → isState s ≡ true
-    → writtenSheet (imageOf s) room ≡ fitted (sheetOf s) room
+    → writtenSheet (imageOf s) room ≡ sheetInRoom (sheetOf s) room
 image-writes s room e =
-    ap (λ (b : Bool). cond b (fitted (sheetOf (stateIn (imageOf s))) room) (record { answer = NoState; room = room })) (image-is s e)
-    ∙ ap (λ (t : State). fitted (sheetOf t) room) (image-back s e)
+    ap (λ (b : Bool). cond b (sheetInRoom (sheetOf (stateIn (imageOf s))) room) (record { answer = NoState; room = room })) (image-is s e)
+    ∙ ap (λ (t : State). sheetInRoom (sheetOf t) room) (image-back s e)
 
-fits : (sheet room : List ℕ) → length sheet ≤ length room → fitted sheet room ≡ record { answer = Written (length sheet); room = laid sheet room }
+fits : (sheet room : List ℕ) → length sheet ≤ length room → sheetInRoom sheet room ≡ record { answer = Written (length sheet); room = laid sheet room }
 fits sheet room h = rw (le-leb (length sheet) (length room) h)
 
 laid-start : (sheet room : List ℕ) → length sheet ≤ length room → take (length sheet) (laid sheet room) ≡ sheet
 laid-start sheet room h = ap (take (length sheet)) (laid-fits sheet room h) ∙ take-at sheet (drop (length sheet) room) (length sheet) refl
 
 -- what a sheet that fits comes to: it stands at the start of the room
-pub written : (s : State) (room : List ℕ) (r : Sheeted) (room′ : List ℕ) → isState s ≡ true → length (sheetOf s) ≤ length room → WritesSheet (imageOf s) room r room′
+pub written : (s : State) (room : List ℕ) (r : Sheeted) (room′ : List ℕ) → isState s ≡ true
+    → length (sheetOf s) ≤ length room → WritesSheet (imageOf s) room r room′
     → (r ≡ Written (length (sheetOf s))) × (take (length (sheetOf s)) room′ ≡ sheetOf s)
 written s room r room′ e h w =
-    let is : writtenSheet (imageOf s) room ≡ record { answer = Written (length (sheetOf s)); room = laid (sheetOf s) room } = image-writes s room e ∙ fits (sheetOf s) room h in (
-      w .0 ∙ ap (λ (o : Written·room). o .answer) is,
-      ap (take (length (sheetOf s))) (w .1 ∙ ap (λ (o : Written·room). o .room) is) ∙ laid-start (sheetOf s) room h,
+    let is : writtenSheet (imageOf s) room ≡ record { answer = Written (length (sheetOf s)); room = laid (sheetOf s) room } =
+    image-writes s room e ∙ fits (sheetOf s) room h in (
+      w .0 ∙ ap (λ (o : Sheet·room). o .answer) is,
+      ap (take (length (sheetOf s))) (w .1 ∙ ap (λ (o : Sheet·room). o .room) is) ∙ laid-start (sheetOf s) room h,
     )
 
 -- what loading into an image comes to
 pub image-loads : (t : State) (sheet : List ℕ) → isState t ≡ true → loaded (imageOf t) sheet ≡ loadedBy (imageOf t) (loadingOf sheet)
 image-loads t sheet e = ap (λ (b : Bool). cond b (loadedBy (imageOf t) (loadingOf sheet)) (record { answer = NoState; image = imageOf t })) (image-is t e)
 
-pub written-loads : (s t : State) (room : List ℕ) (r r′ : Sheeted) (room′ image′ : List ℕ) → isState s ≡ true → isState t ≡ true → length (sheetOf s) ≤ length room
+pub written-loads : (s t : State) (room : List ℕ) (r r′ : Sheeted) (room′ image′ : List ℕ) → isState s ≡ true → isState t ≡ true
+    → length (sheetOf s) ≤ length room
     → WritesSheet (imageOf s) room r room′ → Loads (imageOf t) (take (sheetTells r) room′) r′ image′
-    → (r′ ≡ Loaded) × (image′ ≡ imageOf (startOf (s .settings) (s .values)))
+    → (r′ ≡ Loaded) × (image′ ≡ imageOf (noEntries (s .settings) (s .values)))
 written-loads s t room r r′ room′ image′ hs ht h w l =
     let first = written s room r room′ hs h w in
     let sheet : take (sheetTells r) room′ ≡ sheetOf s = ap (λ (a : Sheeted). take (sheetTells a) room′) (first .0) ∙ first .1 in
@@ -61,13 +64,14 @@ written-loads s t room r r′ room′ image′ hs ht h w l =
 pub loaded-writes : (t : State) (sheet room : List ℕ) (r : Sheeted) (room′ image′ : List ℕ) → isState t ≡ true → Loads (imageOf t) sheet Loaded image′
     → length sheet ≤ length room → WritesSheet image′ room r room′ → (r ≡ Written (length sheet)) × (take (length sheet) room′ ≡ sheet)
 loaded-writes t sheet room r room′ image′ e l h w =
-    by (loadingOf sheet) refl (l .0 ∙ ap (λ (o : Loaded·image). o .answer) (image-loads t sheet e)) (l .1 ∙ ap (λ (o : Loaded·image). o .image) (image-loads t sheet e))
+    by (loadingOf sheet) refl (l .0 ∙ ap (λ (o : Loaded·image). o .answer) (image-loads t sheet e))
+    (l .1 ∙ ap (λ (o : Loaded·image). o .image) (image-loads t sheet e))
   where
     by : (k : Loading) → loadingOf sheet ≡ k → Loaded ≡ loadedBy (imageOf t) k .answer → image′ ≡ loadedBy (imageOf t) k .image
         → (r ≡ Written (length sheet)) × (take (length sheet) room′ ≡ sheet)
     by (wrong at) q a i = let z : _≡_ {A = ℕ} 0 1 = cc in absurd (omega arith)
     by (right settings values) q a i =
-        let s = startOf settings values in
+        let s = noEntries settings values in
         let both = loads-sheet sheet settings values q in
         let again : WritesSheet (imageOf s) room r room′ = rw i at w in
         let out = written s room r room′ (both .0) (rw (both .1) h) again in

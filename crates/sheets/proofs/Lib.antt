@@ -1,6 +1,7 @@
-pub mod Taking
-pub mod SettingLines
-pub mod ValueLines
+pub mod Keyed
+pub mod Linewise
+pub mod Partwise
+pub mod Says
 pub mod Sheets
 pub mod Sizes
 pub mod Images
@@ -9,9 +10,5 @@ pub mod Determined
 pub mod Turns
 pub mod Reached
 pub mod Played
-pub mod Held
-pub mod Lines
-pub mod Standing
-pub mod Parts
 pub mod Writes
 pub mod Loads

@@ -3,13 +3,12 @@ use Prim.Native.Nat.{ℕ, _≤_}
 use mathlib.Core.Path.{_≡_, ap, _∙_}
 use mathlib.Core.List.{List, [], map}
 use lib.ListN.{length}
-use Rattle.state.specs.Entries.{factoryState}
+use Rattle.state.specs.Entries.{noEntries, factoryState}
 use Rattle.state.specs.declared.entries.State.{State}
 use Rattle.lines.specs.Demand.{Contents, contentsOf, marks, playAll}
 use Rattle.lines.proofs.Starts.{factory-start}
 use Rattle.lines.proofs.Demand.{played}
 use Rattle.sheets.specs.Sheet.{sheetOf}
-use Rattle.sheets.specs.Loading.{startOf}
 use Rattle.pieces.specs.Pieces.{pieces}
 use Rattle.sheets.specs.Playing.{callOf, printed}
 use Rattle.sheets.proofs.Sheets.{sheet-contents}
@@ -17,9 +16,10 @@ use Rattle.sheets.proofs.Reached.{reached, printed-sheet}
 
 -- the start with some contents
 abbrev pub startWith : Contents → State
-startWith c = startOf (c .settings) (c .values)
+startWith c = noEntries (c .settings) (c .values)
 
 pub printed-played : (input : List ℕ) → length input ≤ 65536
     → printed input ≡ sheetOf (startWith (playAll (contentsOf factoryState) (marks factoryState (map callOf (pieces input)) [])))
 printed-played input h =
-    printed-sheet input h ∙ sheet-contents (reached input) ∙ ap (λ (c : Contents). sheetOf (startWith c)) (played factoryState factory-start (map callOf (pieces input)))
+    printed-sheet input h ∙ sheet-contents (reached input)
+    ∙ ap (λ (c : Contents). sheetOf (startWith c)) (played factoryState factory-start (map callOf (pieces input)))

@@ -8,32 +8,26 @@ use lib.Dec.{leb}
 use lib.ListN.{length, replicate}
 use Rattle.figures.specs.Bytes.{laid}
 use Rattle.state.specs.Entries.{factoryState, isState}
-use Rattle.state.specs.Image.{imageOf, stateIn}
+use Rattle.state.specs.Image.{imageOf}
 use Rattle.state.specs.declared.entries.State.{State}
-use Rattle.state.proofs.Kept.{factory-is-state}
-use Rattle.state.proofs.Images.{image-is, image-back}
-use Rattle.lines.specs.Machine.{step, call}
+use Rattle.state.proofs.Images.{factory-is-state}
+use Rattle.lines.specs.Machine.{step, Called}
 use Rattle.lines.specs.Demand.{after}
 use Rattle.lines.proofs.States.{step-state, after-state}
-use Rattle.sheets.specs.Sheet.{sheetOf}
-use Rattle.sheets.specs.Loading.{Written·room, fitted, writtenSheet, WritesSheet}
+use Rattle.lines.proofs.Hosted.{call-is}
+use Rattle.sheets.specs.Sheet.{sheetOf, Sheet·room, sheetInRoom, writtenSheet, WritesSheet}
 use Rattle.pieces.specs.Pieces.{pieces}
-use Rattle.sheets.specs.Playing.{callOf, refusedInput, printed, Plays, runBy}
+use Rattle.sheets.specs.Playing.{callOf, refusedInput, printed, Plays}
+use Rattle.sheets.specs.Keeping.{runBy}
 use Rattle.sheets.specs.declared.answers.Sheeted.{Sheeted}
 use Rattle.sheets.specs.declared.answers.Sheeted.the-variants.{NoState, Room, Wrong, Written, Loaded}
 use Rattle.sheets.proofs.Images.{image-writes}
-use Rattle.sheets.proofs.Turns.{calledBy}
-
--- a call on a state's image gives the image of the next state
-call-image : (s : State) (line : List ℕ) → isState s ≡ true → call (imageOf s) line (replicate 306 0) .image ≡ imageOf (step s line 306 .next)
-call-image s line e =
-    ap (λ (b : Bool). calledBy b (step (stateIn (imageOf s)) line 306) (imageOf s) (replicate 306 0) .image) (image-is s e)
-    ∙ ap (λ (t : State). imageOf (step t line 306 .next)) (image-back s e)
 
 pub run-after : (ls : List (List ℕ)) (s : State) → isState s ≡ true → runBy ls (imageOf s) ≡ imageOf (after s (map callOf ls))
 unfolding runBy after
 run-after [] s e = refl
-run-after (l ∷ ls) s e = ap (runBy ls) (call-image s l e) ∙ run-after ls (step s l 306 .next) (step-state s l 306 e)
+run-after (l ∷ ls) s e =
+    ap (λ (o : Called). runBy ls (o .image)) (call-is s l (replicate 306 0) e) ∙ run-after ls (step s l 306 .next) (step-state s l 306 e)
 
 -- the state that an input is played to
 abbrev pub reached : List ℕ → State
@@ -50,13 +44,14 @@ printed-refused input h = rw (lt-leb (length input) 65536 h)
 
 -- what the write of the image that the pieces are run to comes to
 pub write-printed : (input image room room′ : List ℕ) (answer : Sheeted) → length input ≤ 65536 → image ≡ runBy (pieces input) (imageOf factoryState)
-    → WritesSheet image room answer room′ → (answer ≡ fitted (printed input) room .answer) × (room′ ≡ fitted (printed input) room .room)
+    → WritesSheet image room answer room′ → (answer ≡ sheetInRoom (printed input) room .answer) × (room′ ≡ sheetInRoom (printed input) room .room)
 write-printed input image room room′ answer h ei w =
     let is : image ≡ imageOf (reached input) = ei ∙ run-after (pieces input) factoryState factory-is-state in
-    let out : writtenSheet image room ≡ fitted (printed input) room =
-    ap (λ (i : List ℕ). writtenSheet i room) is ∙ image-writes (reached input) room (reached-state input) ∙ ap (λ (l : List ℕ). fitted l room) (sym (printed-sheet input h))
+    let out : writtenSheet image room ≡ sheetInRoom (printed input) room =
+    ap (λ (i : List ℕ). writtenSheet i room) is ∙ image-writes (reached input) room (reached-state input)
+    ∙ ap (λ (l : List ℕ). sheetInRoom l room) (sym (printed-sheet input h))
     in
-    (w .0 ∙ ap (λ (o : Written·room). o .answer) out, w .1 ∙ ap (λ (o : Written·room). o .room) out)
+    (w .0 ∙ ap (λ (o : Sheet·room). o .answer) out, w .1 ∙ ap (λ (o : Sheet·room). o .room) out)
 
 -- and what `play` answers of it
 
@@ -69,11 +64,11 @@ writtenN (Written n) = n
 writtenN Loaded = 0
 
 fitted-tells : (sheet room : List ℕ)
-    → (writtenN (fitted sheet room .answer) ≡ cond (leb (length sheet) (length room)) (length sheet) 0)
-    × (fitted sheet room .room ≡ cond (leb (length sheet) (length room)) (laid sheet room) room)
+    → (writtenN (sheetInRoom sheet room .answer) ≡ cond (leb (length sheet) (length room)) (length sheet) 0)
+    × (sheetInRoom sheet room .room ≡ cond (leb (length sheet) (length room)) (laid sheet room) room)
 fitted-tells sheet room = by (leb (length sheet) (length room))
   where
-    out : Bool → Written·room
+    out : Bool → Sheet·room
     out b = cond b (record { answer = Written (length sheet); room = laid sheet room }) (record { answer = Room; room = room })
 
     by : (b : Bool) → (writtenN (out b .answer) ≡ cond b (length sheet) 0) × (out b .room ≡ cond b (laid sheet room) room)

@@ -12,11 +12,11 @@ use Rattle.lines.specs.Machine.{Outcome, step, told, Called, played, call}
 use Rattle.lines.specs.declared.verdicts.Verdict.the-variants.{NoState}
 use Rattle.pieces.specs.Pieces.{cutOf, pieces}
 use Rattle.pieces.proofs.Pieces.{cut-some, cut-fits, pieces-none, pieces-more}
-use Rattle.sheets.specs.Playing.{runBy}
+use Rattle.sheets.specs.Keeping.{runBy}
 
 -- a line on an image, whatever the room holds
 
-abbrev pub calledBy : Bool → Outcome → List ℕ → List ℕ → Called
+abbrev calledBy : Bool → Outcome → List ℕ → List ℕ → Called
 calledBy b o image room = cond b (played o room) (record { answer = told NoState 0; image = image; room = room })
 
 pub room-length : (image line room : List ℕ) → length room ≡ 306 → call image line room .image ≡ call image line (replicate 306 0) .image
@@ -29,8 +29,8 @@ room-length image line room e =
 
 -- the pieces from a place on, run on an image: one piece more, and none left
 
-pub run-more : (input image line room next : List ℕ) (at n : ℕ) → at < length input → n ≡ cutOf (drop at input) → line ≡ take n (drop at input) → length room ≡ 306
-    → next ≡ call image line room .image → runBy (pieces (drop at input)) image ≡ runBy (pieces (drop (at + n) input)) next
+pub run-more : (input image line room next : List ℕ) (at n : ℕ) → at < length input → n ≡ cutOf (drop at input) → line ≡ take n (drop at input)
+    → length room ≡ 306 → next ≡ call image line room .image → runBy (pieces (drop at input)) image ≡ runBy (pieces (drop (at + n) input)) next
 unfolding runBy
 run-more input image line room next at n h en el er e =
     let rest = drop at input in
@@ -56,5 +56,8 @@ run-turn input image room next at n h er en e =
     let whole : n - 0 ≡ n = omega arith in
     let left = length-drop at input in (
       rw cut (cut-some (drop at input) (omega arith)),
-      (omega (arith, cut-fits (drop at input)), run-more input image (midOf 0 (n - 0) (midOf at (length input - at) input)) room next at n h cut (rw (rest, whole)) er e),
+      (
+        omega (arith, cut-fits (drop at input)),
+        run-more input image (midOf 0 (n - 0) (midOf at (length input - at) input)) room next at n h cut (rw (rest, whole)) er e,
+      ),
     )

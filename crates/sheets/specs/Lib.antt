@@ -1,5 +1,6 @@
 pub mod Answers
-pub mod Keys
+pub mod Lines
 pub mod Sheet
 pub mod Loading
 pub mod Playing
+pub mod Keeping

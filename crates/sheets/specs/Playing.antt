@@ -3,12 +3,12 @@
 use Prim.Native.Nat.{ℕ}
 use mathlib.Core.Path.{_≡_}
 use mathlib.Core.Bool.{cond}
-use mathlib.Core.List.{List, [], _∷_, map}
+use mathlib.Core.List.{List, map}
 use lib.Dec.{leb}
-use lib.ListN.{length, replicate}
+use lib.ListN.{length}
+use Rattle.figures.specs.Text.{codes}
 use Rattle.figures.specs.Bytes.{laid}
 use Rattle.state.specs.Entries.{factoryState}
-use Rattle.lines.specs.Machine.{call}
 use Rattle.lines.specs.Demand.{Call, after}
 use Rattle.pieces.specs.Pieces.{pieces}
 use Rattle.sheets.specs.Sheet.{sheetOf}
@@ -19,7 +19,7 @@ callOf l = record { line = l; room = 306 }
 
 -- `refused=input` and LF
 abbrev pub refusedInput : List ℕ
-refusedInput = 114 ∷ 101 ∷ 102 ∷ 117 ∷ 115 ∷ 101 ∷ 100 ∷ 61 ∷ 105 ∷ 110 ∷ 112 ∷ 117 ∷ 116 ∷ 10 ∷ []
+refusedInput = codes "refused=input\n"
 
 -- what the program prints: "reads at most 65,536 bytes .. Longer input: it prints `refused=input` and LF."
 abbrev pub printed : List ℕ → List ℕ
@@ -30,11 +30,3 @@ abbrev pub Plays : List ℕ → List ℕ → ℕ → List ℕ → Type 0
 Plays input room r room′ =
     (r ≡ cond (leb (length (printed input)) (length room)) (length (printed input)) 0)
     × (room′ ≡ cond (leb (length (printed input)) (length room)) (laid (printed input) room) room)
-
--- each piece as one call on an image, whatever the replies are
-unfoldable pub runBy : List (List ℕ) → List ℕ → List ℕ
-runBy [] image = image
-runBy (l ∷ ls) image = runBy ls (call image l (replicate 306 0) .image)
-
-abbrev pub Runs : List ℕ → List ℕ → List ℕ → Type 0
-Runs input image image′ = image′ ≡ runBy (pieces input) image

@@ -1,52 +1,69 @@
--- The state sheet: "key=value lines ended by LF".
-use Prim.Native.Nat.{ℕ, _+_}
-use mathlib.Core.List.{List, [], _∷_, _++_}
-use lib.ListN.{length, take, replicate}
+-- The state sheet: "key=value lines ended by LF: `series=TPS100`, then `s` and each setting in the order above, then `v` and each index".
+use Prim.Native.Nat.{ℕ}
+use mathlib.Core.Path.{_≡_}
+use mathlib.Core.Bool.{cond}
+use mathlib.Core.List.{List, [], _++_}
+use lib.Dec.{leb}
+use lib.ListN.{length, getD, take}
+use Rattle.figures.specs.Text.{codes}
 use Rattle.figures.specs.Bytes.{laid}
-use Rattle.state.specs.Values.{getWord}
-use Rattle.state.specs.declared.values.Kept.{Kept}
-use Rattle.state.specs.declared.values.Kept.the-variants.{Never, Put}
-use Rattle.state.specs.declared.values.Value.{Value}
+use Rattle.figures.specs.Decimal.{decimalOf}
+use Rattle.instrument.specs.Rows.{keyOf}
+use Rattle.instrument.specs.Settings.{settingNumber, noRow, rows}
+use Rattle.instrument.specs.Values.{indexNumber, storedAt, getWord}
+use Rattle.state.specs.Image.{stateIn, isImage}
+use Rattle.instrument.specs.declared.settings.Row.{Row}
+use Rattle.instrument.specs.declared.values.Kept.{Kept}
+use Rattle.instrument.specs.declared.values.Kept.the-variants.{Never, Put}
+use Rattle.instrument.specs.declared.values.Value.{Value}
 use Rattle.state.specs.declared.entries.State.{State}
-use Rattle.sheets.specs.Keys.{settingKeys, valueKeys}
-use Rattle.sheets.specs.declared.writing.Sheet.{Sheet}
+use Rattle.sheets.specs.Lines.{linesBy}
+use Rattle.sheets.specs.declared.answers.Sheeted.{Sheeted}
+use Rattle.sheets.specs.declared.answers.Sheeted.the-variants as answer
 
--- `series=TPS100`
 abbrev pub seriesLine : List ℕ
-seriesLine = 115 ∷ 101 ∷ 114 ∷ 105 ∷ 101 ∷ 115 ∷ 61 ∷ 84 ∷ 80 ∷ 83 ∷ 49 ∷ 48 ∷ 48 ∷ 10 ∷ []
+seriesLine = codes "series=TPS100\n"
 
--- a parameter is one digit
-abbrev pub settingLine : List ℕ → ℕ → List ℕ
-settingLine key p = key ++ ((48 + p) ∷ 10 ∷ [])
+abbrev pub settingKey : Row → List ℕ
+settingKey r = keyOf "s" (settingNumber r)
 
-unfoldable pub settingLines : List (List ℕ) → List ℕ → List ℕ
-settingLines [] ps = []
-settingLines (k ∷ ks) [] = []
-settingLines (k ∷ ks) (p ∷ ps) = settingLine k p ++ settingLines ks ps
+-- the parameter in its fewest digits
+abbrev pub rowLine : Row → ℕ → List ℕ
+rowLine r p = settingKey r ++ (decimalOf p ++ codes "\n")
+
+-- for any list of rows
+abbrev pub settingLine : List Row → ℕ → ℕ → List ℕ
+settingLine rs i p = rowLine (getD rs i noRow) p
 
 -- "the 15 characters GET/I gives, or nothing when never put"
 abbrev pub charactersOf : ℕ → Kept → List ℕ
 charactersOf place Never = []
 charactersOf place (Put u m d) = take 15 (getWord place (Put u m d))
 
-abbrev pub valueLine : List ℕ → ℕ → Kept → List ℕ
-valueLine key place k = key ++ (charactersOf place k ++ (10 ∷ []))
+abbrev pub valueKey : ℕ → List ℕ
+valueKey place = keyOf "v" (indexNumber (storedAt place))
 
--- the values at the places from i on
-unfoldable pub valueLines : List (List ℕ) → ℕ → List Value → List ℕ
-valueLines [] i vs = []
-valueLines (k ∷ ks) i [] = []
-valueLines (k ∷ ks) i (v ∷ vs) = valueLine k i (v .kept) ++ valueLines ks (i + 1) vs
+abbrev pub keptLine : ℕ → Kept → List ℕ
+keptLine place k = valueKey place ++ (charactersOf place k ++ codes "\n")
+
+abbrev pub valueLine : ℕ → Value → List ℕ
+valueLine place v = keptLine place (v .kept)
 
 unfoldable pub sheetOf : State → List ℕ
-sheetOf s = seriesLine ++ (settingLines settingKeys (s .settings) ++ valueLines valueKeys 0 (s .values))
+sheetOf s = seriesLine ++ (linesBy (settingLine rows) 0 (s .settings) ++ linesBy valueLine 0 (s .values))
 
--- the same as the code keeps it: from the start of the longest sheet
-abbrev pub sheetAs : List ℕ → Sheet
-sheetAs l = record { bytes = laid l (replicate 352 0); n = length l }
+-- writing it: the answer, and the room as it is then. "Order: .. for writing, 31, then 30. Room beyond a written sheet is untouched."
+pub record Sheet·room : Type 0 where
+  pub answer : Sheeted
+  pub room : List ℕ
 
-abbrev pub settingsPut : State → Sheet
-settingsPut s = sheetAs (seriesLine ++ settingLines settingKeys (s .settings))
+abbrev pub sheetInRoom : List ℕ → List ℕ → Sheet·room
+sheetInRoom sheet room =
+    cond (leb (length sheet) (length room)) (record { answer = answer.Written (length sheet); room = laid sheet room })
+    (record { answer = answer.Room; room = room })
 
-abbrev pub sheetPut : State → Sheet
-sheetPut s = sheetAs (sheetOf s)
+abbrev pub writtenSheet : List ℕ → List ℕ → Sheet·room
+writtenSheet image room = cond (isImage image) (sheetInRoom (sheetOf (stateIn image)) room) (record { answer = answer.NoState; room = room })
+
+abbrev pub WritesSheet : List ℕ → List ℕ → Sheeted → List ℕ → Type 0
+WritesSheet image room r room′ = (r ≡ writtenSheet image room .answer) × (room′ ≡ writtenSheet image room .room)

@@ -1,30 +1,32 @@
 // A sheet loaded into a lent image.
 ghost use mathlib.Core.Path.{_≡_};
-ghost use Prim.Native.Nat.{_≤_};
-ghost use lib.ListN.{length, replicate};
-ghost use Rattle.figures.specs.Bytes.{laid, startsWith};
-ghost use Rattle.state.specs.Entries.{valuesN, valueOf};
-ghost use Rattle.state.specs.declared.values.Kept.the-variants.{Never};
-ghost use Rattle.sheets.specs.Keys.{keyIn};
-ghost use Rattle.sheets.specs.Loading.{charactersRight, settingStands, neverStands, valueStands, wrongAt, settingsIn, settingsAs, valuesAt, valuesAs, startOf, Loads};
+ghost use Prim.Native.Nat.{_≤_, _<_};
+ghost use lib.ListN.{length, drop, replicate};
+ghost use Rattle.instrument.specs.Settings.{rows};
+ghost use Rattle.state.specs.Entries.{valueOf};
+ghost use Rattle.instrument.specs.Values.{valuesN};
+ghost use Rattle.instrument.specs.declared.values.Kept.the-variants.{Never};
+ghost use Rattle.sheets.specs.Lines.{wrongAt};
+ghost use Rattle.sheets.specs.Loading.{saidBy, settingSays, keptSaid, settingsIn, valuesFrom, Loads};
+ghost use Rattle.sheets.specs.Keeping.{settingsAs, valuesAs};
 use crate::answers::Sheeted;
-use crate::keys::Key;
-use crate::keys::setting_key;
-use crate::keys::value_key;
-use state::entries::ENTRIES;
-use state::entries::State;
-use state::entries::blank_entry;
+use crate::writing::key_length;
+use crate::writing::setting_line;
+use crate::writing::value_line;
+use figures::casts::wide;
+use instrument::settings::SETTINGS;
+use instrument::settings::in_range;
+use instrument::settings::row_at;
+use instrument::values::Kept;
+use instrument::values::VALUES;
+use instrument::values::Value;
+use instrument::values::kept_right;
+use instrument::values::put_kept;
+use instrument::values::stored_at;
+use state::entries::with_no_entries;
 use state::image::Known;
 use state::image::decode;
 use state::image::encode;
-use state::settings::SETTINGS;
-use state::settings::row_at;
-use state::values::Kept;
-use state::values::VALUES;
-use state::values::Value;
-use state::values::get_word;
-use state::values::kept_right;
-use state::values::put_kept;
 
 // How far the lines of a part were right: the start of the first wrong one, or the place past the last.
 pub enum Came {
@@ -44,92 +46,56 @@ pub struct Values {
     pub values: [Value; VALUES],
 }
 
-// Whether the key of at most five bytes stands at the start of s.
-fn key_stands(key: Key, s: &[u8]) -> bool
-    requires { ⌜ key .n ≤ 5 ⌝ }
-    ensures { λ r. ⌜ r ≡ startsWith (keyIn key) (now (s .entry)) ⌝ }
+// The number that the digits from a place on say, three at most.
+fn said_at(s: &[u8], start: usize) -> u64
+    ensures { λ r. ⌜ (r ≡ saidBy 3 0 (drop start (now (s .entry)))) × (r < 1000) ⌝ }
 {
-    let bytes = key.bytes;
-    let n = key.n;
-    figures::starts(s, &bytes[0..n])
+    let mut n: u64 = 0;
+    let mut i: usize = 0;
+    let mut at = start;
+    while i < 3 {
+        if s.len() <= at {
+            return n;
+        }
+        let b = s[at];
+        if !figures::digit(b) {
+            return n;
+        }
+        n = n * 10 + wide(b - b'0');
+        at += 1;
+        i += 1;
+    }
+    n
 }
 
-// Whether a setting's line stands at the start of s.
-fn setting_stands(key: Key, highest: u8, s: &[u8]) -> bool
-    requires { ⌜ (key .n ≤ 5) × (highest ≤ 9) ⌝ }
-    ensures { λ r. ⌜ r ≡ settingStands (keyIn key) highest (now (s .entry)) ⌝ }
+// What the line of the setting at a place says.
+fn parameter_in(place: usize, s: &[u8]) -> u64
+    ensures { λ r. ⌜ r ≡ settingSays rows place (now (s .entry)) ⌝ }
 {
-    let n = key.n;
-    if !key_stands(key, s) {
-        return false;
-    }
-    if s.len() < n + 2 {
-        return false;
-    }
-    if s[n] < b'0' {
-        return false;
-    }
-    if b'0' + highest < s[n] {
-        return false;
-    }
-    s[n + 1] == b'\n'
+    let row = row_at(place);
+    let key = row.4;
+    said_at(s, key_length(key))
 }
 
-// Whether the line of a value that was never put stands at the start of s.
-fn never_stands(key: Key, s: &[u8]) -> bool
-    requires { ⌜ key .n ≤ 5 ⌝ }
-    ensures { λ r. ⌜ r ≡ neverStands (keyIn key) (now (s .entry)) ⌝ }
+// What the line of the value at a place says.
+fn kept_in(place: usize, s: &[u8]) -> Kept
+    ensures { λ r. ⌜ r ≡ keptSaid place (now (s .entry)) ⌝ }
 {
-    let n = key.n;
-    if !key_stands(key, s) {
-        return false;
+    let never = Kept::Never;
+    let line = value_line(place, never);
+    let text = line.bytes;
+    let n = line.n;
+    if figures::starts(s, &text[0..n]) {
+        return never;
     }
-    if s.len() <= n {
-        return false;
+    let row = stored_at(place);
+    let key = row.3;
+    let start = key_length(key);
+    let mut word = [0; 16];
+    if start <= s.len() {
+        figures::lay(&s[start..], &mut word);
     }
-    s[n] == b'\n'
-}
-
-// The 15 characters of a value, with the blank after them.
-fn word_of(c: &[u8]) -> [u8; 16]
-    requires { ⌜ length (now c) ≡ 15 ⌝ }
-    ensures { λ r. ⌜ r ≡ laid (now (c .entry)) (replicate 16 32) ⌝ }
-{
-    let mut word = [b' '; 16];
-    figures::lay(c, &mut word);
-    word
-}
-
-// Whether they are those that GET/I gives of a right value.
-fn characters_right(place: usize, c: &[u8]) -> bool
-    requires { ⌜ length (now c) ≡ 15 ⌝ }
-    ensures { λ r. ⌜ r ≡ charactersRight place (now (c .entry)) ⌝ }
-{
-    let kept = put_kept(word_of(c));
-    if !kept_right(place, kept) {
-        return false;
-    }
-    let word = get_word(place, kept);
-    figures::same(c, &word[0..15])
-}
-
-// Whether the line of a value that was put stands at the start of s.
-fn value_stands(place: usize, key: Key, s: &[u8]) -> bool
-    requires { ⌜ key .n ≤ 5 ⌝ }
-    ensures { λ r. ⌜ r ≡ valueStands place (keyIn key) (now (s .entry)) ⌝ }
-{
-    let n = key.n;
-    if !key_stands(key, s) {
-        return false;
-    }
-    if s.len() < n + 16 {
-        return false;
-    }
-    let end = n + 15;
-    if s[end] != b'\n' {
-        return false;
-    }
-    characters_right(place, &s[n..end])
+    put_kept(word)
 }
 
 fn wrong_settings(at: usize) -> Settings
@@ -154,15 +120,20 @@ fn settings_in(sheet: &[u8]) -> Settings
     let mut at = 14;
     let mut i = 0;
     while i < SETTINGS {
-        let key = setting_key(i);
-        let row = row_at(i);
-        let n = key.n;
         let rest = &sheet[at..];
-        if !setting_stands(key, row.highest, rest) {
+        let parameter = parameter_in(i, rest);
+        if !in_range(row_at(i), parameter) {
             return wrong_settings(at);
         }
-        settings[i] = rest[n] - b'0';
-        at += n + 2;
+        let p = parameter as u8;
+        let line = setting_line(i, p);
+        let text = line.bytes;
+        let n = line.n;
+        if !figures::starts(rest, &text[0..n]) {
+            return wrong_settings(at);
+        }
+        settings[i] = p;
+        at += n;
         i += 1;
     }
     let came = Came::To(at);
@@ -194,46 +165,31 @@ fn wrong_values(at: usize) -> Values
 // The values' lines, from a place on.
 fn values_in(sheet: &[u8], start: usize) -> Values
     requires { ⌜ start ≤ length (now sheet) ⌝ }
-    ensures { λ r. ⌜ r ≡ valuesAs (valuesAt (now (sheet .entry)) start) ⌝ }
+    ensures { λ r. ⌜ r ≡ valuesAs (valuesFrom (now (sheet .entry)) start) ⌝ }
 {
     let mut values = never_put();
     let mut at = start;
     let mut i = 0;
     while i < VALUES {
-        let key = value_key(i);
-        let n = key.n;
         let rest = &sheet[at..];
-        if never_stands(key, rest) {
-            at += n + 1;
-        } else {
-            if !value_stands(i, key, rest) {
-                return wrong_values(at);
-            }
-            let end = n + 15;
-            let kept = put_kept(word_of(&rest[n..end]));
-            values[i] = Value { kept: kept };
-            at += n + 16;
+        let kept = kept_in(i, rest);
+        if !kept_right(i, kept) {
+            return wrong_values(at);
         }
+        let line = value_line(i, kept);
+        let text = line.bytes;
+        let n = line.n;
+        if !figures::starts(rest, &text[0..n]) {
+            return wrong_values(at);
+        }
+        values[i] = Value { kept: kept };
+        at += n;
         i += 1;
     }
     let came = Came::To(at);
     Values {
         came: came,
         values: values,
-    }
-}
-
-// The state with those contents and no undo entry.
-fn start_of(settings: [u8; SETTINGS], values: [Value; VALUES]) -> State
-    ensures { λ r. ⌜ r ≡ startOf settings values ⌝ }
-{
-    let blank = blank_entry();
-    let undo = [blank; ENTRIES];
-    State {
-        settings: settings,
-        values: values,
-        undo: undo,
-        count: 0,
     }
 }
 
@@ -270,7 +226,6 @@ pub fn load(image: &mut [u8], sheet: &[u8]) -> Sheeted
     }
     let settings = first.settings;
     let values = second.values;
-    let state = start_of(settings, values);
-    encode(state, image);
+    encode(with_no_entries(settings, values), image);
     Sheeted::Loaded
 }

@@ -1,24 +1,31 @@
-// The sheet written from a state.
+// The sheet written from a state: line by line, each put where the one before it ended.
 ghost use mathlib.Core.Path.{_≡_};
-ghost use mathlib.Core.Bool.{true};
 ghost use lib.ListN.{length};
-ghost use Rattle.state.specs.Entries.{isState};
-ghost use Rattle.sheets.specs.Sheet.{sheetPut, settingsPut};
-ghost use Rattle.sheets.specs.Loading.{WritesSheet};
+ghost use Rattle.instrument.specs.Settings.{rows};
+ghost use Rattle.sheets.specs.Sheet.{settingLine, keptLine, WritesSheet};
+ghost use Rattle.sheets.specs.Keeping.{keyLength, lineAs, sheetPut, settingsPut};
 use crate::answers::Sheeted;
-use crate::keys::setting_key;
-use crate::keys::value_key;
+use figures::casts::wide;
+use figures::rooms::put;
+use figures::rooms::put_decimal;
+use instrument::settings::SETTINGS;
+use instrument::settings::row_at;
+use instrument::values::Kept;
+use instrument::values::VALUES;
+use instrument::values::get_word;
+use instrument::values::stored_at;
 use state::entries::State;
 use state::image::Known;
 use state::image::decode;
-use state::settings::SETTINGS;
-use state::values::Kept;
-use state::values::VALUES;
-use state::values::Value;
-use state::values::get_word;
 
 // The longest sheet.
 pub const LONGEST: usize = 352;
+
+// A line from the start of 20 bytes, the longest, and its length; the rest is 0.
+pub struct Line {
+    pub bytes: [u8; 20],
+    pub n: usize,
+}
 
 // A sheet from the start of the longest, and its length; the rest is 0.
 pub struct Sheet {
@@ -26,25 +33,69 @@ pub struct Sheet {
     pub n: usize,
 }
 
+// The length of a row's key, which stands from the start of five bytes.
+pub(crate) fn key_length(key: [u8; 5]) -> usize
+    ensures { λ r. ⌜ r ≡ keyLength key ⌝ }
+{
+    if key[4] != 0 {
+        return 5;
+    }
+    if key[3] != 0 {
+        return 4;
+    }
+    3
+}
+
+// The line of the setting at a place.
+pub(crate) fn setting_line(place: usize, parameter: u8) -> Line
+    ensures { λ r. ⌜ r ≡ lineAs (settingLine rows place parameter) ⌝ }
+{
+    let row = row_at(place);
+    let key = row.4;
+    let n = key_length(key);
+    let mut bytes = [0; 20];
+    let after_key = put(&mut bytes, 0, &key[0..n]);
+    let after_number = put_decimal(&mut bytes, after_key, wide(parameter));
+    let end = put(&mut bytes, after_number, b"\n");
+    Line {
+        bytes: bytes,
+        n: end,
+    }
+}
+
+// The line of the value at a place.
+pub(crate) fn value_line(place: usize, kept: Kept) -> Line
+    ensures { λ r. ⌜ r ≡ lineAs (keptLine place kept) ⌝ }
+{
+    let row = stored_at(place);
+    let key = row.3;
+    let n = key_length(key);
+    let mut bytes = [0; 20];
+    let mut at = put(&mut bytes, 0, &key[0..n]);
+    if let Kept::Put(_, _, _) = kept {
+        let word = get_word(place, kept);
+        at = put(&mut bytes, at, &word[0..15]);
+    }
+    let end = put(&mut bytes, at, b"\n");
+    Line {
+        bytes: bytes,
+        n: end,
+    }
+}
+
 // The series and the settings' lines.
 fn put_settings(s: State) -> Sheet
-    requires { ⌜ isState s ≡ true ⌝ }
     ensures { λ r. ⌜ r ≡ settingsPut s ⌝ }
 {
     let settings = s.settings;
     let mut bytes = [0; LONGEST];
-    figures::lay(b"series=TPS100\n", &mut bytes);
-    let mut at = 14;
+    let mut at = put(&mut bytes, 0, b"series=TPS100\n");
     let mut i = 0;
     while i < SETTINGS {
-        let key = setting_key(i);
-        let k = key.bytes;
-        let n = key.n;
-        figures::lay(&k[0..n], &mut bytes[at..]);
-        let digit = at + n;
-        bytes[digit] = b'0' + settings[i];
-        bytes[digit + 1] = b'\n';
-        at = digit + 2;
+        let line = setting_line(i, settings[i]);
+        let text = line.bytes;
+        let n = line.n;
+        at = put(&mut bytes, at, &text[0..n]);
         i += 1;
     }
     Sheet {
@@ -55,7 +106,6 @@ fn put_settings(s: State) -> Sheet
 
 // The whole sheet.
 pub(crate) fn put_sheet(s: State) -> Sheet
-    requires { ⌜ isState s ≡ true ⌝ }
     ensures { λ r. ⌜ r ≡ sheetPut s ⌝ }
 {
     let start = put_settings(s);
@@ -64,20 +114,12 @@ pub(crate) fn put_sheet(s: State) -> Sheet
     let mut at = start.n;
     let mut i = 0;
     while i < VALUES {
-        let key = value_key(i);
-        let k = key.bytes;
-        let n = key.n;
-        figures::lay(&k[0..n], &mut bytes[at..]);
-        at += n;
         let value = values[i];
         let kept = value.kept;
-        if let Kept::Put(_, _, _) = kept {
-            let word = get_word(i, kept);
-            figures::lay(&word[0..15], &mut bytes[at..]);
-            at += 15;
-        }
-        bytes[at] = b'\n';
-        at += 1;
+        let line = value_line(i, kept);
+        let text = line.bytes;
+        let n = line.n;
+        at = put(&mut bytes, at, &text[0..n]);
         i += 1;
     }
     Sheet {

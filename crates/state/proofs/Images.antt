@@ -10,14 +10,15 @@ use lib.ListN.{length, getD, take, drop, length-append}
 use lib.Seq.{take-all, take-at, drop-at, drop-drop, getD-drop}
 use Rattle.figures.specs.Bytes.{sameBytes}
 use Rattle.figures.proofs.Bytes.{same-refl, same-true}
-use Rattle.state.specs.Settings.{rows, inRanges}
-use Rattle.state.specs.Entries.{settingsN, valuesN, entriesN, valueOf, entryOf, blankState, valuesRight, entriesRight, putsOf, sound, isState}
+use Rattle.instrument.specs.Settings.{inRange, rows, inRanges, settingsN}
+use Rattle.state.specs.Entries.{factoryState, entriesN, valueOf, entryOf, blankState, valuesRight, entriesRight, putsOf, sound, isState}
+use Rattle.instrument.specs.Values.{valuesN}
 use Rattle.state.specs.Image.{valuesAt, countAt, entriesAt, imageN, keptBytes, entryBytes, valuesBytes, entriesBytes, imageOf}
 use Rattle.state.specs.Image.{keptIn, entryIn, valuesIn, entriesIn, stateIn, isImage, decodeOf}
-use Rattle.state.specs.declared.settings.Row.{Row}
-use Rattle.state.specs.declared.values.Kept.{Kept}
-use Rattle.state.specs.declared.values.Kept.the-variants.{Never, Put}
-use Rattle.state.specs.declared.values.Value.{Value}
+use Rattle.instrument.specs.declared.settings.Row.{Row}
+use Rattle.instrument.specs.declared.values.Kept.{Kept}
+use Rattle.instrument.specs.declared.values.Kept.the-variants.{Never, Put}
+use Rattle.instrument.specs.declared.values.Value.{Value}
 use Rattle.state.specs.declared.entries.Item.{Item}
 use Rattle.state.specs.declared.entries.Item.the-variants.{Free, Setting, Stored}
 use Rattle.state.specs.declared.entries.Entry.{Entry}
@@ -63,7 +64,7 @@ unfolding inRanges
 ranges-long [] [] e = refl
 ranges-long [] (p ∷ ps) e = absurd (false≢true e)
 ranges-long (r ∷ rs) [] e = absurd (false≢true e)
-ranges-long (r ∷ rs) (p ∷ ps) e = ap suc (ranges-long rs ps (and-eq-true-iff (leb p (r .highest)) (inRanges rs ps) .0 e .1))
+ranges-long (r ∷ rs) (p ∷ ps) e = ap suc (ranges-long rs ps (and-eq-true-iff (inRange r p) (inRanges rs ps) .0 e .1))
 
 rows-long : length rows ≡ settingsN
 unfolding rows
@@ -189,3 +190,7 @@ image-of l e =
     let rest = and-eq-true-iff (eqb (length l) imageN) (sameBytes l (imageOf (stateIn l)) && isState (stateIn l)) .0 e in
     let both = and-eq-true-iff (sameBytes l (imageOf (stateIn l))) (isState (stateIn l)) .0 (rest .1) in
     (both .1, same-true l (imageOf (stateIn l)) (both .0))
+
+pub factory-is-state : isState factoryState ≡ true
+unfolding rows inRanges valuesRight entriesRight sound
+factory-is-state = refl

@@ -7,12 +7,12 @@ use native.Mathlib.Numerals.{add-one}
 use native.Mathlib.Omega.{arith}
 use borrow.Rule.Slice.PartMut.{putMid, midOf, postOf, same-len-mid, mid-len}
 use lib.ListN.{length, getD, set, take, drop, drop-of-length-le, length-append}
-use lib.Seq.{take-suc, take-suc-set, take-all, take-at, drop-at, drop-drop, drop-cons, length-take-le, set-at, append-snoc}
+use lib.Seq.{take-suc, take-suc-set, take-all, take-at, drop-at, drop-drop, length-take-le}
 use Rattle.figures.specs.Bytes.{laid}
 use Rattle.figures.proofs.Bytes.{laid-cut}
 use Rattle.state.specs.Entries.{valueOf}
 use Rattle.state.specs.Image.{flat, rowsIn, keptBytes, keptIn}
-use Rattle.state.specs.declared.values.Value.{Value}
+use Rattle.instrument.specs.declared.values.Value.{Value}
 
 -- a list is its elements
 
@@ -32,14 +32,6 @@ spelt d n l h = subst (λ (m : ℕ). tab m (λ k. getD l k d) ≡ l) h (tab-leng
 
 pub laid-whole : (w room : List ℕ) → length w ≡ length room → laid w room ≡ w
 laid-whole w room h = laid-cut w room (omega arith) ∙ take-all (length room) w (omega arith)
-
--- a byte stored after done
-pub store-on : (done room₀ room : List ℕ) (a v : ℕ) → a ≡ length done → length done < length room₀ → room ≡ done ++ drop (length done) room₀
-    → set room a v ≡ (done ++ (v ∷ [])) ++ drop (length (done ++ (v ∷ []))) room₀
-store-on done room₀ room a v ea h e =
-    let n = length done in
-    let there = set-at done (getD room₀ n 0) (drop (suc n) room₀) v n refl in
-    rw (ea, e, drop-cons room₀ n 0 h, there, length-append done (v ∷ []), add-one, append-snoc)
 
 -- done is all that there is room for
 pub filled : (done room₀ : List ℕ) {room : List ℕ} → length done ≡ length room₀ → room ≡ done ++ drop (length done) room₀ → room ≡ done

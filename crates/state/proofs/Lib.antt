@@ -1,6 +1,4 @@
-pub mod Seek
-pub mod Ranges
-pub mod Kept
+pub mod Standing
 pub mod Laying
 pub mod Images
 pub mod Determined

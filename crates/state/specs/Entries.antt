@@ -5,21 +5,15 @@ use mathlib.Core.Bool.{Bool, true, false, cond, not, _&&_}
 use mathlib.Core.List.{List, [], _∷_, map}
 use lib.Dec.{eqb, leb, ltb}
 use lib.ListN.{length, getD, set, replicate}
-use Rattle.state.specs.Settings.{rows, rowAt, factorySettings, inRanges}
-use Rattle.state.specs.Values.{stored, isPut, keptRight}
-use Rattle.state.specs.declared.values.Kept.{Kept}
-use Rattle.state.specs.declared.values.Kept.the-variants.{Never}
-use Rattle.state.specs.declared.values.Value.{Value}
+use Rattle.instrument.specs.Settings.{settingsN, rows, rowAt, factorySettings, inRange, inRanges}
+use Rattle.instrument.specs.Values.{valuesN, isPut, keptRight}
+use Rattle.instrument.specs.declared.values.Kept.{Kept}
+use Rattle.instrument.specs.declared.values.Kept.the-variants.{Never}
+use Rattle.instrument.specs.declared.values.Value.{Value}
 use Rattle.state.specs.declared.entries.Item.{Item}
 use Rattle.state.specs.declared.entries.Item.the-variants.{Free, Setting, Stored}
 use Rattle.state.specs.declared.entries.Entry.{Entry}
 use Rattle.state.specs.declared.entries.State.{State}
-
-abbrev pub settingsN : ℕ
-settingsN = 19
-
-abbrev pub valuesN : ℕ
-valuesN = 11
 
 -- "The undo list holds 64 entries."
 abbrev pub entriesN : ℕ
@@ -34,9 +28,13 @@ entryOf i p k = record { item = i; former = record { parameter = p; kept = k } }
 abbrev pub blankEntry : Entry
 blankEntry = entryOf Free 0 Never
 
--- settings, no value put and no entry
+-- no undo entry
+abbrev pub noEntries : List ℕ → List Value → State
+noEntries settings values = record { settings = settings; values = values; undo = replicate entriesN blankEntry; count = 0 }
+
+-- no value put either
 abbrev pub unused : List ℕ → State
-unused settings = record { settings = settings; values = replicate valuesN (valueOf Never); undo = replicate entriesN blankEntry; count = 0 }
+unused settings = noEntries settings (replicate valuesN (valueOf Never))
 
 -- "At the factory no value has been put."
 abbrev pub factoryState : State
@@ -50,7 +48,7 @@ isNever k = not (isPut k)
 
 abbrev pub itemRight : Item → ℕ → Kept → Bool
 itemRight Free p k = false
-itemRight (Setting i) p k = ltb i settingsN && (leb p (rowAt i .highest) && isNever k)
+itemRight (Setting i) p k = ltb i settingsN && (inRange (rowAt i) p && isNever k)
 itemRight (Stored i) p k = ltb i valuesN && (eqb p 0 && keptRight i k)
 
 abbrev pub entryRight : Entry → Bool

@@ -5,11 +5,12 @@ use mathlib.Core.List.{List, [], _∷_, _++_}
 use lib.Dec.{eqb}
 use lib.ListN.{length, getD, take, drop}
 use Rattle.figures.specs.Bytes.{sameBytes}
-use Rattle.state.specs.Values.{eightBytes, eightOf}
-use Rattle.state.specs.Entries.{settingsN, valuesN, entriesN, valueOf, entryOf, blankState, isState}
-use Rattle.state.specs.declared.values.Kept.{Kept}
-use Rattle.state.specs.declared.values.Kept.the-variants.{Never, Put}
-use Rattle.state.specs.declared.values.Value.{Value}
+use Rattle.instrument.specs.Values.{eightBytes, eightOf, valuesN}
+use Rattle.state.specs.Entries.{entriesN, valueOf, entryOf, blankState, isState}
+use Rattle.instrument.specs.Settings.{settingsN}
+use Rattle.instrument.specs.declared.values.Kept.{Kept}
+use Rattle.instrument.specs.declared.values.Kept.the-variants.{Never, Put}
+use Rattle.instrument.specs.declared.values.Value.{Value}
 use Rattle.state.specs.declared.entries.Item.{Item}
 use Rattle.state.specs.declared.entries.Item.the-variants.{Free, Setting, Stored}
 use Rattle.state.specs.declared.entries.Entry.{Entry}
@@ -30,7 +31,7 @@ entriesAt = countAt + 2
 abbrev pub imageN : ℕ
 imageN = entriesAt + entriesN * 14
 
--- "never put, or unit, sign and eight characters"
+-- never put, or unit, sign and eight characters
 unfoldable pub keptBytes : Kept → List ℕ
 keptBytes Never = 0 ∷ 0 ∷ 0 ∷ 0 ∷ 0 ∷ 0 ∷ 0 ∷ 0 ∷ 0 ∷ 0 ∷ 0 ∷ []
 keptBytes (Put u m d) = 1 ∷ u ∷ m ∷ eightBytes d

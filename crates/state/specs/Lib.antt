@@ -1,5 +1,2 @@
-pub mod Rows
-pub mod Settings
-pub mod Values
 pub mod Entries
 pub mod Image

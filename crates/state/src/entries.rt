@@ -1,16 +1,19 @@
 // The state, and its undo list: an array by value of entries, each with the item and its former content, blank past the count.
 ghost use mathlib.Core.Path.{_≡_};
 ghost use Prim.Native.Nat.{_≤_};
-ghost use Rattle.state.specs.Entries.{entriesN, unused, blankEntry, factoryState, blankState, isNever, isBlank, putsOf, entryRight, entriesRight, valuesRight, sound, isState};
-use crate::settings::SETTINGS;
-use crate::settings::factory_settings;
-use crate::settings::in_ranges;
-use crate::settings::row_at;
-use crate::values::Kept;
-use crate::values::VALUES;
-use crate::values::Value;
-use crate::values::is_put;
-use crate::values::kept_right;
+ghost use Rattle.state.specs.Entries.{entriesN, noEntries, unused, blankEntry, factoryState, blankState, isNever, isBlank, putsOf, entryRight, entriesRight, valuesRight, sound, isState};
+use figures::casts::place_of;
+use figures::casts::wide;
+use instrument::settings::SETTINGS;
+use instrument::settings::factory_settings;
+use instrument::settings::in_range;
+use instrument::settings::in_ranges;
+use instrument::settings::row_at;
+use instrument::values::Kept;
+use instrument::values::VALUES;
+use instrument::values::Value;
+use instrument::values::is_put;
+use instrument::values::kept_right;
 
 pub const ENTRIES: usize = 64;
 
@@ -54,12 +57,10 @@ pub fn blank_entry() -> Entry
     }
 }
 
-fn with_settings(settings: [u8; SETTINGS]) -> State
-    ensures { λ r. ⌜ r ≡ unused settings ⌝ }
+// The state with those settings and values and no undo entry.
+pub fn with_no_entries(settings: [u8; SETTINGS], values: [Value; VALUES]) -> State
+    ensures { λ r. ⌜ r ≡ noEntries settings values ⌝ }
 {
-    let kept = Kept::Never;
-    let value = Value { kept: kept };
-    let values = [value; VALUES];
     let entry = blank_entry();
     let undo = [entry; ENTRIES];
     State {
@@ -68,6 +69,14 @@ fn with_settings(settings: [u8; SETTINGS]) -> State
         undo: undo,
         count: 0,
     }
+}
+
+fn with_settings(settings: [u8; SETTINGS]) -> State
+    ensures { λ r. ⌜ r ≡ unused settings ⌝ }
+{
+    let kept = Kept::Never;
+    let value = Value { kept: kept };
+    with_no_entries(settings, [value; VALUES])
 }
 
 // At the factory no value has been put.
@@ -82,12 +91,6 @@ pub(crate) fn blank_state() -> State
     ensures { λ r. ⌜ r ≡ blankState ⌝ }
 {
     with_settings([0; SETTINGS])
-}
-
-fn place_of(b: u8) -> usize
-    ensures { λ r. ⌜ r ≡ b ⌝ }
-{
-    b as usize
 }
 
 fn is_never(kept: Kept) -> bool
@@ -110,8 +113,7 @@ fn entry_right(entry: Entry) -> bool
             if SETTINGS <= place {
                 return false;
             }
-            let row = row_at(place);
-            if row.highest < former.parameter {
+            if !in_range(row_at(place), wide(former.parameter)) {
                 return false;
             }
             is_never(kept)

@@ -2,8 +2,9 @@
 ghost use mathlib.Core.Path.{_≡_};
 ghost use Prim.Native.Nat.{_<_, _≤_, _+_, _*_};
 ghost use lib.ListN.{length, take, drop};
-ghost use Rattle.state.specs.Entries.{valuesN, entriesN};
-ghost use Rattle.state.specs.Image.{imageN, keptBytes, entryBytes, valuesBytes, entriesBytes, imageOf, keptIn, entryIn, valuesIn, entriesIn, stateIn, decodeOf, encodedIn};
+ghost use Rattle.state.specs.Entries.{entriesN};
+ghost use Rattle.instrument.specs.Values.{valuesN};
+ghost use Rattle.state.specs.Image.{imageN, keptBytes, itemBytes, entryBytes, valuesBytes, entriesBytes, imageOf, keptIn, entryIn, valuesIn, entriesIn, stateIn, decodeOf, encodedIn};
 use crate::entries::ENTRIES;
 use crate::entries::Entry;
 use crate::entries::Former;
@@ -12,11 +13,11 @@ use crate::entries::State;
 use crate::entries::blank_entry;
 use crate::entries::blank_state;
 use crate::entries::is_state;
-use crate::settings::SETTINGS;
-use crate::values::Eight;
-use crate::values::Kept;
-use crate::values::VALUES;
-use crate::values::Value;
+use instrument::settings::SETTINGS;
+use instrument::values::Eight;
+use instrument::values::Kept;
+use instrument::values::VALUES;
+use instrument::values::Value;
 
 // The first byte: TPS100, form 1.
 const FORM: u8 = 1;
@@ -50,64 +51,42 @@ fn kept_bytes(kept: Kept) -> [u8; 11]
     }
 }
 
+// What an item is, and its place.
+fn item_bytes(item: Item) -> [u8; 2]
+    ensures { λ r. ⌜ r ≡ itemBytes item ⌝ }
+{
+    match item {
+        Item::Free => [0, 0],
+        Item::Setting(i) => [1, i],
+        Item::Stored(i) => [2, i],
+    }
+}
+
 fn entry_bytes(entry: Entry) -> [u8; 14]
     ensures { λ r. ⌜ r ≡ entryBytes entry ⌝ }
 {
     let item = entry.item;
     let former = entry.former;
     let kept = former.kept;
+    let a = item_bytes(item);
     let b = kept_bytes(kept);
     let p = former.parameter;
-    match item {
-        Item::Free => [
-            0,
-            0,
-            p,
-            b[0],
-            b[1],
-            b[2],
-            b[3],
-            b[4],
-            b[5],
-            b[6],
-            b[7],
-            b[8],
-            b[9],
-            b[10],
-        ],
-        Item::Setting(i) => [
-            1,
-            i,
-            p,
-            b[0],
-            b[1],
-            b[2],
-            b[3],
-            b[4],
-            b[5],
-            b[6],
-            b[7],
-            b[8],
-            b[9],
-            b[10],
-        ],
-        Item::Stored(i) => [
-            2,
-            i,
-            p,
-            b[0],
-            b[1],
-            b[2],
-            b[3],
-            b[4],
-            b[5],
-            b[6],
-            b[7],
-            b[8],
-            b[9],
-            b[10],
-        ],
-    }
+    [
+        a[0],
+        a[1],
+        p,
+        b[0],
+        b[1],
+        b[2],
+        b[3],
+        b[4],
+        b[5],
+        b[6],
+        b[7],
+        b[8],
+        b[9],
+        b[10],
+    ]
 }
 
 fn put_values(values: [Value; VALUES], out: &mut [u8])

@@ -4,10 +4,11 @@ use mathlib.Core.Bool.{Bool}
 use Prim.Native.Nat.{ℕ}
 use Rattle.figures.specs.Promises.{Determined}
 use Rattle.figures.proofs.Determined.{by-equation}
-use Rattle.units.specs.Kinds.{kindOf, isTextual, indexAt}
-use Rattle.units.specs.Information.{informedOf, signAt}
+use Rattle.units.specs.Kinds.{kindOf, isTextual, namedBy, indexAt}
+use Rattle.units.specs.Information.{informedOf, signByte, signAt}
 use Rattle.units.specs.Counts.{angleOf, lengthOf, constantOf, valueAt, firstOf, secondOf}
 use Rattle.units.specs.declared.kinds.Kind.{Kind}
+use Rattle.units.specs.declared.kinds.Named.{Named}
 use Rattle.units.specs.declared.kinds.Indexed.{Indexed}
 use Rattle.units.specs.declared.information.Informed.{Informed}
 use Rattle.units.specs.declared.information.Signed.{Signed}
@@ -22,11 +23,20 @@ kind-of-determined = by-equation ℕ Kind kindOf
 pub textual-determined : Determined Kind Bool (λ k r. r ≡ isTextual k)
 textual-determined = by-equation Kind Bool isTextual
 
+pub named-by-determined : Determined (ℕ × ℕ) Named (λ i r. r ≡ namedBy (i .0) (i .1))
+named-by-determined = by-equation (ℕ × ℕ) Named (λ i. namedBy (i .0) (i .1))
+
 pub index-at-determined : Determined (ℕ × ℕ) Indexed (λ i r. r ≡ indexAt (i .0) (i .1))
 index-at-determined = by-equation (ℕ × ℕ) Indexed (λ i. indexAt (i .0) (i .1))
 
-pub informed-by-determined : Determined (Kind × (ℕ × (ℕ × (ℕ × ℕ)))) Informed (λ i r. r ≡ informedOf (i .0) (i .1 .0) (i .1 .1 .0) (i .1 .1 .1 .0) (i .1 .1 .1 .1))
-informed-by-determined = by-equation (Kind × (ℕ × (ℕ × (ℕ × ℕ)))) Informed (λ i. informedOf (i .0) (i .1 .0) (i .1 .1 .0) (i .1 .1 .1 .0) (i .1 .1 .1 .1))
+abbrev informedBy : Kind × (ℕ × (ℕ × (ℕ × ℕ))) → Informed
+informedBy i = informedOf (i .0) (i .1 .0) (i .1 .1 .0) (i .1 .1 .1 .0) (i .1 .1 .1 .1)
+
+pub informed-by-determined : Determined (Kind × (ℕ × (ℕ × (ℕ × ℕ)))) Informed (λ i r. r ≡ informedBy i)
+informed-by-determined = by-equation (Kind × (ℕ × (ℕ × (ℕ × ℕ)))) Informed informedBy
+
+pub sign-byte-determined : Determined ℕ ℕ (λ m r. r ≡ signByte m)
+sign-byte-determined = by-equation ℕ ℕ signByte
 
 pub sign-at-determined : Determined (Kind × ℕ) Signed (λ i r. r ≡ signAt (i .0) (i .1))
 sign-at-determined = by-equation (Kind × ℕ) Signed (λ i. signAt (i .0) (i .1))
@@ -40,8 +50,11 @@ length-of-determined = by-equation (ℕ × Whole) Count (λ i. lengthOf (i .0) (
 pub constant-of-determined : Determined (ℕ × Whole) Count (λ i r. r ≡ constantOf (i .0) (i .1))
 constant-of-determined = by-equation (ℕ × Whole) Count (λ i. constantOf (i .0) (i .1))
 
-pub value-at-determined : Determined (Kind × (ℕ × (ℕ × (ℕ × Figures)))) Valued (λ i r. r ≡ valueAt (i .0) (i .1 .0) (i .1 .1 .0) (i .1 .1 .1 .0) (i .1 .1 .1 .1))
-value-at-determined = by-equation (Kind × (ℕ × (ℕ × (ℕ × Figures)))) Valued (λ i. valueAt (i .0) (i .1 .0) (i .1 .1 .0) (i .1 .1 .1 .0) (i .1 .1 .1 .1))
+abbrev valuedBy : Kind × (ℕ × (ℕ × (ℕ × Figures))) → Valued
+valuedBy i = valueAt (i .0) (i .1 .0) (i .1 .1 .0) (i .1 .1 .1 .0) (i .1 .1 .1 .1)
+
+pub value-at-determined : Determined (Kind × (ℕ × (ℕ × (ℕ × Figures)))) Valued (λ i r. r ≡ valuedBy i)
+value-at-determined = by-equation (Kind × (ℕ × (ℕ × (ℕ × Figures)))) Valued valuedBy
 
 pub first-of-determined : Determined Count Whole (λ c r. r ≡ firstOf c)
 first-of-determined = by-equation Count Whole firstOf

@@ -1,7 +1,7 @@
 -- Positions 1-2 and 7: an index and its two digits, and a sign and its byte, say each other.
 use Prim.Native.Nat.{ℕ, _+_, _/_, _%_, _<_, _≤_}
 use mathlib.Core.Path.{_≡_, refl, sym, ap, _∙_}
-use mathlib.Core.Bool.{true, false, not, false≢true}
+use mathlib.Core.Bool.{true, false, not, _&&_, false≢true}
 use mathlib.Core.List.{List, [], _∷_}
 use native.Mathlib.Omega.{arith}
 use borrow.Author.Tests.{eqb-true, eqb-false, leb-true, leb-false}
@@ -9,13 +9,28 @@ use lib.Dec.{eqb, leb}
 use Rattle.figures.specs.Bytes.{among, every}
 use Rattle.figures.specs.Decimal.{isDigit, digitsOf}
 use Rattle.figures.proofs.Bytes.{within-bounds, bounds-within, above-within}
-use Rattle.units.specs.Kinds.{kindOf, isListed, isTextual, indexOf}
+use Rattle.units.specs.Kinds.{kindOf, isListed, isTextual, indexOf, namedBy}
 use Rattle.units.specs.Information.{infoRight, signByte, signOf, isSign, signRight}
 use Rattle.units.specs.declared.kinds.Kind.{Kind}
 use Rattle.units.specs.declared.kinds.Kind.the-variants.{Missing, Numbered, Text, Angle, Length, Constant, Pair}
+use Rattle.units.specs.declared.kinds.Named.{Named}
+use Rattle.units.specs.declared.kinds.Named.the-variants as named
 use Rattle.figures.proofs.Tests.{both, by-test, among-above}
 
 -- the index
+
+-- what an answer of `named_by` says of the two characters
+pub named-not : (tens ones : ℕ) {r : Named} → r ≡ namedBy tens ones → r ≡ named.Not → isDigit tens && isDigit ones ≡ false
+named-not tens ones e f =
+    by-test (isDigit tens && isDigit ones)
+    (λ q. let told = rw q at (sym e ∙ f) in let z : _≡_ {A = ℕ} 0 1 = cc in absurd (omega arith)) (λ q. q)
+
+pub named-is : (tens ones : ℕ) {r : Named} {i : ℕ} → r ≡ namedBy tens ones → r ≡ named.Index i
+    → (isDigit tens ≡ true) × (isDigit ones ≡ true) × (i ≡ indexOf tens ones)
+named-is tens ones e f =
+    by-test (isDigit tens && isDigit ones)
+    (λ q. let told = rw q at (sym e ∙ f) in let digits = both (isDigit tens) (isDigit ones) q in (digits .0, digits .1, cc))
+    (λ q. let told = rw q at (sym e ∙ f) in let z : _≡_ {A = ℕ} 0 1 = cc in absurd (omega arith))
 
 -- no index of the table is above 88
 pub none-above : (n : ℕ) → 88 < n → kindOf n ≡ Missing

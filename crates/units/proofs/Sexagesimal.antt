@@ -34,7 +34,12 @@ same-parts a b n hm hs =
     let y : ℕ = x * b + s in
     let ten : (y * 10 + n % 10) / 10 ≡ y = front 10 y (n % 10) (omega arith) in
     let up : (y * 10 + n % 10) / 10 / b ≡ x = rw ten (front b x s hs) in
-    record { high = rw up (front b (n / 10 / a / a) m hm); middle = rw up (last b (n / 10 / a / a) m hm); low = rw ten (last b x s hs); least = last 10 y (n % 10) (omega arith) }
+    record {
+      high = rw up (front b (n / 10 / a / a) m hm);
+      middle = rw up (last b (n / 10 / a / a) m hm);
+      low = rw ten (last b x s hs);
+      least = last 10 y (n % 10) (omega arith);
+    }
 
 there-and-back : (a b n : ℕ) → n / 10 / a % a < b → n / 10 % a < b → rebased b a (rebased a b n) ≡ n
 there-and-back a b n hm hs =
@@ -42,13 +47,17 @@ there-and-back a b n hm hs =
     rw (p .high, p .middle, p .low, p .least, div-add-mod' (n / 10 / a) a, div-add-mod' (n / 10) a, div-add-mod' n 10)
 
 tenths-rebased : (n : ℕ) → tenthsOf n ≡ rebased 100 60 n
-tenths-rebased n = rw (div-div-eq-div-mul (n / 10) 100 100, div-div-eq-div-mul n 10 10000, div-div-eq-div-mul n 10 100) (linear (n / 100000) (n / 1000 % 100) (n / 10 % 100) (n % 10))
+tenths-rebased n =
+    rw (div-div-eq-div-mul (n / 10) 100 100, div-div-eq-div-mul n 10 10000, div-div-eq-div-mul n 10 100)
+    (linear (n / 100000) (n / 1000 % 100) (n / 10 % 100) (n % 10))
   where
     linear : (d m s t : ℕ) → d * 36000 + m * 600 + s * 10 + t ≡ ((d * 60 + m) * 60 + s) * 10 + t
     linear d m s t = omega arith
 
 sexagesimal-rebased : (v : ℕ) → sexagesimal v ≡ rebased 60 100 v
-sexagesimal-rebased v = rw (div-div-eq-div-mul (v / 10) 60 60, div-div-eq-div-mul v 10 3600, div-div-eq-div-mul v 10 60) (linear (v / 36000) (v / 600 % 60) (v / 10 % 60) (v % 10))
+sexagesimal-rebased v =
+    rw (div-div-eq-div-mul (v / 10) 60 60, div-div-eq-div-mul v 10 3600, div-div-eq-div-mul v 10 60)
+    (linear (v / 36000) (v / 600 % 60) (v / 10 % 60) (v % 10))
   where
     linear : (d m s t : ℕ) → d * 100000 + m * 1000 + s * 10 + t ≡ ((d * 100 + m) * 100 + s) * 10 + t
     linear d m s t = omega arith
@@ -61,8 +70,11 @@ sexagesimal-back n h = sexagesimal-rebased (tenthsOf n) ∙ rw (tenths-rebased n
 
 pub in-range : (v : ℕ) → v < 12960000 → InRange (sexagesimal v)
 in-range v h =
-    let p = same-parts 60 100 v (omega arith) (omega arith) in
-    (omega arith, rw (← div-div-eq-div-mul (sexagesimal v) 10 100, sexagesimal-rebased v, p .middle) (mod-lt (v / 10 / 60) (omega arith)), rw (sexagesimal-rebased v, p .low) (mod-lt (v / 10) (omega arith)))
+    let p = same-parts 60 100 v (omega arith) (omega arith) in (
+      omega arith,
+      rw (← div-div-eq-div-mul (sexagesimal v) 10 100, sexagesimal-rebased v, p .middle) (mod-lt (v / 10 / 60) (omega arith)),
+      rw (sexagesimal-rebased v, p .low) (mod-lt (v / 10) (omega arith)),
+    )
 
 pub sexagesimal-below : (v : ℕ) → v < 12960000 → sexagesimal v < 36000000
 sexagesimal-below v h = omega arith

@@ -15,7 +15,7 @@ use Rattle.units.specs.declared.counts.Valued.the-variants.{Not, Counted
 abbrev pub whole : ℕ → ℕ → Whole
 whole m n = record { minus = m; size = n }
 
--- "A minus before zero is refused."
+-- "A minus before zero is refused"
 abbrev pub minusZero : ℕ → ℕ → Bool
 minusZero m n = eqb m 1 && eqb n 0
 

@@ -1,8 +1,8 @@
 -- Positions 3-6, the table's third column, and position 7.
 use Prim.Native.Nat.{ℕ}
 use mathlib.Core.Bool.{Bool, false, cond, not, _&&_, _||_}
-use mathlib.Core.List.{[], _∷_}
 use lib.Dec.{eqb}
+use Rattle.figures.specs.Text.{codes}
 use Rattle.figures.specs.Bytes.{within, among}
 use Rattle.figures.specs.Decimal.{isDigit}
 use Rattle.units.specs.Kinds.{isTextual}
@@ -17,8 +17,8 @@ abbrev pub isDot : ℕ → Bool
 isDot b = eqb b 46
 
 -- dot or digit
-abbrev pub isFree : ℕ → Bool
-isFree b = isDot b || isDigit b
+abbrev pub isDotOrDigit : ℕ → Bool
+isDotOrDigit b = isDot b || isDigit b
 
 -- "Mode is a dot or 0-4."
 abbrev pub isMode : ℕ → Bool
@@ -26,7 +26,7 @@ isMode b = isDot b || within 48 52 b
 
 -- position 4 of an angle: dot, 0, 1 or 3
 abbrev pub isAngleMark : ℕ → Bool
-isAngleMark b = among b (46 ∷ 48 ∷ 49 ∷ 51 ∷ [])
+isAngleMark b = among b (codes ".013")
 
 -- unit 2-5
 abbrev pub isAngleUnit : ℕ → Bool
@@ -34,7 +34,7 @@ isAngleUnit = within 50 53
 
 -- unit 0, 1, 6, 7 or 8
 abbrev pub isLengthUnit : ℕ → Bool
-isLengthUnit b = among b (48 ∷ 49 ∷ 54 ∷ 55 ∷ 56 ∷ [])
+isLengthUnit b = among b (codes "01678")
 
 abbrev pub four : (ℕ → Bool) → (ℕ → Bool) → (ℕ → Bool) → (ℕ → Bool) → ℕ → ℕ → ℕ → ℕ → Bool
 four p q r s a b c d = p a && (q b && (r c && s d))
@@ -43,7 +43,7 @@ four p q r s a b c d = p a && (q b && (r c && s d))
 abbrev pub infoRight : Kind → ℕ → ℕ → ℕ → ℕ → Bool
 infoRight Missing a b c d = false
 infoRight Numbered a b c d = four isDigit isDigit isDigit isDigit a b c d || four isDot isDot isDot isDot a b c d
-infoRight Text a b c d = four isDot isFree isFree isFree a b c d
+infoRight Text a b c d = four isDot isDotOrDigit isDotOrDigit isDotOrDigit a b c d
 infoRight Angle a b c d = four isDot isAngleMark isMode isAngleUnit a b c d
 infoRight Length a b c d = four isDot isDot isMode isLengthUnit a b c d
 infoRight Constant a b c d = four isDot isDot isMode (λ u. eqb u 54) a b c d

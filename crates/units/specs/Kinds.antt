@@ -6,6 +6,8 @@ use Rattle.figures.specs.Bytes.{within, among}
 use Rattle.figures.specs.Decimal.{isDigit}
 use Rattle.units.specs.declared.kinds.Kind.{Kind}
 use Rattle.units.specs.declared.kinds.Kind.the-variants.{Missing, Numbered, Text, Angle, Length, Constant, Pair}
+use Rattle.units.specs.declared.kinds.Named.{Named}
+use Rattle.units.specs.declared.kinds.Named.the-variants as named
 use Rattle.units.specs.declared.kinds.Indexed.{Indexed}
 use Rattle.units.specs.declared.kinds.Indexed.the-variants.{Not, Listed}
 
@@ -40,6 +42,9 @@ isTextual Pair = false
 -- the index that two digits say
 abbrev pub indexOf : ℕ → ℕ → ℕ
 indexOf tens ones = (tens - 48) * 10 + (ones - 48)
+
+abbrev pub namedBy : ℕ → ℕ → Named
+namedBy tens ones = cond (isDigit tens && isDigit ones) (named.Index (indexOf tens ones)) named.Not
 
 -- two digits, and an index of the table
 abbrev pub indexRight : ℕ → ℕ → Bool

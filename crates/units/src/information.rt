@@ -1,7 +1,7 @@
 // Positions 3-7 of a word: the information and the sign.
 ghost use mathlib.Core.Path.{_≡_};
 ghost use mathlib.Core.Bool.{cond, _&&_, _||_};
-ghost use Rattle.units.specs.Information.{isDot, isMode, isFree, isAngleMark, isAngleUnit, isLengthUnit, informedOf, signAt};
+ghost use Rattle.units.specs.Information.{isDot, isMode, isDotOrDigit, isAngleMark, isAngleUnit, isLengthUnit, informedOf, signByte, signAt};
 use crate::kinds::Kind;
 use crate::kinds::textual;
 
@@ -24,7 +24,7 @@ fn dot(b: u8) -> bool
 
 // A dot or a digit.
 fn free(b: u8) -> bool
-    ensures { λ r. ⌜ r ≡ isFree b ⌝ }
+    ensures { λ r. ⌜ r ≡ isDotOrDigit b ⌝ }
 {
     if b == b'.' {
         return true;
@@ -117,6 +117,13 @@ pub fn informed_by(kind: Kind, a: u8, b: u8, c: u8, d: u8) -> Informed
         Kind::Constant => answer(all(dot(a), dot(b), mode(c), d == b'6')),
         Kind::Pair => answer(all(dot(a), dot(b), mode(c), dot(d))),
     }
+}
+
+// The byte of a sign.
+pub fn sign_byte(minus: u8) -> u8
+    ensures { λ r. ⌜ r ≡ signByte minus ⌝ }
+{
+    if minus == 0 { b'+' } else { b'-' }
 }
 
 // Position 7 of a word of that kind: text has a plus only.

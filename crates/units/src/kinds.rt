@@ -1,6 +1,7 @@
 // The kind of a word, by its index.
 ghost use mathlib.Core.Path.{_≡_};
-ghost use Rattle.units.specs.Kinds.{kindOf, indexAt, isTextual};
+ghost use Rattle.units.specs.Kinds.{kindOf, namedBy, indexAt, isTextual};
+use figures::casts::figure;
 
 pub enum Kind {
     Missing,
@@ -10,6 +11,12 @@ pub enum Kind {
     Length,
     Constant,
     Pair,
+}
+
+// The index that two digits say.
+pub enum Named {
+    Not,
+    Index(u16),
 }
 
 // What positions 1-2 say: an index of the table with its kind, or none.
@@ -46,23 +53,26 @@ pub fn textual(kind: Kind) -> bool
     }
 }
 
-fn figure(b: u8) -> u16
-    ensures { λ r. ⌜ r ≡ b ⌝ }
+// The index that two characters name.
+pub fn named_by(tens: u8, ones: u8) -> Named
+    ensures { λ r. ⌜ r ≡ namedBy tens ones ⌝ }
 {
-    b as u16
+    if !figures::digit(tens) {
+        return Named::Not;
+    }
+    if !figures::digit(ones) {
+        return Named::Not;
+    }
+    Named::Index(figure(tens - b'0') * 10 + figure(ones - b'0'))
 }
 
 // Positions 1-2.
 pub fn index_at(tens: u8, ones: u8) -> Indexed
     ensures { λ r. ⌜ r ≡ indexAt tens ones ⌝ }
 {
-    if !figures::digit(tens) {
+    let Named::Index(index) = named_by(tens, ones) else {
         return Indexed::Not;
-    }
-    if !figures::digit(ones) {
-        return Indexed::Not;
-    }
-    let index = figure(tens - b'0') * 10 + figure(ones - b'0');
+    };
     let kind = kind_of(index);
     if let Kind::Missing = kind {
         return Indexed::Not;

@@ -13,7 +13,7 @@ use Rattle.figures.proofs.Bytes.{within-bounds, laid-fits}
 use Rattle.figures.proofs.Decimal.{digits-length, digits-are, number-digits, digits-number, number-below}
 use Rattle.units.specs.Information.{signByte, isSign}
 use Rattle.words.specs.Records.{width, isGraphic, isZero, textRight}
-use Rattle.words.specs.Reading.{ppmIn, underIn, mmIn, dataRight, figuresIn, textOf}
+use Rattle.words.specs.Reading.{ppmIn, underIn, mmIn, dataRight, figuresIn, textField}
 use Rattle.words.specs.Writing.{dataOf}
 use Rattle.units.specs.declared.kinds.Kind.{Kind}
 use Rattle.units.specs.declared.kinds.Kind.the-variants as kind
@@ -120,7 +120,7 @@ fit-read kind.Pair d h e =
     let p = halves-in d h in
     of-pair (rw (p .front) at (number-below (ppmIn d) (parts .0))) (sign-small (underIn d)) (rw (p .back) at (number-below (mmIn d) (two .1)))
 
-pub data-back : (k : Kind) (d : List ℕ) → 4 ≤ length d → length d ≤ 16 → dataRight k d ≡ true → dataOf (length d) (figuresIn k d) (textOf k d) ≡ d
+pub data-back : (k : Kind) (d : List ℕ) → 4 ≤ length d → length d ≤ 16 → dataRight k d ≡ true → dataOf (length d) (figuresIn k d) (textField k d) ≡ d
 data-back kind.Missing d h l e = absurd (false≢true e)
 data-back kind.Numbered d h l e = text-start d l
 data-back kind.Text d h l e = text-start d l
@@ -139,7 +139,7 @@ data-back kind.Pair d h l e =
 abbrev pub Kept : Bool → Kind → List ℕ → Type 0
 Kept wide k t = (length t ≡ 16) × (textRight wide k t ≡ true)
 
-words-kept : (wide : Bool) (d : List ℕ) → length d ≡ width wide → every isGraphic d ≡ true → Kept wide kind.Text (textOf kind.Text d)
+words-kept : (wide : Bool) (d : List ℕ) → length d ≡ width wide → every isGraphic d ≡ true → Kept wide kind.Text (textField kind.Text d)
 words-kept wide d l e =
     let h : length d ≤ 16 = omega (arith, width-bounds wide .1) in
     (text-long d h, rw (← l, text-start d h, e) (text-rest d h))
@@ -148,7 +148,7 @@ none-kept : (wide : Bool) → Kept wide kind.Angle (replicate 16 0)
 unfolding every
 none-kept wide = (refl, refl)
 
-pub text-read : (wide : Bool) (k : Kind) (d : List ℕ) → length d ≡ width wide → dataRight k d ≡ true → Kept wide k (textOf k d)
+pub text-read : (wide : Bool) (k : Kind) (d : List ℕ) → length d ≡ width wide → dataRight k d ≡ true → Kept wide k (textField k d)
 text-read wide kind.Missing d l e = none-kept wide
 text-read wide kind.Numbered d l e = words-kept wide d l e
 text-read wide kind.Text d l e = words-kept wide d l e
@@ -161,7 +161,7 @@ text-read wide kind.Pair d l e = none-kept wide
 
 -- d are right data of the width, which say f and keep t
 abbrev pub Spelling : Bool → Kind → Figures → List ℕ → List ℕ → Type 0
-Spelling wide k f t d = (length d ≡ width wide) × (dataRight k d ≡ true) × (figuresIn k d ≡ f) × (textOf k d ≡ t)
+Spelling wide k f t d = (length d ≡ width wide) × (dataRight k d ≡ true) × (figuresIn k d ≡ f) × (textField k d ≡ t)
 
 words-spelt : (wide : Bool) (t : List ℕ) → Kept wide kind.Text t → Spelling wide kind.Text figures.Text t (take (width wide) t)
 words-spelt wide t (l, e) =
@@ -172,8 +172,11 @@ words-spelt wide t (l, e) =
 none-spelt : (wide : Bool) (t : List ℕ) → Kept wide kind.Angle t → replicate 16 0 ≡ t
 none-spelt wide t (l, e) = sym (zeros t e ∙ rw l)
 
-number-spelt : (wide : Bool) (v : ℕ) (t : List ℕ) → v < 10 ^ width wide → Kept wide kind.Angle t → Spelling wide kind.Angle (figures.Number v) t (digitsOf (width wide) v)
-number-spelt wide v t h kept = (digits-length (width wide) v, digits-are (width wide) v, ap figures.Number (number-digits (width wide) v h), none-spelt wide t kept)
+number-spelt : (wide : Bool) (v : ℕ) (t : List ℕ) → v < 10 ^ width wide → Kept wide kind.Angle t
+    → Spelling wide kind.Angle (figures.Number v) t (digitsOf (width wide) v)
+number-spelt wide v t h kept =
+    let n = width wide in
+    (digits-length n v, digits-are n v, ap figures.Number (number-digits n v h), none-spelt wide t kept)
 
 pub spelt : (wide : Bool) {k : Kind} {f : Figures} (t : List ℕ) → Fit (width wide) k f → Kept wide k t → Spelling wide k f t (dataOf (width wide) f t)
 spelt wide t of-numbered kept = words-spelt wide t kept

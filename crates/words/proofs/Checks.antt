@@ -1,10 +1,10 @@
 -- What a check says of the rule that it tests: from its answer, and from the test of that answer.
 use Prim.Native.Nat.{ℕ, _+_, _-_, _≤_, _<_}
 use mathlib.Core.Path.{_≡_, refl, sym, _∙_}
-use mathlib.Core.Bool.{Bool, true, false, cond, not, _&&_, and-true, and-assoc}
+use mathlib.Core.Bool.{Bool, true, false, cond, _&&_, and-true, and-assoc}
 use mathlib.Core.List.{List}
 use native.Mathlib.Omega.{arith}
-use borrow.Author.Tests.{not-true, not-false, le-leb, lt-leb, leb-true, leb-false}
+use borrow.Author.Tests.{le-leb, lt-leb, leb-true, leb-false}
 use borrow.Rule.Slice.PartMut.{midOf}
 use lib.Dec.{leb}
 use lib.ListN.{length, take, drop, length-drop, drop-of-length-le}
@@ -16,7 +16,8 @@ use Rattle.figures.specs.declared.Said.the-variants as said
 use Rattle.units.specs.Kinds.{isTextual, kindOf, indexOf, indexRight, indexAt}
 use Rattle.units.specs.Information.{signRight, signOf, signAt}
 use Rattle.words.specs.Records.{width, textRight, isGraphic, isZero}
-use Rattle.words.specs.Reading.{wordSize, dataIn, dataRight, ppmIn, underIn, mmIn, figuresIn, pairAt, spelledAt}
+use Rattle.words.specs.Reading.{wordSize, dataIn, dataRight, ppmIn, underIn, mmIn, figuresIn}
+use Rattle.words.specs.Keeping.{pairAt, spelledAt}
 use Rattle.units.specs.declared.kinds.Kind.{Kind}
 use Rattle.units.specs.declared.kinds.Indexed.{Indexed}
 use Rattle.units.specs.declared.counts.Figures.{Figures}
@@ -30,13 +31,6 @@ use Rattle.words.specs.declared.reading.Spelled.the-variants as spelled
 use Rattle.words.specs.declared.reading.Parted.the-variants as parted
 use Rattle.units.specs.declared.information.Informed.the-variants as informed
 use Rattle.units.specs.declared.information.Signed.the-variants as signed
-
--- a check that answers by a Bool
-pub failed : {r b : Bool} → r ≡ b → not r ≡ true → b ≡ false
-failed {r} e t = sym e ∙ not-true r t
-
-pub passed : {r b : Bool} → r ≡ b → not r ≡ false → b ≡ true
-passed {r} e t = sym e ∙ not-false r t
 
 -- a check that answers by an enum: x where the rule b holds, and y where not
 refused : {A : Type 0} (b : Bool) (x y : A) {r : A} → (x ≡ y → ⊥) → r ≡ cond b x y → r ≡ y → b ≡ false

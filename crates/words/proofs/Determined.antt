@@ -7,7 +7,7 @@ use Rattle.figures.specs.Promises.{Determined}
 use Rattle.figures.proofs.Determined.{by-equation}
 use Rattle.words.specs.Records.{width, blank, isRight, typedOf}
 use Rattle.words.specs.Reading.{faultNumber, wordOf}
-use Rattle.words.specs.Writing.{spellingOf}
+use Rattle.words.specs.Keeping.{spellingOf}
 use Rattle.units.specs.declared.counts.Count.{Count}
 use Rattle.words.specs.declared.records.Word.{Word}
 use Rattle.words.specs.declared.reading.Fault.{Fault}

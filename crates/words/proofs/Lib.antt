@@ -4,5 +4,6 @@ pub mod Values
 pub mod Places
 pub mod RoundTrip
 pub mod Given
+pub mod Typed
 pub mod Writes
 pub mod Determined

@@ -1,5 +1,5 @@
 -- Where a word's positions stand in its bytes: the bytes of a word are its positions in order, and a word looks at no byte past its own.
-use Prim.Native.Nat.{ℕ, suc, _+_, _≤_}
+use Prim.Native.Nat.{ℕ, suc, _+_, _<_, _≤_}
 use mathlib.Core.Path.{_≡_, sym, ap, _∙_}
 use mathlib.Core.Bool.{Bool, _&&_}
 use mathlib.Core.List.{List, [], _∷_, _++_, append-assoc}
@@ -13,7 +13,7 @@ use Rattle.units.specs.Kinds.{kindOf, isListed, indexOf}
 use Rattle.units.specs.Information.{infoRight, signOf, signRight}
 use Rattle.units.specs.Counts.{valueAt}
 use Rattle.words.specs.Records.{width, recordOf}
-use Rattle.words.specs.Reading.{wordSize, pos, dataIn, dataRight, figuresIn, textOf, isCounted, countOr, rightWord, unless, wordOf}
+use Rattle.words.specs.Reading.{wordSize, pos, dataIn, dataRight, figuresIn, textField, isCounted, countOr, rightWord, unless, wordOf}
 use Rattle.units.specs.declared.counts.Count.{Count}
 use Rattle.units.specs.declared.counts.Valued.{Valued}
 use Rattle.words.specs.declared.records.Word.{Word}
@@ -63,7 +63,7 @@ abbrev pub valueBy : ℕ → Places → Valued
 valueBy i p = valueAt (kindOf i) i (p .unit) (signOf (p .sign)) (figuresIn (kindOf i) (p .letters))
 
 abbrev pub recordBy : ℕ → Places → Count → Word
-recordBy i p c = recordOf i (p .first ∷ p .second ∷ p .mode ∷ p .unit ∷ []) c (textOf (kindOf i) (p .letters))
+recordBy i p c = recordOf i (p .first ∷ p .second ∷ p .mode ∷ p .unit ∷ []) c (textField (kindOf i) (p .letters))
 
 abbrev pub wordAt : ℕ → Places → OneWord
 wordAt i p =
@@ -87,8 +87,9 @@ spread-places wide s h =
     let next : suc (7 + width wide) ≡ wordSize wide = omega arith in
     let tail : drop 7 s ≡ dataIn wide s ++ (getD s (7 + width wide) 0 ∷ drop (wordSize wide) s) =
     sym (take-append-drop (width wide) (drop 7 s)) ∙ rw (drop-drop (width wide) 7 s, drop-cons s (7 + width wide) 0 (omega arith), next) in
-    drop-cons s 0 0 (omega arith)
-    ∙ rw (drop-cons s 1 0 (omega arith), drop-cons s 2 0 (omega arith), drop-cons s 3 0 (omega arith), drop-cons s 4 0 (omega arith), drop-cons s 5 0 (omega arith), drop-cons s 6 0 (omega arith)) (cc)
+    let from : (i : ℕ) → i < 7 → drop i s ≡ getD s i 0 ∷ drop (suc i) s = λ i near. drop-cons s i 0 (omega arith) in
+    from 0 (omega arith)
+    ∙ rw (from 1 (omega arith), from 2 (omega arith), from 3 (omega arith), from 4 (omega arith), from 5 (omega arith), from 6 (omega arith)) (cc)
 
 pub spread-on : (p : Places) (more rest : List ℕ) → spread p more ++ rest ≡ spread p (more ++ rest)
 spread-on p more rest = rw (append-assoc (p .letters) (p .end ∷ more) rest)

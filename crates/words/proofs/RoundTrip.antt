@@ -13,7 +13,7 @@ use Rattle.units.specs.Kinds.{kindOf, isListed}
 use Rattle.units.specs.Information.{infoRight, signByte, signOf, signRight}
 use Rattle.units.specs.Counts.{whole, firstOf, secondOf, figuresOf}
 use Rattle.words.specs.Records.{width, kindIn, unitIn, countOf, countRight, textRight, sameWhole, isRight}
-use Rattle.words.specs.Reading.{wordSize, dataRight, isCounted, countOr, rightWord, unless, wordOf}
+use Rattle.words.specs.Reading.{wordSize, dataRight, valueIn, isCounted, countOr, rightWord, unless, wordOf}
 use Rattle.words.specs.Writing.{dataOf, bytesOf}
 use Rattle.units.specs.declared.counts.Whole.{Whole}
 use Rattle.units.specs.declared.counts.Count.{Count}
@@ -26,10 +26,12 @@ use Rattle.words.specs.declared.reading.Judged.the-variants.{Right, Wron
 use Rattle.words.specs.declared.reading.OneWord.{OneWord}
 use Rattle.words.proofs.Checks.{width-bounds, data-length}
 use Rattle.figures.proofs.Tests.{both}
-use Rattle.units.proofs.Positions.{index-back, index-digits, index-on, info-listed, tens-digit, ones-digit, tensOf, onesOf, sign-back, sign-of, sign-on, sign-right}
+use Rattle.units.proofs.Positions.{index-back, index-digits, index-on, info-listed, tens-digit, ones-digit, tensOf, onesOf}
+use Rattle.units.proofs.Positions.{sign-back, sign-of, sign-on, sign-right}
 use Rattle.words.proofs.Characters.{fit-read, data-back, text-read, spelt}
 use Rattle.words.proofs.Values.{value-told, value-on}
-use Rattle.words.proofs.Places.{Places, indexBy, spread, placesIn, rules, valueBy, recordBy, wordAt, wordBy, spread-places, word-spread, spread-on, size-spread, take-spread}
+use Rattle.words.proofs.Places.{Places, indexBy, spread, placesIn, rules, valueBy, recordBy, wordAt, wordBy}
+use Rattle.words.proofs.Places.{spread-places, word-spread, spread-on, size-spread, take-spread}
 
 -- a record that the writer takes, rule by rule
 record Taken (wide : Bool) (w : Word) (c : Count) : Type 0 where
@@ -144,7 +146,7 @@ bytes-spread wide w p i n s d e = rw (d, i, n, s, e)
 -- from the bytes
 
 places-read : (wide : Bool) (p : Places) (w : Word) → length (p .letters) ≡ width wide → wordBy p ≡ rightWord w
-    → (isRight wide w ≡ true) × (bytesOf wide w ≡ spread p [])
+    → (isRight wide w ≡ true) × (bytesOf wide w ≡ spread p []) × (valueBy (indexBy p) p ≡ Counted (countOf w))
 places-read wide p w l e =
     let i = indexBy p in
     let k = kindOf i in
@@ -159,10 +161,11 @@ places-read wide p w l e =
     let right : isRight wide r ≡ true =
     right-taken wide r c (told .3) (record { four = refl; sixteen = kept .0; info = j .info; count = told .0; first = refl; second = refl; text = kept .1 }) in
     let letters : dataOf (width wide) (figuresOf (countOf r)) (r .text) ≡ p .letters =
-    ap (λ (n : Count). dataOf (width wide) (figuresOf n) (r .text)) (told .3) ∙ rw (told .1, ← l) (data-back k (p .letters) (omega arith) (omega arith) (j .letters)) in
+    ap (λ (n : Count). dataOf (width wide) (figuresOf n) (r .text)) (told .3)
+    ∙ rw (told .1, ← l) (data-back k (p .letters) (omega arith) (omega arith) (j .letters)) in
     let bytes : bytesOf wide r ≡ spread p [] =
     bytes-spread wide r p (index-back (p .tens) (p .ones) (j .tens) (j .ones)) refl (ap signByte (told .2) ∙ sign-back (p .sign) (sign .0)) letters (j .end) in
-    (ap (isRight wide) (sym is) ∙ right, ap (bytesOf wide) (sym is) ∙ bytes)
+    (ap (isRight wide) (sym is) ∙ right, ap (bytesOf wide) (sym is) ∙ bytes, j .value ∙ ap Counted (sym (told .3) ∙ ap countOf is))
 
 pub read-write : (wide : Bool) (s : List ℕ) (w : Word) → wordOf wide s ≡ rightWord w → (isRight wide w ≡ true) × (bytesOf wide w ≡ take (wordSize wide) s)
 read-write wide s w e =
@@ -171,8 +174,14 @@ read-write wide s w e =
     let l = data-length wide s long in
     let is = spread-places wide s long in
     let rest = drop (wordSize wide) s in
-    let (right, bytes) = places-read wide p w l (through (leb (wordSize wide) (length s)) Short _ w e .1) in
+    let (right, bytes, _) = places-read wide p w l (through (leb (wordSize wide) (length s)) Short _ w e .1) in
     (right, bytes ∙ sym (ap (take (wordSize wide)) is ∙ take-spread wide p l rest))
+
+-- what the word counted, its record counts
+pub read-counts : (wide : Bool) (s : List ℕ) (w : Word) → wordOf wide s ≡ rightWord w → valueIn wide s ≡ Counted (countOf w)
+read-counts wide s w e =
+    let (long, by) = through (leb (wordSize wide) (length s)) Short _ w e in
+    places-read wide (placesIn wide s) w (data-length wide s (leb-true (wordSize wide) (length s) long)) by .2
 
 -- from the record
 

@@ -8,7 +8,8 @@ use native.Mathlib.Nat.{lt-of-lt-of-le, pow-le-pow-right}
 use native.Mathlib.Omega.{arith}
 use borrow.Author.Tests.{eqb-true, eq-eqb, leb-true, le-leb, ltb-true, lt-ltb, not-true}
 use lib.Dec.{eqb, leb, ltb}
-use Rattle.units.specs.Counts.{whole, minusZero, degrees, minutes, seconds, tenthsOf, sexagesimal, counted, gonAt, degreeAt, tenthAt, milAt, angleAt, angleOf, lengthOf, constantOf, valueAt, firstOf, figuresOf}
+use Rattle.units.specs.Counts.{whole, minusZero, degrees, minutes, seconds, tenthsOf, sexagesimal, counted, gonAt, degreeAt, tenthAt, milAt}
+use Rattle.units.specs.Counts.{angleAt, angleOf, lengthOf, constantOf, valueAt, firstOf, figuresOf}
 use Rattle.words.specs.Records.{width, recordOf, unitIn, countBy, wholeRight, countRight}
 use Rattle.words.specs.Reading.{isCounted, countOr}
 use Rattle.units.specs.declared.kinds.Kind.{Kind}
@@ -70,10 +71,17 @@ by-unit P gon degree tenth mil u = go (eqb u 50) (eqb u 51) (eqb u 52)
     go false false true = tenth
     go false false false = mil
 
-by-length : (P : (Whole → Count) → Type 0) → ((d : ℕ) → P (λ x. Metre (record { 0 = x; 1 = d }))) → ((d : ℕ) → P (λ x. Feet (record { 0 = x; 1 = d }))) → (u : ℕ) → P (lengthOf u)
+-- metres, and feet, of so many decimals
+abbrev inMetres : ℕ → Whole → Count
+inMetres d x = Metre (record { 0 = x; 1 = d })
+
+abbrev inFeet : ℕ → Whole → Count
+inFeet d x = Feet (record { 0 = x; 1 = d })
+
+by-length : (P : (Whole → Count) → Type 0) → ((d : ℕ) → P (inMetres d)) → ((d : ℕ) → P (inFeet d)) → (u : ℕ) → P (lengthOf u)
 by-length P metre feet u = go (eqb u 48) (eqb u 49) (eqb u 54) (eqb u 55)
   where
-    go : (x y z v : Bool) → P (λ w. cond x (Metre (record { 0 = w; 1 = 3 })) (cond y (Feet (record { 0 = w; 1 = 3 })) (cond z (Metre (record { 0 = w; 1 = 4 })) (cond v (Feet (record { 0 = w; 1 = 4 })) (Metre (record { 0 = w; 1 = 5 }))))))
+    go : (x y z v : Bool) → P (λ w. cond x (inMetres 3 w) (cond y (inFeet 3 w) (cond z (inMetres 4 w) (cond v (inFeet 4 w) (inMetres 5 w)))))
     go true y z v = metre 3
     go false true z v = feet 3
     go false false true v = metre 4
@@ -132,7 +140,8 @@ range-tests : (n : ℕ) → InRange n → ltb (degrees n) 360 && (ltb (minutes n
 range-tests n h = rw (lt-ltb (degrees n) 360 (h .0), lt-ltb (minutes n) 60 (h .1), lt-ltb (seconds n) 60 (h .2))
 
 module _ (wide : Bool) (m n : ℕ) (s : m ≤ 1) (z : minusZero m n ≡ false) where
-  plain-told : (limit : ℕ) (of : Whole → Count) → Plain wide limit of (whole m n) → n < limit → Told wide (λ c. of (firstOf c)) m (figures.Number n) (of (whole m n))
+  plain-told : (limit : ℕ) (of : Whole → Count) → Plain wide limit of (whole m n) → n < limit
+      → Told wide (λ c. of (firstOf c)) m (figures.Number n) (of (whole m n))
   plain-told limit of p h = (p .right ∙ whole-right m n limit s z h, p .says, ap (λ (x : Whole). x .minus) (p .first), ap of (p .first))
 
   limited-told : (limit : ℕ) (of : Whole → Count) → Plain wide limit of (whole m n) → isCounted (counted (ltb n limit) (of (whole m n))) ≡ true
@@ -195,7 +204,8 @@ record Number (wide : Bool) (at : ℕ → ℕ → Valued) (of : Whole → Count)
 eight-fit : (wide : Bool) (n : ℕ) → n < 10 ^ 8 → n < 10 ^ width wide
 eight-fit wide n h = lt-of-lt-of-le h (pow-le-pow-right {n = 10} (omega arith) {i = 8} {j = width wide} (width-bounds wide .0))
 
-plain-sound : (wide : Bool) (limit : ℕ) (of : Whole → Count) (x : Whole) → Plain wide limit of x → countRight wide (of x) ≡ true → Sound (x .minus) (x .size) limit
+plain-sound : (wide : Bool) (limit : ℕ) (of : Whole → Count) (x : Whole) → Plain wide limit of x → countRight wide (of x) ≡ true
+    → Sound (x .minus) (x .size) limit
 plain-sound wide limit of x p e = sound-of (x .minus) (x .size) limit (sym (p .right) ∙ e)
 
 plain-number : (wide : Bool) (of : Whole → Count) (x : Whole) → Plain wide (10 ^ width wide) of x → countRight wide (of x) ≡ true
@@ -243,7 +253,8 @@ angle-number wide x =
 abbrev pub Counting : Bool → Kind → Word → Count → Type 0
 Counting wide k w c = Fit (width wide) k (figuresOf c) × SignFor k (w .minus) × (valueAt k (w .index) (unitIn w) (w .minus) (figuresOf c) ≡ Counted c)
 
-pub value-on : (wide : Bool) (k : Kind) (w : Word) → countRight wide (countBy k w) ≡ true → firstOf (countBy k w) .minus ≡ w .minus → Counting wide k w (countBy k w)
+pub value-on : (wide : Bool) (k : Kind) (w : Word) → countRight wide (countBy k w) ≡ true → firstOf (countBy k w) .minus ≡ w .minus
+    → Counting wide k w (countBy k w)
 value-on wide kind.Missing w e q = absurd (false≢true e)
 value-on wide kind.Numbered w e q = (of-numbered, record { small = omega arith; plus = λ _. sym q }, refl)
 value-on wide kind.Text w e q = (of-text, record { small = omega arith; plus = λ _. sym q }, refl)

@@ -3,34 +3,28 @@ use Prim.Native.Nat.{ℕ, _+_, _-_, _^_, _≤_, _<_}
 use mathlib.Core.Path.{_≡_, refl, ap, _∙_}
 use mathlib.Core.Bool.{Bool, true, false, cond, not, _&&_, false≢true, and-eq-true-iff}
 use mathlib.Core.List.{List, [], _∷_, _++_, append-assoc, append-nil}
-use native.Mathlib.Numerals.{add-one}
 use native.Mathlib.Omega.{arith}
 use borrow.Author.Tests.{ltb-true, eqb-true}
 use borrow.Rule.Slice.PartMut.{putMid, midOf, same-len-mid}
 use lib.Dec.{eqb, leb, ltb}
 use lib.ListN.{length, getD, set, drop, replicate, length-append, length-set, drop-of-length-le}
-use lib.Seq.{take-all, drop-cons, set-at, append-snoc}
+use lib.Seq.{take-all, append-snoc}
 use Rattle.figures.specs.Decimal.{digitsOf}
 use Rattle.figures.specs.Bytes.{laid}
-use Rattle.figures.proofs.Bytes.{length-on, length-mid, laid-cut, fill-on}
+use Rattle.figures.proofs.Bytes.{length-on, length-mid, laid-cut, fill-on, store-on}
 use Rattle.figures.proofs.Decimal.{digits-on, digits-length}
 use Rattle.units.specs.Counts.{whole, minusZero, angleOf, lengthOf, constantOf, firstOf, secondOf, figuresOf}
 use Rattle.units.specs.Information.{infoRight, signByte}
 use Rattle.words.specs.Records.{width, kindIn, unitIn, countBy, countOf, tenTo, wholeRight, countRight, textRight, sameWhole, isRight}
 use Rattle.words.specs.Reading.{wordSize}
-use Rattle.words.specs.Writing.{dataOf, bytesIn}
+use Rattle.words.specs.Writing.{dataOf}
+use Rattle.words.specs.Keeping.{bytesIn}
 use Rattle.units.specs.declared.kinds.Kind.{Kind}
 use Rattle.units.specs.declared.counts.Whole.{Whole}
 use Rattle.units.specs.declared.counts.Count.{Count}
 use Rattle.words.specs.declared.records.Word.{Word}
 use Rattle.units.specs.declared.kinds.Kind.the-variants as kind
 use Rattle.units.specs.declared.counts.Count.the-variants as count
-
--- one byte after done
-pub byte-on : (done room₀ room : List ℕ) (a b : ℕ) → a ≡ length done → length done < length room₀ → room ≡ done ++ drop (length done) room₀
-    → set room a b ≡ (done ++ (b ∷ [])) ++ drop (length (done ++ (b ∷ []))) room₀
-byte-on done room₀ room a b ea h e =
-    rw (ea, e, drop-cons room₀ (length done) 0 h, set-at done _ _ b (length done) refl, length-append done (b ∷ []), add-one, append-snoc)
 
 -- a pair's room once its ppm stands in it, and then the sign
 abbrev pub signedIn : List ℕ → List ℕ → ℕ → List ℕ
@@ -51,7 +45,7 @@ three-parts out ppm mm at k j p sign q ek ej h ep eq =
     let all = done ++ digitsOf j q in
     let full : length out ≤ length all = omega (arith, length-append done (digitsOf j q), digits-length j q) in
     let first = digits-on [] out out ppm 0 k p refl (omega arith) refl ep in
-    let second = byte-on front out (putMid 0 k out ppm) at sign (omega arith) (omega arith) first in
+    let second = store-on front out (putMid 0 k out ppm) at sign (omega arith) (omega arith) first in
     let room = set (putMid 0 k out ppm) at sign in
     digits-on done out room mm (at + 1) j q (omega arith) (omega arith) second eq
     ∙ rw (drop-of-length-le out {i = length all} full, append-nil, append-snoc front sign (digitsOf j q), ek, ej)
@@ -98,7 +92,7 @@ head-on room index laidInfo info i sign h hi ei el =
     let is : laidInfo ≡ info = el ∙ laid-cut info (midOf 2 4 r₁) (omega arith) ∙ take-all (length (midOf 2 4 r₁)) info (omega arith) in
     let second = fill-on (digitsOf 2 i) room r₁ info 2 4 (omega arith) first hi in
     let six = length-append (digitsOf 2 i) info in
-    rw is (byte-on (digitsOf 2 i ++ info) room (putMid 2 4 r₁ info) 6 sign (omega arith) (omega arith) second)
+    rw is (store-on (digitsOf 2 i ++ info) room (putMid 2 4 r₁ info) 6 sign (omega arith) (omega arith) second)
 
 pub word-on : (room index laidInfo info figures : List ℕ) (i sign n : ℕ) → 8 + n ≤ length room → length info ≡ 4
     → index ≡ digitsOf (length (midOf 0 2 room)) i → laidInfo ≡ laid info (midOf 2 4 (putMid 0 2 room index)) → length figures ≡ n
@@ -112,7 +106,7 @@ word-on room index laidInfo info figures i sign n h hi ei el hf =
     let long = length-append head figures in
     let all = length-append (head ++ figures) (32 ∷ []) in
     let end : length ((head ++ figures) ++ (32 ∷ [])) ≡ n + 8 = omega arith in
-    byte-on (head ++ figures) room (putMid 7 (7 + n - 7) (headedIn room index laidInfo sign) figures) (7 + n) 32 (omega arith) (omega arith) fourth
+    store-on (head ++ figures) room (putMid 7 (7 + n - 7) (headedIn room index laidInfo sign) figures) (7 + n) 32 (omega arith) (omega arith) fourth
     ∙ rw end (simp append-assoc)
 
 -- the bytes that are not a word's are left 0

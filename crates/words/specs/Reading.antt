@@ -23,10 +23,6 @@ use Rattle.words.specs.declared.reading.Fault.{Fault}
 use Rattle.words.specs.declared.reading.Fault.the-variants.{Short, Index, Information, Sign, Characters, Separator, Value}
 use Rattle.words.specs.declared.reading.Judged.the-variants.{Right, Wrong}
 use Rattle.words.specs.declared.reading.OneWord.{OneWord}
-use Rattle.words.specs.declared.reading.Spelled.{Spelled}
-use Rattle.words.specs.declared.reading.Spelled.the-variants as spelled
-use Rattle.words.specs.declared.reading.Parted.{Parted}
-use Rattle.words.specs.declared.reading.Parted.the-variants as parted
 
 -- "Refusing a block or a list": the numbers that one word's bytes can bring
 abbrev pub faultNumber : Fault → ℕ
@@ -90,8 +86,8 @@ figuresIn kind.Constant d = figures.Number (numberOf d)
 figuresIn kind.Pair d = figures.Pair (numberOf (ppmIn d)) (signOf (underIn d)) (numberOf (mmIn d))
 
 -- the text of a word that has text, from the start of 16 bytes
-abbrev pub textOf : Kind → List ℕ → List ℕ
-textOf k d = cond (isTextual k) (laid d (replicate 16 0)) (replicate 16 0)
+abbrev pub textField : Kind → List ℕ → List ℕ
+textField k d = cond (isTextual k) (laid d (replicate 16 0)) (replicate 16 0)
 
 -- the count of a word whose positions 1-7 and data are right, or that it is refused by 10
 abbrev pub valueIn : Bool → List ℕ → Valued
@@ -106,7 +102,7 @@ countOr valued.Not = count.Nothing
 countOr (valued.Counted c) = c
 
 abbrev pub recordIn : Bool → List ℕ → Word
-recordIn wide s = recordOf (indexIn s) (infoIn s) (countOr (valueIn wide s)) (textOf (kindAt s) (dataIn wide s))
+recordIn wide s = recordOf (indexIn s) (infoIn s) (countOr (valueIn wide s)) (textField (kindAt s) (dataIn wide s))
 
 abbrev pub faulty : Fault → OneWord
 faulty f = record { answer = Wrong f; word = blank }
@@ -129,23 +125,3 @@ wordOf wide s =
     (unless (eqb (getD s (7 + width wide) 0) 32) Separator
     (unless (isCounted (valueIn wide s)) Value
     (rightWord (recordIn wide s))))))))
-
--- the answers of the checks on data and separator
-abbrev pub digitsAt : List ℕ → Spelled
-digitsAt d = cond (leb (length d) 16 && every isDigit d) (spelled.Says (figures.Number (numberOf d))) spelled.Not
-
-abbrev pub pairAt : List ℕ → Spelled
-pairAt d =
-    cond (leb 4 (length d) && leb (length d) 20 && dataRight kind.Pair d) (spelled.Says (figuresIn kind.Pair d)) spelled.Not
-
-abbrev pub spelledAt : Kind → List ℕ → Spelled
-spelledAt kind.Missing d = spelled.Not
-spelledAt kind.Numbered d = cond (every isGraphic d) (spelled.Says figures.Text) spelled.Not
-spelledAt kind.Text d = cond (every isGraphic d) (spelled.Says figures.Text) spelled.Not
-spelledAt kind.Angle d = digitsAt d
-spelledAt kind.Length d = digitsAt d
-spelledAt kind.Constant d = digitsAt d
-spelledAt kind.Pair d = pairAt d
-
-abbrev pub partedAt : ℕ → Parted
-partedAt b = cond (eqb b 32) parted.Blank parted.Not

@@ -23,7 +23,15 @@ abbrev pub blank : Word
 blank = record { index = 0; info = replicate 4 0; minus = 0; mmminus = 0; size = 0; mm = 0; text = replicate 16 0 }
 
 abbrev pub recordOf : ℕ → List ℕ → Count → List ℕ → Word
-recordOf i info c t = record { index = i; info = info; minus = firstOf c .minus; mmminus = secondOf c .minus; size = firstOf c .size; mm = secondOf c .size; text = t }
+recordOf i info c t = record {
+  index = i;
+  info = info;
+  minus = firstOf c .minus;
+  mmminus = secondOf c .minus;
+  size = firstOf c .size;
+  mm = secondOf c .size;
+  text = t;
+}
 
 abbrev pub kindIn : Word → Kind
 kindIn w = kindOf (w .index)

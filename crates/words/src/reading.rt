@@ -2,7 +2,8 @@
 // refuses the word.
 ghost use mathlib.Core.Path.{_≡_};
 ghost use Rattle.words.specs.Records.{width};
-ghost use Rattle.words.specs.Reading.{faultNumber, faulty, digitsAt, pairAt, spelledAt, partedAt, textOf, wordOf};
+ghost use Rattle.words.specs.Reading.{faultNumber, faulty, textField, wordOf};
+ghost use Rattle.words.specs.Keeping.{digitsAt, pairAt, spelledAt, partedAt};
 use crate::records::Word;
 use crate::records::blank_word;
 use crate::records::record_of;
@@ -148,7 +149,7 @@ fn parted_at(b: u8) -> Parted
 
 // The text of a word of that kind, from the start of 16 bytes.
 fn text_of(kind: Kind, s: &[u8]) -> [u8; 16]
-    ensures { λ r. ⌜ r ≡ textOf kind (now (s .entry)) ⌝ }
+    ensures { λ r. ⌜ r ≡ textField kind (now (s .entry)) ⌝ }
 {
     let mut text = [0; 16];
     if textual(kind) {

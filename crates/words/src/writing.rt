@@ -1,18 +1,19 @@
 // The bytes of a record, by value.
 ghost use mathlib.Core.Path.{_≡_};
 ghost use Prim.Native.Nat.{_<_, _≤_, _^_};
-ghost use mathlib.Core.Logic.{_⊎_};
 ghost use lib.ListN.{length};
 ghost use Rattle.units.specs.Counts.{firstOf, figuresOf};
-ghost use Rattle.units.specs.Information.{signByte};
-ghost use Rattle.words.specs.Writing.{dataOf, spellingOf, bytesIn};
+ghost use Rattle.words.specs.Writing.{dataOf};
+ghost use Rattle.words.specs.Keeping.{spellingOf, bytesIn};
 use crate::reading::width_of;
 use crate::records::Word;
 use crate::records::count_of;
 use crate::records::right;
+use figures::casts::wide_index;
 use units::counts::Count;
 use units::counts::Figures;
 use units::counts::first_of;
+use units::information::sign_byte;
 
 // Whether a word of the width gives the record.
 pub enum Spelt {
@@ -24,12 +25,6 @@ pub enum Spelt {
 pub struct Spelling {
     pub answer: Spelt,
     pub bytes: [u8; 24],
-}
-
-fn sign_byte(minus: u8) -> u8
-    ensures { λ r. ⌜ r ≡ signByte minus ⌝ }
-{
-    if minus == 0 { b'+' } else { b'-' }
 }
 
 // Fills a word's data: as many characters as there are bytes.
@@ -73,12 +68,6 @@ fn figures_of(count: Count) -> Figures
             Figures::Number(w.size)
         }
     }
-}
-
-fn wide_index(index: u16) -> u64
-    ensures { λ r. ⌜ r ≡ index ⌝ }
-{
-    index as u64
 }
 
 // The bytes of a record that some word of the width gives.

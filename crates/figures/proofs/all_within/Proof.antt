@@ -30,7 +30,8 @@ returns-2 : tie.Need-returns-2 Inv-loop μ-loop
 returns-2 c =
     let at = c .before .before .before .before .loop in
     let a = c .before .before .before .before .before .args in
-    sym (at .inv .1 ∙ every-not (within (a .low) (a .high)) (a .s .now) (at .i) (omega arith) (above-within (a .low) (a .high) _ (c .before .if1 .left) (c .if2 .taken)))
+    let above = above-within (a .low) (a .high) _ (c .before .if1 .left) (c .if2 .taken) in
+    sym (at .inv .1 ∙ every-not (within (a .low) (a .high)) (a .s .now) (at .i) (omega arith) above)
 
 add-i : tie.Need-add-i Inv-loop μ-loop
 add-i c = omega arith
@@ -42,7 +43,8 @@ loop-again : tie.Need-loop-again Inv-loop μ-loop
 loop-again c =
     let at = c .before .before .before .before .loop in
     let a = c .before .before .before .before .before .args in
-    (omega arith, at .inv .1 ∙ every-more (within (a .low) (a .high)) (a .s .now) (at .i) (omega arith) (bounds-within (a .low) (a .high) _ (c .before .if1 .left) (c .if2 .left)))
+    let is = bounds-within (a .low) (a .high) _ (c .before .if1 .left) (c .if2 .left) in
+    (omega arith, at .inv .1 ∙ every-more (within (a .low) (a .high)) (a .s .now) (at .i) (omega arith) is)
 
 returns-3 : tie.Need-returns-3 Inv-loop μ-loop
 returns-3 c =

@@ -1,4 +1,5 @@
--- `gsi_read` meets its contract, by a walk of its MIR with two calls and no branch. `read` is called with the bytes and the list, which goes to it for good, and `told_read` packs its answer.
+-- `gsi_read` meets its contract, by a walk of its MIR with two calls and no branch. `read` is called with the bytes and the list, which goes to
+-- it for good, and `told_read` packs its answer.
 -- Of the two only their contracts are used.
 use mathlib.Core.Path.{_≡_, refl, _∙_, ap}
 use Prim.Native.Nat.{ℕ}
@@ -15,8 +16,10 @@ use prog.Wp.{Heap, Calls, Loops, WpFn, Tables}
 use ghost.Atoms.{Atoms, sem}
 use contract.Monad.{Fun, fact}
 use contract.Running.{givenOf, tables, tablesOf}
-use types.Kit.{Given, Item, ‵, raw, _⊛_, ⋆, some, later, _$_, _∵_, !, qed, by, move, keep, drop, use1, use2, split, join, pick, fsplit, fjoin, feqL, suffices, frame, await, done}
-use types.Run.{look, init, forget, stop, hop, fld, from, load, addr, and-then, no-more, assigns, land, returns, enter, alloc1, alloc0, params1, pass1, pass0, free1, free0}
+use types.Kit.{Given, Item, ‵, raw, _⊛_, ⋆, some, later, _$_, _∵_, !, qed, by, move, keep, drop, use1}
+use types.Kit.{use2, split, join, pick, fsplit, fjoin, feqL, suffices, frame, await, done}
+use types.Run.{look, init, forget, stop, hop, fld, from, load, addr, and-then, no-more, assigns}
+use types.Run.{land, returns, enter, alloc1, alloc0, params1, pass1, pass0, free1, free0}
 use types.Part.{agg, whole, sub, look-in}
 use sound.WpLaws.{FmC, fmOf, WpFn-mono}
 use denote.RattleType.{owns}
@@ -67,7 +70,8 @@ module _ {M : Type 1} (𝓤 : URA M) (H : Heap 𝓤) (A : Atoms 𝓤) (at-mem : 
   abbrev Told : Contract 𝓤
   Told = tripleOf 𝓤 H A told.signature (told.spec 𝓤 H A at-mem run)
 
-module _ {M : Type 1} (𝓤 : URA M) (H : Heap 𝓤) (A : Atoms 𝓤) (W : Given 𝓤 H A) (at-mem : Memory → SProp 𝓤) (run : Routine → Fun 𝓤) (κ₀ κ₁ : Lft) (q₀ q₁ : Share) (x : RefT (List ℕ)) (y : RefT (List Word))
+module _ {M : Type 1} (𝓤 : URA M) (H : Heap 𝓤) (A : Atoms 𝓤) (W : Given 𝓤 H A) (at-mem : Memory → SProp 𝓤) (run : Routine → Fun 𝓤) (κ₀ κ₁ : Lft)
+    (q₀ q₁ : Share) (x : RefT (List ℕ)) (y : RefT (List Word))
     (gx : Room u8 (length (x .now))) (gy : Room R (length (y .now))) where
   -- the machine values of the two slices
   abbrev s : Val
@@ -109,7 +113,9 @@ module _ {M : Type 1} (𝓤 : URA M) (H : Heap 𝓤) (A : Atoms 𝓤) (W : Given
   to-told r v = ((tt, tt, tt, (r, tt), (v ∷ [], tt)), tt)
 
   goes-told : (r : Answer) (v : Val) → Is E.the-row r (v ∷ []) → ent 𝓤 (sem 𝓤 H A ftrue) (Told 𝓤 H A at-mem run .pre (to-told r v))
-  goes-told r v g = qed W (‵ ftrue ∷ []) ∵ owned ! E.the-row (Is E.the-row) (EL.makes E.the-type E′.the-plain 𝓤 H A) r _ g $ fjoin ! $ nothing ! $ join ! $ frame ! $ nothing ! $ done !
+  goes-told r v g =
+      qed W (‵ ftrue ∷ []) ∵ owned ! E.the-row (Is E.the-row) (EL.makes E.the-type E′.the-plain 𝓤 H A) r _ g $ fjoin ! $ nothing ! $ join ! $ frame ! $
+      nothing ! $ done !
 
   told-said : (r : Answer) (n : ℕ) → ent 𝓤 (ensured 𝓤 H A told.ended (told.clauses 𝓤 H A at-mem run) tt (r, tt) tt n) (fact 𝓤 (n ≡ readTold r))
   told-said r n = exE 𝓤 _ (λ ws. snd∗ 𝓤 (sem 𝓤 H A (lasts told.ended tt (r, tt) ws)) (fact 𝓤 (n ≡ readTold r)))
@@ -118,11 +124,12 @@ module _ {M : Type 1} (𝓤 : URA M) (H : Heap 𝓤) (A : Atoms 𝓤) (W : Given
       → ent 𝓤 (⋆ 𝓤 H A (Tokens ∷ ‵ OwnX ∷ ‵ (finally R (y .name) zs) ∷ [])) (Post v)
   exits r n v zs e e′ l g =
       qed W (Tokens ∷ ‵ OwnX ∷ ‵ (finally R (y .name) zs) ∷ []) ∵
-      suffices ! _ (ends-at 𝓤 H A f.ended stayed (f.clauses 𝓤 H A at-mem run) W (((κ₀, (κ₁, tt)), (q₀, (q₁, tt)), tt, a, machs), tt) v n (tt, (zs, tt)) (tt, (l, tt))) $
-      says ! (e′ ∙ ap readTold (e .0), e .1) $ frame ! $ nothing ! $ move ! (2 ∷ 0 ∷ []) $ fjoin ! $ move ! (1 ∷ 0 ∷ []) $ fjoin ! $ frame ! $
+      suffices ! _ (ends-at 𝓤 H A f.ended stayed (f.clauses 𝓤 H A at-mem run) W (((κ₀, (κ₁, tt)), (q₀, (q₁, tt)), tt, a, machs), tt) v n (tt, (zs, tt))
+      (tt, (l, tt))) $ says ! (e′ ∙ ap readTold (e .0), e .1) $ frame ! $ nothing ! $ move ! (2 ∷ 0 ∷ []) $ fjoin ! $ move ! (1 ∷ 0 ∷ []) $ fjoin ! $ frame ! $
       owned ! u64 (Is u64) (uint-makes 𝓤 H A W w64) n _ g $ done !
 
-  module _ (C : Calls 𝓤 H) (Λ : Loops 𝓤 H) (fm : FmC 𝓤 H (W .laws) C) (known-read : Triple 𝓤 (C #read) (Read 𝓤 H A at-mem run)) (known-told : Triple 𝓤 (C #told) (Told 𝓤 H A at-mem run)) where
+  module _ (C : Calls 𝓤 H) (Λ : Loops 𝓤 H) (fm : FmC 𝓤 H (W .laws) C) (known-read : Triple 𝓤 (C #read) (Read 𝓤 H A at-mem run))
+      (known-told : Triple 𝓤 (C #told) (Told 𝓤 H A at-mem run)) where
     walk : ent 𝓤 (onEntry 𝓤 H A f.signature (κ₀, (κ₁, tt)) (q₀, (q₁, tt)) a machs) (WpFn 𝓤 H C Λ code.function (s ∷ t ∷ []) Post)
     walk =
         qed W (Tokens ∷ ‵ Owns ∷ []) ∵ enter ! C Λ code.function (s ∷ t ∷ []) _ $
@@ -130,40 +137,56 @@ module _ {M : Type 1} (𝓤 : URA M) (H : Heap 𝓤) (A : Atoms 𝓤) (W : Given
         -- local j at 2 * (5 - j): _5 at 0, …, _0 at 10; the tokens at 12; what is owned at 13
         pass1 ! (init ! 8 refl (tt, (tt, (record { fits = gx .0 }, tt)))) $ pass1 ! (init ! 6 refl (tt, (tt, (record { fits = gy .0 }, tt)))) $ pass0 ! $
         assigns ! (addr ! (from ! (fld ! refl (hop ! (look-in ! 6 (sub ! 0 refl (whole !))) (stop !))))) (from ! (stop !)) (init ! 2 refl (tt, tt)) $
-        assigns ! (agg ! (and-then ! (load ! (from ! (stop !)) (look ! 2 refl)) (and-then ! (load ! (from ! (fld ! refl (stop !))) (look-in ! 6 (sub ! 1 refl (whole !)))) (no-more !)))) (from ! (stop !)) (init ! 0 refl (tt, (tt, (record { fits = gy .0 }, tt)))) $
+        assigns ! (agg ! (and-then ! (load ! (from ! (stop !)) (look ! 2 refl))
+        (and-then ! (load ! (from ! (fld ! refl (stop !))) (look-in ! 6 (sub ! 1 refl (whole !)))) (no-more !)))) (from ! (stop !))
+        (init ! 0 refl (tt, (tt, (record { fits = gy .0 }, tt)))) $
         -- what the bytes own is had twice: one copy is kept for the exit
-        move ! (13 ∷ []) $ fsplit ! $ use1 W (‵ OwnX ⊛ ‵ OwnX) (shr-slice-copy 𝓤 H A W (named 0) κ₀ u8 .twice x (s ∷ [])) $ split ! $ move ! (0 ∷ 2 ∷ []) $ fjoin ! $ move ! (14 ∷ 0 ∷ []) $
+        move ! (13 ∷ []) $ fsplit ! $ use1 W (‵ OwnX ⊛ ‵ OwnX) (shr-slice-copy 𝓤 H A W (named 0) κ₀ u8 .twice x (s ∷ [])) $ split ! $ move ! (0 ∷ 2 ∷ []) $
+        fjoin ! $ move ! (14 ∷ 0 ∷ []) $
         -- `read`. [the tokens; what is owned; what the bytes own; _5 at 3; …]
         use2 W (raw (Read 𝓤 H A at-mem run .pre to-read)) goes-read $
-        calls-at ! fm (Read 𝓤 H A at-mem run) known-read to-read (and-then ! (load ! (from ! (stop !)) (look ! 10 refl)) (and-then ! (load ! (from ! (stop !)) (look ! 2 refl)) (no-more !))) (λ v.
-        use1 W (later (some (λ (r : Answer). (Tokens ⊛ ‵ (E.the-row .own r (v ∷ []))) ⊛ raw (ensured 𝓤 H A read.ended (read.clauses 𝓤 H A at-mem run) (κ₀, (κ₁, tt)) a tt r)))) (id⊢ 𝓤 _) $ await ! tt $ pick ! (λ r.
-        split ! $ move ! (1 ∷ []) $ use1 W (some (λ (zs : Unit {0} × (List Word × Unit {0})). ‵ (lasts read.ended (κ₀, (κ₁, tt)) a zs) ⊛ raw (fact 𝓤 (Reads (x .now) (y .now) r (zs .1 .0))))) (id⊢ 𝓤 _) $ pick ! (λ zs.
-        split ! $ move ! (1 ∷ []) $ heard ! (Reads (x .now) (y .now) r (zs .1 .0)) (λ e. fsplit ! $ move ! (1 ∷ []) $ fsplit ! $ fsplit ! $ move ! (1 ∷ []) $ feqL ! (λ l.
+        calls-at ! fm (Read 𝓤 H A at-mem run) known-read to-read
+        (and-then ! (load ! (from ! (stop !)) (look ! 10 refl)) (and-then ! (load ! (from ! (stop !)) (look ! 2 refl)) (no-more !))) (λ v.
+        use1 W (later (some (λ (r : Answer). (Tokens ⊛ ‵ (E.the-row .own r (v ∷ [])))
+        ⊛ raw (ensured 𝓤 H A read.ended (read.clauses 𝓤 H A at-mem run) (κ₀, (κ₁, tt)) a tt r)))) (id⊢ 𝓤 _) $ await ! tt $ pick ! (λ r.
+        split ! $ move ! (1 ∷ []) $
+        use1 W (some (λ (zs : Unit {0} × (List Word × Unit {0})). ‵ (lasts read.ended (κ₀, (κ₁, tt)) a zs)
+        ⊛ raw (fact 𝓤 (Reads (x .now) (y .now) r (zs .1 .0))))) (id⊢ 𝓤 _) $ pick ! (λ zs.
+        split ! $ move ! (1 ∷ []) $ heard ! (Reads (x .now) (y .now) r (zs .1 .0)) (λ e. fsplit ! $ move ! (1 ∷ []) $ fsplit ! $ fsplit ! $ move ! (1 ∷ []) $
+        feqL ! (λ l.
         -- [the last list; true; the bytes'; the tokens and the answer; what the bytes own; _5 at 5; …]
         move ! (3 ∷ []) $ split ! $ move ! (1 ∷ []) $ facts ! E.the-row (Is E.the-row) (shows 𝓤 H A E.the-row) r (v ∷ []) (λ is.
         land ! (from ! (stop !)) (init ! 9 refl (EL.lawful E.the-type E′.the-laws 𝓤 H A W tt .typed r _ is .0)) $
         -- `told_read`. [the tokens; the last list; true; the bytes'; what the bytes own; _5 at 5; …]
         nothing ! $ use1 W (raw (Told 𝓤 H A at-mem run .pre (to-told r v))) (goes-told r v is) $
         calls-at ! fm (Told 𝓤 H A at-mem run) known-told (to-told r v) (and-then ! (load ! (from ! (stop !)) (look ! 10 refl)) (no-more !)) (λ v′.
-        use1 W (later (some (λ (n : ℕ). (‵ ftrue ⊛ ‵ (u64 .own n (v′ ∷ []))) ⊛ raw (ensured 𝓤 H A told.ended (told.clauses 𝓤 H A at-mem run) tt (r, tt) tt n)))) (id⊢ 𝓤 _) $ await ! tt $ pick ! (λ n.
-        split ! $ move ! (1 ∷ []) $ use1 W (raw (fact 𝓤 (n ≡ readTold r))) (told-said r n) $ heard ! (n ≡ readTold r) (λ e′. split ! $ drop ! $ facts ! u64 (Is u64) (shows 𝓤 H A u64) n (v′ ∷ []) (λ is′.
+        use1 W (later (some (λ (n : ℕ). (‵ ftrue ⊛ ‵ (u64 .own n (v′ ∷ [])))
+        ⊛ raw (ensured 𝓤 H A told.ended (told.clauses 𝓤 H A at-mem run) tt (r, tt) tt n)))) (id⊢ 𝓤 _) $ await ! tt $ pick ! (λ n.
+        split ! $ move ! (1 ∷ []) $ use1 W (raw (fact 𝓤 (n ≡ readTold r))) (told-said r n) $ heard ! (n ≡ readTold r) (λ e′. split ! $ drop ! $
+        facts ! u64 (Is u64) (shows 𝓤 H A u64) n (v′ ∷ []) (λ is′.
         land ! (from ! (stop !)) (init ! 15 refl (uint-lawful 𝓤 H A W w64 .typed n _ is′ .0)) $
         returns ! (look ! 15 refl) $ forget ! 5 refl $ forget ! 7 refl $ forget ! 9 refl $ forget ! 11 refl $ forget ! 13 refl $ forget ! 15 refl $
-        move ! (15 ∷ 16 ∷ []) $ free1 ! $ move ! (13 ∷ 14 ∷ []) $ free1 ! $ move ! (11 ∷ 12 ∷ []) $ free1 ! $ move ! (9 ∷ 10 ∷ []) $ free1 ! $ move ! (7 ∷ 8 ∷ []) $ free1 ! $ move ! (5 ∷ 6 ∷ []) $ free1 ! $ free0 ! $
+        move ! (15 ∷ 16 ∷ []) $ free1 ! $ move ! (13 ∷ 14 ∷ []) $ free1 ! $ move ! (11 ∷ 12 ∷ []) $ free1 ! $ move ! (9 ∷ 10 ∷ []) $ free1 ! $
+        move ! (7 ∷ 8 ∷ []) $ free1 ! $ move ! (5 ∷ 6 ∷ []) $ free1 ! $ free0 ! $
         keep ! (0 ∷ 4 ∷ 1 ∷ []) $ by ! (exits r n v′ (zs .1 .0) e e′ l is′)))))))))))))))))
 
 module _ {M : Type 1} (𝓤 : URA M) (H : Heap 𝓤) (A : Atoms 𝓤) (W : Given 𝓤 H A) (at-mem : Memory → SProp 𝓤) (run : Routine → Fun 𝓤) where
-  gsi-read-walks : (C : Calls 𝓤 H) (Λ : Loops 𝓤 H) → FmC 𝓤 H (W .laws) C → Triple 𝓤 (C #read) (Read 𝓤 H A at-mem run) → Triple 𝓤 (C #told) (Told 𝓤 H A at-mem run)
+  gsi-read-walks : (C : Calls 𝓤 H) (Λ : Loops 𝓤 H) → FmC 𝓤 H (W .laws) C → Triple 𝓤 (C #read) (Read 𝓤 H A at-mem run)
+      → Triple 𝓤 (C #told) (Told 𝓤 H A at-mem run)
       → Walks 𝓤 H A f.ended stayed (WpFn 𝓤 H C Λ code.function) (f.clauses 𝓤 H A at-mem run)
   gsi-read-walks C Λ fm known-read known-told = walked 𝓤 H A f.ended stayed (f.clauses 𝓤 H A at-mem run) (WpFn 𝓤 H C Λ code.function)
       (λ κs. (slice-vals, (slice-vals, tt))) (λ κs. (shr-slice-tells (named 0) (κs .0) u8, (mut-slice-tells (named 1) (κs .1 .0) R, tt)))
-      (λ κs qs bounds a g are. via 𝓤 _ (fst∗ 𝓤 _ (emp 𝓤)) (walk 𝓤 H A W at-mem run (κs .0) (κs .1 .0) (qs .0) (qs .1 .0) (a .0) (a .1 .0) (are .0 .0 .1) (are .1 .0 .0 .1) C Λ fm known-read known-told))
+      (λ κs qs bounds a g are. via 𝓤 _ (fst∗ 𝓤 _ (emp 𝓤))
+      (walk 𝓤 H A W at-mem run (κs .0) (κs .1 .0) (qs .0) (qs .1 .0) (a .0) (a .1 .0) (are .0 .0 .1) (are .1 .0 .0 .1) C Λ fm known-read known-told))
 
-gsi-read-meets : {M : Type 1} (𝓤 : URA M) (H : Heap 𝓤) (A : Atoms 𝓤) → Given 𝓤 H A → (at-mem : Memory → SProp 𝓤) (run : Routine → Fun 𝓤) (𝓣 : Tables 𝓤 H) → Triple 𝓤 (𝓣 .C #read) (Read 𝓤 H A at-mem run) → Triple 𝓤 (𝓣 .C #told) (Told 𝓤 H A at-mem run)
+gsi-read-meets : {M : Type 1} (𝓤 : URA M) (H : Heap 𝓤) (A : Atoms 𝓤) → Given 𝓤 H A → (at-mem : Memory → SProp 𝓤) (run : Routine → Fun 𝓤) (𝓣 : Tables 𝓤 H)
+    → Triple 𝓤 (𝓣 .C #read) (Read 𝓤 H A at-mem run) → Triple 𝓤 (𝓣 .C #told) (Told 𝓤 H A at-mem run)
     → Meets 𝓤 H A f.signature (WpFn 𝓤 H (𝓣 .C) (𝓣 .Λ) code.function) (f.spec 𝓤 H A at-mem run)
 gsi-read-meets 𝓤 H A W at-mem run 𝓣 known-read known-told =
-    walk-meets 𝓤 H A f.ended stayed W (goes-none-slice 𝓤 H A W 2 (0 ∷ []) tt (plain (λ _. u8)) yes, (goes-gave-slice 𝓤 H A W 2 1 tt (plain (λ _. R)), tt)) (f.clauses 𝓤 H A at-mem run)
-    (WpFn 𝓤 H (𝓣 .C) (𝓣 .Λ) code.function) (WpFn-mono 𝓤 H (W .laws) 𝓣 code.function) (gsi-read-walks 𝓤 H A W at-mem run (𝓣 .C) (𝓣 .Λ) (fmOf 𝓤 H (W .laws) 𝓣) known-read known-told)
+    walk-meets 𝓤 H A f.ended stayed W (goes-none-slice 𝓤 H A W 2 (0 ∷ []) tt (plain (λ _. u8)) yes, (goes-gave-slice 𝓤 H A W 2 1 tt (plain (λ _. R)), tt))
+    (f.clauses 𝓤 H A at-mem run)
+    (WpFn 𝓤 H (𝓣 .C) (𝓣 .Λ) code.function) (WpFn-mono 𝓤 H (W .laws) 𝓣 code.function)
+    (gsi-read-walks 𝓤 H A W at-mem run (𝓣 .C) (𝓣 .Λ) (fmOf 𝓤 H (W .laws) 𝓣) known-read known-told)
 
 pub gsi-read-spec : {M : Type 1} → stated.statement M
 unfolding code.routine tablesOf

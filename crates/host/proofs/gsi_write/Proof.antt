@@ -1,4 +1,5 @@
--- `gsi_write` meets its contract, by a walk of its MIR with two calls and no branch. `gather` copies the list into a block, and `put_told` writes that into `block`, which goes to it for good.
+-- `gsi_write` meets its contract, by a walk of its MIR with two calls and no branch. `gather` copies the list into a block, and `put_told` writes
+-- that into `block`, which goes to it for good.
 -- Of the two only their contracts are used.
 use mathlib.Core.Path.{_≡_, refl, _∙_, ap, subst}
 use Prim.Native.Nat.{ℕ}
@@ -16,8 +17,10 @@ use prog.Wp.{Heap, Calls, Loops, WpFn, Tables}
 use ghost.Atoms.{Atoms, sem}
 use contract.Monad.{Fun, fact}
 use contract.Running.{givenOf, tables, tablesOf}
-use types.Kit.{Given, ‵, raw, _⊛_, ⋆, some, later, _$_, _∵_, !, qed, by, move, keep, drop, use1, use2, split, join, pick, rewrite, fsplit, fjoin, feqL, suffices, frame, await, done}
-use types.Run.{look, init, forget, stop, hop, fld, from, load, addr, and-then, no-more, assigns, land, returns, enter, alloc1, alloc0, params1, pass1, pass0, free1, free0}
+use types.Kit.{Given, ‵, raw, _⊛_, ⋆, some, later, _$_, _∵_, !, qed, by, move, keep, drop, use1, use2}
+use types.Kit.{split, join, pick, rewrite, fsplit, fjoin, feqL, suffices, frame, await, done}
+use types.Run.{look, init, forget, stop, hop, fld, from, load, addr, and-then, no-more, assigns}
+use types.Run.{land, returns, enter, alloc1, alloc0, params1, pass1, pass0, free1, free0}
 use types.Part.{agg, whole, sub, look-in}
 use sound.WpLaws.{FmC, fmOf, WpFn-mono}
 use denote.RattleType.{owns}
@@ -35,12 +38,13 @@ use denote.Triple.Statement.{Contract, Triple}
 use denote.Triple.Call.{calls-at}
 use denote.Triple.Clauses.{ensured, lasts}
 use denote.Triple.Table.{entered, cited}
-use denote.Triple.Walked.{says, Stays, stay-none-slice, stay-dropped, gave-slice, walkOf, goes-none-slice, goes-dropped, goes-gave-slice, Walks, ends-at, walked, walk-meets}
+use denote.Triple.Walked.{says, Stays, stay-none-slice, stay-dropped, gave-slice, walkOf, goes-none-slice}
+use denote.Triple.Walked.{goes-dropped, goes-gave-slice, Walks, ends-at, walked, walk-meets}
 use denote.Exit.{yes}
 use Rattle.words.specs.declared.records.Word.{Word}
 use Rattle.blocks.specs.declared.judging.Block.{Block}
-use Rattle.blocks.specs.Lists.{gathered}
-use Rattle.blocks.specs.Composing.{Written·room, written, listOf}
+use Rattle.blocks.specs.Composing.{Written·room, written}
+use Rattle.blocks.specs.Keeping.{listOf, gathered}
 use Rattle.host.specs.Answers.{wroteTold, isYes, WritesC}
 use Rattle.blocks.proofs.judging.Block as B
 use Rattle.blocks.proofs.judging.Block.Laws as B′
@@ -60,7 +64,10 @@ use Rattle.host.proofs.gsi_write.Statement as stated
 use Rattle.host.proofs.gsi_write.Code as code
 
 abbrev stayed : Stays (f.ended .signature .params) (f.ended .kept)
-stayed = (stay-none-slice (0 ∷ []) tt (plain (λ _. R)) yes, (stay-dropped (plain (λ _. u64)) yes, (stay-dropped (plain (λ _. u64)) yes, (gave-slice (1 ∷ []) tt (plain (λ _. u8)), tt))))
+stayed = (
+  stay-none-slice (0 ∷ []) tt (plain (λ _. R)) yes,
+  (stay-dropped (plain (λ _. u64)) yes, (stay-dropped (plain (λ _. u64)) yes, (gave-slice (1 ∷ []) tt (plain (λ _. u8)), tt))),
+)
 
 -- the contracts that the proof cites
 module _ {M : Type 1} (𝓤 : URA M) (H : Heap 𝓤) (A : Atoms 𝓤) (at-mem : Memory → SProp 𝓤) (run : Routine → Fun 𝓤) where
@@ -70,7 +77,8 @@ module _ {M : Type 1} (𝓤 : URA M) (H : Heap 𝓤) (A : Atoms 𝓤) (at-mem : 
   abbrev Put : Contract 𝓤
   Put = tripleOf 𝓤 H A put.signature (put.spec 𝓤 H A at-mem run)
 
-module _ {M : Type 1} (𝓤 : URA M) (H : Heap 𝓤) (A : Atoms 𝓤) (W : Given 𝓤 H A) (at-mem : Memory → SProp 𝓤) (run : Routine → Fun 𝓤) (κ₀ κ₁ : Lft) (q₀ q₁ : Share) (x : RefT (List Word)) (wide crlf : ℕ) (y : RefT (List ℕ))
+module _ {M : Type 1} (𝓤 : URA M) (H : Heap 𝓤) (A : Atoms 𝓤) (W : Given 𝓤 H A) (at-mem : Memory → SProp 𝓤) (run : Routine → Fun 𝓤) (κ₀ κ₁ : Lft)
+    (q₀ q₁ : Share) (x : RefT (List Word)) (wide crlf : ℕ) (y : RefT (List ℕ))
     (gx : Room R (length (x .now))) (gw : Is u64 wide (vint w64 wide ∷ [])) (gc : Is u64 crlf (vint w64 crlf ∷ [])) (gy : Room u8 (length (y .now))) where
   abbrev due : Block
   due = gathered (x .now)
@@ -105,7 +113,8 @@ module _ {M : Type 1} (𝓤 : URA M) (H : Heap 𝓤) (A : Atoms 𝓤) (W : Given
   to-gather = (((κ₀, tt), (q₀, tt), tt, (x, tt), (s ∷ [], tt)), tt)
 
   goes-gather : ent 𝓤 (sep 𝓤 (A .lft κ₀ q₀) (sem 𝓤 H A OwnX)) (Gather 𝓤 H A at-mem run .pre to-gather)
-  goes-gather = qed W (‵ (flft κ₀ q₀) ∷ ‵ OwnX ∷ []) ∵ nothing ! $ move ! (2 ∷ 0 ∷ []) $ fjoin ! $ nothing ! $ move ! (2 ∷ 0 ∷ []) $ join ! $ join ! $ frame ! $ done !
+  goes-gather =
+      qed W (‵ (flft κ₀ q₀) ∷ ‵ OwnX ∷ []) ∵ nothing ! $ move ! (2 ∷ 0 ∷ []) $ fjoin ! $ nothing ! $ move ! (2 ∷ 0 ∷ []) $ join ! $ join ! $ frame ! $ done !
 
   gather-said : (r : Block) → ent 𝓤 (ensured 𝓤 H A gather.ended (gather.clauses 𝓤 H A at-mem run) (κ₀, tt) (x, tt) tt r) (fact 𝓤 (r ≡ due))
   gather-said r = exE 𝓤 _ (λ ws. snd∗ 𝓤 (sem 𝓤 H A (lasts gather.ended (κ₀, tt) (x, tt) ws)) (fact 𝓤 (r ≡ due)))
@@ -116,7 +125,8 @@ module _ {M : Type 1} (𝓤 : URA M) (H : Heap 𝓤) (A : Atoms 𝓤) (W : Given
 
   goes-put : (k : Block) → Is B.the-row k (block k ∷ []) → ent 𝓤 (⋆ 𝓤 H A ((‵ (flft κ₁ q₁) ⊛ ‵ ftrue) ∷ ‵ OwnY ∷ [])) (Put 𝓤 H A at-mem run .pre (to-put k))
   goes-put k g =
-      qed W ((‵ (flft κ₁ q₁) ⊛ ‵ ftrue) ∷ ‵ OwnY ∷ []) ∵ nothing ! $ move ! (2 ∷ 0 ∷ []) $ fjoin ! $ owned ! u64 (Is u64) (uint-makes 𝓤 H A W w64) crlf _ gc $ fjoin ! $ owned ! u64 (Is u64) (uint-makes 𝓤 H A W w64) wide _ gw $ fjoin ! $
+      qed W ((‵ (flft κ₁ q₁) ⊛ ‵ ftrue) ∷ ‵ OwnY ∷ []) ∵ nothing ! $ move ! (2 ∷ 0 ∷ []) $ fjoin ! $ owned ! u64 (Is u64) (uint-makes 𝓤 H A W w64) crlf _ gc $
+      fjoin ! $ owned ! u64 (Is u64) (uint-makes 𝓤 H A W w64) wide _ gw $ fjoin ! $
       owned ! B.the-row (Is B.the-row) (LL.makes B.the-type B′.the-plain 𝓤 H A) k _ g $ fjoin ! $
       move ! (1 ∷ 0 ∷ []) $ join ! $ frame ! $ done !
 
@@ -124,61 +134,83 @@ module _ {M : Type 1} (𝓤 : URA M) (H : Heap 𝓤) (A : Atoms 𝓤) (W : Given
       → ent 𝓤 (⋆ 𝓤 H A ((‵ (flft κ₀ q₀) ⊛ ‵ ftrue) ∷ (‵ (flft κ₁ q₁) ⊛ ‵ ftrue) ∷ ‵ OwnX ∷ ‵ (finally u8 (y .name) zs) ∷ [])) (Post v)
   exits k r v zs e e′ l g =
       qed W ((‵ (flft κ₀ q₀) ⊛ ‵ ftrue) ∷ (‵ (flft κ₁ q₁) ⊛ ‵ ftrue) ∷ ‵ OwnX ∷ ‵ (finally u8 (y .name) zs) ∷ []) ∵
-      suffices ! _ (ends-at 𝓤 H A f.ended stayed (f.clauses 𝓤 H A at-mem run) W (((κ₀, (κ₁, tt)), (q₀, (q₁, tt)), tt, a, machs), tt) v r (tt, (tt, (tt, (zs, tt)))) (tt, (tt, (tt, (l, tt))))) $
-      says ! (subst (λ (w : Written·room). (r ≡ wroteTold (w .answer)) × (zs ≡ w .room)) (ap (λ (b : Block). written (listOf b) (isYes wide) (isYes crlf) (y .now)) e ∙ gathered-written (x .now) (isYes wide) (isYes crlf) (y .now)) e′) $
-      split ! $ move ! (0 ∷ 2 ∷ []) $ join ! $ frame ! $ move ! (2 ∷ 0 ∷ []) $ fjoin ! $ nothing ! $ fjoin ! $ nothing ! $ fjoin ! $ move ! (1 ∷ 0 ∷ []) $ fjoin ! $ frame ! $
-      owned ! u64 (Is u64) (uint-makes 𝓤 H A W w64) r _ g $ done !
+      suffices ! _ (ends-at 𝓤 H A f.ended stayed (f.clauses 𝓤 H A at-mem run) W (((κ₀, (κ₁, tt)), (q₀, (q₁, tt)), tt, a, machs), tt) v r
+      (tt, (tt, (tt, (zs, tt)))) (tt, (tt, (tt, (l, tt))))) $
+      says ! (subst (λ (w : Written·room). (r ≡ wroteTold (w .answer)) × (zs ≡ w .room))
+      (ap (λ (b : Block). written (listOf b) (isYes wide) (isYes crlf) (y .now)) e ∙ gathered-written (x .now) (isYes wide) (isYes crlf) (y .now)) e′) $
+      split ! $ move ! (0 ∷ 2 ∷ []) $ join ! $ frame ! $ move ! (2 ∷ 0 ∷ []) $ fjoin ! $ nothing ! $ fjoin ! $ nothing ! $ fjoin ! $ move ! (1 ∷ 0 ∷ []) $
+      fjoin ! $ frame ! $ owned ! u64 (Is u64) (uint-makes 𝓤 H A W w64) r _ g $ done !
 
-  module _ (C : Calls 𝓤 H) (Λ : Loops 𝓤 H) (fm : FmC 𝓤 H (W .laws) C) (known-gather : Triple 𝓤 (C #gather) (Gather 𝓤 H A at-mem run)) (known-put : Triple 𝓤 (C #put) (Put 𝓤 H A at-mem run)) where
-    walk : ent 𝓤 (onEntry 𝓤 H A f.signature (κ₀, (κ₁, tt)) (q₀, (q₁, tt)) a machs) (WpFn 𝓤 H C Λ code.function (s ∷ vint w64 wide ∷ vint w64 crlf ∷ t ∷ []) Post)
+  module _ (C : Calls 𝓤 H) (Λ : Loops 𝓤 H) (fm : FmC 𝓤 H (W .laws) C) (known-gather : Triple 𝓤 (C #gather) (Gather 𝓤 H A at-mem run))
+      (known-put : Triple 𝓤 (C #put) (Put 𝓤 H A at-mem run)) where
+    walk : ent 𝓤 (onEntry 𝓤 H A f.signature (κ₀, (κ₁, tt)) (q₀, (q₁, tt)) a machs)
+        (WpFn 𝓤 H C Λ code.function (s ∷ vint w64 wide ∷ vint w64 crlf ∷ t ∷ []) Post)
     walk =
         qed W ((‵ (flft κ₀ q₀) ⊛ (‵ (flft κ₁ q₁) ⊛ ‵ ftrue)) ∷ ‵ (owns (ShrSlice (named 0) κ₀ R ∷ u64 ∷ u64 ∷ MutSlice (named 1) κ₁ u8 ∷ []) a machs) ∷ []) ∵
         enter ! C Λ code.function (s ∷ vint w64 wide ∷ vint w64 crlf ∷ t ∷ []) _ $
         alloc1 ! (λ l₀. alloc1 ! (λ l₁. alloc1 ! (λ l₂. alloc1 ! (λ l₃. alloc1 ! (λ l₄. alloc1 ! (λ l₅. alloc1 ! (λ l₆. alloc1 ! (λ l₇. alloc0 ! $ params1 ! $
         -- local j at 2 * (7 - j): _7 at 0, …, _0 at 14; the tokens at 16; what is owned at 17
-        pass1 ! (init ! 12 refl (tt, (tt, (record { fits = gx .0 }, tt)))) $ pass1 ! (init ! 10 refl (tt, record { fits = gw .1 })) $ pass1 ! (init ! 8 refl (tt, record { fits = gc .1 })) $
-        pass1 ! (init ! 6 refl (tt, (tt, (record { fits = gy .0 }, tt)))) $ pass0 ! $
+        pass1 ! (init ! 12 refl (tt, (tt, (record { fits = gx .0 }, tt)))) $ pass1 ! (init ! 10 refl (tt, record { fits = gw .1 })) $
+        pass1 ! (init ! 8 refl (tt, record { fits = gc .1 })) $ pass1 ! (init ! 6 refl (tt, (tt, (record { fits = gy .0 }, tt)))) $ pass0 ! $
         move ! (17 ∷ []) $ fsplit ! $ use1 W (‵ OwnX ⊛ ‵ OwnX) (shr-slice-copy 𝓤 H A W (named 0) κ₀ R .twice x (s ∷ [])) $ split ! $
         move ! (2 ∷ []) $ fsplit ! $ drop ! $ fsplit ! $ drop ! $ fsplit ! $ move ! (20 ∷ []) $ split ! $ move ! (0 ∷ 4 ∷ []) $
         -- `gather`. [its token; what list owns; out's token; what out owns; true; what list owns; _7 at 6; …]
         use2 W (raw (Gather 𝓤 H A at-mem run .pre to-gather)) goes-gather $
         calls-at ! fm (Gather 𝓤 H A at-mem run) known-gather to-gather (and-then ! (load ! (from ! (stop !)) (look ! 17 refl)) (no-more !)) (λ v.
-        use1 W (later (some (λ (r : Block). ((‵ (flft κ₀ q₀) ⊛ ‵ ftrue) ⊛ ‵ (B.the-row .own r (v ∷ []))) ⊛ raw (ensured 𝓤 H A gather.ended (gather.clauses 𝓤 H A at-mem run) (κ₀, tt) (x, tt) tt r)))) (id⊢ 𝓤 _) $ await ! tt $ pick ! (λ k.
+        use1 W (later (some (λ (r : Block). ((‵ (flft κ₀ q₀) ⊛ ‵ ftrue) ⊛ ‵ (B.the-row .own r (v ∷ [])))
+        ⊛ raw (ensured 𝓤 H A gather.ended (gather.clauses 𝓤 H A at-mem run) (κ₀, tt) (x, tt) tt r)))) (id⊢ 𝓤 _) $ await ! tt $ pick ! (λ k.
         split ! $ move ! (1 ∷ []) $ use1 W (raw (fact 𝓤 (k ≡ due))) (gather-said k) $ heard ! (k ≡ due) (λ e. split ! $ move ! (1 ∷ []) $
         facts ! B.the-row (Is B.the-row) (shows 𝓤 H A B.the-row) k (v ∷ []) (λ is.
         -- [list's token; out's; what out owns; true; what list owns; _7 at 5; …]
-        land ! (from ! (stop !)) (init ! 9 refl (LL.lawful B.the-type B′.the-laws 𝓤 H A W .typed k _ is .0)) $ rewrite ! 9 (λ (w : Val). ‵ (fat fullShare B′.mir l₅ 0 w)) (ap only (LL.tells B.the-type B′.the-laws k _ is)) refl $
+        land ! (from ! (stop !)) (init ! 9 refl (LL.lawful B.the-type B′.the-laws 𝓤 H A W .typed k _ is .0)) $
+        rewrite ! 9 (λ (w : Val). ‵ (fat fullShare B′.mir l₅ 0 w)) (ap only (LL.tells B.the-type B′.the-laws k _ is)) refl $
         assigns ! (addr ! (from ! (fld ! refl (hop ! (look-in ! 11 (sub ! 0 refl (whole !))) (stop !))))) (from ! (stop !)) (init ! 7 refl (tt, tt)) $
-        assigns ! (agg ! (and-then ! (load ! (from ! (stop !)) (look ! 7 refl)) (and-then ! (load ! (from ! (fld ! refl (stop !))) (look-in ! 11 (sub ! 1 refl (whole !)))) (no-more !)))) (from ! (stop !)) (init ! 5 refl (tt, (tt, (record { fits = gy .0 }, tt)))) $
+        assigns ! (agg ! (and-then ! (load ! (from ! (stop !)) (look ! 7 refl))
+        (and-then ! (load ! (from ! (fld ! refl (stop !))) (look-in ! 11 (sub ! 1 refl (whole !)))) (no-more !)))) (from ! (stop !))
+        (init ! 5 refl (tt, (tt, (record { fits = gy .0 }, tt)))) $
         -- `put_told`
         move ! (1 ∷ 2 ∷ []) $ use2 W (raw (Put 𝓤 H A at-mem run .pre (to-put k))) (goes-put k (block-is k v is)) $
         calls-at ! fm (Put 𝓤 H A at-mem run) known-put (to-put k)
-        (and-then ! (load ! (from ! (stop !)) (look ! 8 refl)) (and-then ! (load ! (from ! (stop !)) (look ! 14 refl)) (and-then ! (load ! (from ! (stop !)) (look ! 12 refl)) (and-then ! (load ! (from ! (stop !)) (look ! 4 refl)) (no-more !))))) (λ v′.
-        use1 W (later (some (λ (r : ℕ). ((‵ (flft κ₁ q₁) ⊛ ‵ ftrue) ⊛ ‵ (u64 .own r (v′ ∷ []))) ⊛ raw (ensured 𝓤 H A put.ended (put.clauses 𝓤 H A at-mem run) (κ₁, tt) (k, (wide, (crlf, (y, tt)))) tt r)))) (id⊢ 𝓤 _) $ await ! tt $ pick ! (λ r.
+        (and-then ! (load ! (from ! (stop !)) (look ! 8 refl))
+        (and-then ! (load ! (from ! (stop !)) (look ! 14 refl))
+        (and-then ! (load ! (from ! (stop !)) (look ! 12 refl)) (and-then ! (load ! (from ! (stop !)) (look ! 4 refl)) (no-more !))))) (λ v′.
+        use1 W (later (some (λ (r : ℕ). ((‵ (flft κ₁ q₁) ⊛ ‵ ftrue) ⊛ ‵ (u64 .own r (v′ ∷ [])))
+        ⊛ raw (ensured 𝓤 H A put.ended (put.clauses 𝓤 H A at-mem run) (κ₁, tt) (k, (wide, (crlf, (y, tt)))) tt r)))) (id⊢ 𝓤 _) $ await ! tt $ pick ! (λ r.
         split ! $ move ! (1 ∷ []) $
-        use1 W (some (λ (zs : Unit {0} × (Unit {0} × (Unit {0} × (List ℕ × Unit {0})))). ‵ (lasts put.ended (κ₁, tt) (k, (wide, (crlf, (y, tt)))) zs) ⊛ raw (fact 𝓤 (WritesC (listOf k) wide crlf (y .now) r (zs .1 .1 .1 .0))))) (id⊢ 𝓤 _) $ pick ! (λ zs.
+        use1 W (some (λ (zs : Unit {0} × (Unit {0} × (Unit {0} × (List ℕ × Unit {0})))). ‵ (lasts put.ended (κ₁, tt) (k, (wide, (crlf, (y, tt)))) zs)
+        ⊛ raw (fact 𝓤 (WritesC (listOf k) wide crlf (y .now) r (zs .1 .1 .1 .0))))) (id⊢ 𝓤 _) $ pick ! (λ zs.
         split ! $ move ! (1 ∷ []) $ heard ! (WritesC (listOf k) wide crlf (y .now) r (zs .1 .1 .1 .0)) (λ e′.
         fsplit ! $ move ! (1 ∷ []) $ fsplit ! $ move ! (1 ∷ []) $ fsplit ! $ move ! (1 ∷ []) $ fsplit ! $ fsplit ! $ move ! (1 ∷ []) $ feqL ! (λ l.
         -- [the last list; true; the two numbers'; the block's; the token and the result; list's token; true; what list owns; _7 at 9; …]
         move ! (5 ∷ []) $ split ! $ move ! (1 ∷ []) $ facts ! u64 (Is u64) (shows 𝓤 H A u64) r (v′ ∷ []) (λ is′.
         land ! (from ! (stop !)) (init ! 23 refl (uint-lawful 𝓤 H A W w64 .typed r _ is′ .0)) $
-        returns ! (look ! 23 refl) $ forget ! 9 refl $ forget ! 11 refl $ forget ! 13 refl $ forget ! 15 refl $ forget ! 17 refl $ forget ! 19 refl $ forget ! 21 refl $ forget ! 23 refl $
-        move ! (23 ∷ 24 ∷ []) $ free1 ! $ move ! (21 ∷ 22 ∷ []) $ free1 ! $ move ! (19 ∷ 20 ∷ []) $ free1 ! $ move ! (17 ∷ 18 ∷ []) $ free1 ! $ move ! (15 ∷ 16 ∷ []) $ free1 ! $ move ! (13 ∷ 14 ∷ []) $ free1 ! $
+        returns ! (look ! 23 refl) $ forget ! 9 refl $ forget ! 11 refl $ forget ! 13 refl $ forget ! 15 refl $ forget ! 17 refl $ forget ! 19 refl $
+        forget ! 21 refl $ forget ! 23 refl $ move ! (23 ∷ 24 ∷ []) $ free1 ! $ move ! (21 ∷ 22 ∷ []) $ free1 ! $ move ! (19 ∷ 20 ∷ []) $ free1 ! $
+        move ! (17 ∷ 18 ∷ []) $ free1 ! $ move ! (15 ∷ 16 ∷ []) $ free1 ! $ move ! (13 ∷ 14 ∷ []) $ free1 ! $
         move ! (11 ∷ 12 ∷ []) $ free1 ! $ move ! (9 ∷ 10 ∷ []) $ free1 ! $ free0 ! $
         keep ! (6 ∷ 0 ∷ 8 ∷ 1 ∷ []) $ by ! (exits k r v′ (zs .1 .1 .1 .0) e e′ l is′)))))))))))))))))))
 
 module _ {M : Type 1} (𝓤 : URA M) (H : Heap 𝓤) (A : Atoms 𝓤) (W : Given 𝓤 H A) (at-mem : Memory → SProp 𝓤) (run : Routine → Fun 𝓤) where
-  gsi-write-walks : (C : Calls 𝓤 H) (Λ : Loops 𝓤 H) → FmC 𝓤 H (W .laws) C → Triple 𝓤 (C #gather) (Gather 𝓤 H A at-mem run) → Triple 𝓤 (C #put) (Put 𝓤 H A at-mem run)
+  gsi-write-walks : (C : Calls 𝓤 H) (Λ : Loops 𝓤 H) → FmC 𝓤 H (W .laws) C → Triple 𝓤 (C #gather) (Gather 𝓤 H A at-mem run)
+      → Triple 𝓤 (C #put) (Put 𝓤 H A at-mem run)
       → Walks 𝓤 H A f.ended stayed (WpFn 𝓤 H C Λ code.function) (f.clauses 𝓤 H A at-mem run)
   gsi-write-walks C Λ fm known-gather known-put = walked 𝓤 H A f.ended stayed (f.clauses 𝓤 H A at-mem run) (WpFn 𝓤 H C Λ code.function)
-      (λ κs. (slice-vals, (uint-vals w64, (uint-vals w64, (slice-vals, tt))))) (λ κs. (shr-slice-tells (named 0) (κs .0) R, (uint-tells w64, (uint-tells w64, (mut-slice-tells (named 1) (κs .1 .0) u8, tt)))))
-      (λ κs qs bounds a g are. via 𝓤 _ (fst∗ 𝓤 _ (emp 𝓤)) (walk 𝓤 H A W at-mem run (κs .0) (κs .1 .0) (qs .0) (qs .1 .0) (a .0) (a .1 .0) (a .1 .1 .0) (a .1 .1 .1 .0) (are .0 .0 .1) (are .1 .0) (are .1 .1 .0) (are .1 .1 .1 .0 .0 .1) C Λ fm known-gather known-put))
+      (λ κs. (slice-vals, (uint-vals w64, (uint-vals w64, (slice-vals, tt)))))
+      (λ κs. (shr-slice-tells (named 0) (κs .0) R, (uint-tells w64, (uint-tells w64, (mut-slice-tells (named 1) (κs .1 .0) u8, tt)))))
+      (λ κs qs bounds a g are. via 𝓤 _ (fst∗ 𝓤 _ (emp 𝓤))
+      (walk 𝓤 H A W at-mem run (κs .0) (κs .1 .0) (qs .0) (qs .1 .0) (a .0) (a .1 .0) (a .1 .1 .0) (a .1 .1 .1 .0) (are .0 .0 .1) (are .1 .0) (are .1 .1 .0)
+      (are .1 .1 .1 .0 .0 .1) C Λ fm known-gather known-put))
 
-gsi-write-meets : {M : Type 1} (𝓤 : URA M) (H : Heap 𝓤) (A : Atoms 𝓤) → Given 𝓤 H A → (at-mem : Memory → SProp 𝓤) (run : Routine → Fun 𝓤) (𝓣 : Tables 𝓤 H) → Triple 𝓤 (𝓣 .C #gather) (Gather 𝓤 H A at-mem run) → Triple 𝓤 (𝓣 .C #put) (Put 𝓤 H A at-mem run)
+gsi-write-meets : {M : Type 1} (𝓤 : URA M) (H : Heap 𝓤) (A : Atoms 𝓤) → Given 𝓤 H A → (at-mem : Memory → SProp 𝓤) (run : Routine → Fun 𝓤) (𝓣 : Tables 𝓤 H)
+    → Triple 𝓤 (𝓣 .C #gather) (Gather 𝓤 H A at-mem run) → Triple 𝓤 (𝓣 .C #put) (Put 𝓤 H A at-mem run)
     → Meets 𝓤 H A f.signature (WpFn 𝓤 H (𝓣 .C) (𝓣 .Λ) code.function) (f.spec 𝓤 H A at-mem run)
 gsi-write-meets 𝓤 H A W at-mem run 𝓣 known-gather known-put =
-    walk-meets 𝓤 H A f.ended stayed W (goes-none-slice 𝓤 H A W 2 (0 ∷ []) tt (plain (λ _. R)) yes, (goes-dropped 𝓤 H A W 2 (plain (λ _. u64)) yes (λ κs x f. refl), (goes-dropped 𝓤 H A W 2 (plain (λ _. u64)) yes (λ κs x f. refl), (goes-gave-slice 𝓤 H A W 2 1 tt (plain (λ _. u8)), tt)))) (f.clauses 𝓤 H A at-mem run)
-    (WpFn 𝓤 H (𝓣 .C) (𝓣 .Λ) code.function) (WpFn-mono 𝓤 H (W .laws) 𝓣 code.function) (gsi-write-walks 𝓤 H A W at-mem run (𝓣 .C) (𝓣 .Λ) (fmOf 𝓤 H (W .laws) 𝓣) known-gather known-put)
+    let sign = goes-dropped 𝓤 H A W 2 (plain (λ _. u64)) yes (λ κs x f. refl) in
+    walk-meets 𝓤 H A f.ended stayed W
+    (goes-none-slice 𝓤 H A W 2 (0 ∷ []) tt (plain (λ _. R)) yes, (sign, (sign, (goes-gave-slice 𝓤 H A W 2 1 tt (plain (λ _. u8)), tt))))
+    (f.clauses 𝓤 H A at-mem run)
+    (WpFn 𝓤 H (𝓣 .C) (𝓣 .Λ) code.function) (WpFn-mono 𝓤 H (W .laws) 𝓣 code.function)
+    (gsi-write-walks 𝓤 H A W at-mem run (𝓣 .C) (𝓣 .Λ) (fmOf 𝓤 H (W .laws) 𝓣) known-gather known-put)
 
 pub gsi-write-spec : {M : Type 1} → stated.statement M
 unfolding code.routine tablesOf

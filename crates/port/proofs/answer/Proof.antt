@@ -21,7 +21,10 @@ kept : (c : tie.Joined1) → let p = c .before .before .before .before .before .
 kept c =
     let p = c .before .before .before .before .before .args .port in
     let size = long c in
-    ⊎-elim (λ w. let e : c .if1 .n ≡ p .n = omega arith in rw e) (λ w. take-all (c .if1 .n) (p .bytes) (omega arith) ∙ sym (take-all (p .n) (p .bytes) (omega arith))) (c .if1 .came)
+    ⊎-elim
+    (λ w. let e : c .if1 .n ≡ p .n = omega arith in rw e)
+    (λ w. take-all (c .if1 .n) (p .bytes) (omega arith) ∙ sym (take-all (p .n) (p .bytes) (omega arith)))
+    (c .if1 .came)
 
 part-lay-end : tie.Need-part-lay-end
 part-lay-end c = omega (arith, long (c .before .before), few (c .before .before))
@@ -33,7 +36,9 @@ add-line : tie.Need-add-line
 add-line c = omega (arith, few (c .before .before .before .before .before .before .before))
 
 part-line-end : tie.Need-part-line-end
-part-line-end c = let lay = c .before .before .before in simp length-set (omega (arith, few (lay .before .before .before .before .before), lay .lay .kept .1 .0))
+part-line-end c =
+    let lay = c .before .before .before in
+    simp length-set (omega (arith, few (lay .before .before .before .before .before), lay .lay .kept .1 .0))
 
 returns : tie.Need-returns
 returns c =

@@ -15,12 +15,15 @@ returns c =
     let answer = c .before .before .before .before .before in
     let a = answer .before .before .before .before .before .before .args in
     let h = answer .answer .ensures in
-    turns-so (a .image .now) (a .port) (a .b) (a .room .now) _ _ _ _ (heard-cr (a .image .now) (a .port) (a .b) (a .room .now) (answer .before .before .before .if1 .taken)) (rw (c .quiet .ensures, h .0)) (h .1 .0) (h .1 .1)
+    turns-so (a .image .now) (a .port) (a .b) (a .room .now) _ _ _ _
+    (heard-cr (a .image .now) (a .port) (a .b) (a .room .now) (answer .before .before .before .if1 .taken))
+    (rw (c .quiet .ensures, h .0)) (h .1 .0) (h .1 .1)
 
 returns-2 : tie.Need-returns-2
 returns-2 c =
     let a = c .before .before .before .before .before .args in
-    turns-so (a .image .now) (a .port) (a .b) (a .room .now) _ _ _ _ (heard-lf (a .image .now) (a .port) (a .b) (a .room .now) (c .before .if2 .taken) (c .if3 .taken)) refl refl refl
+    turns-so (a .image .now) (a .port) (a .b) (a .room .now) _ _ _ _
+    (heard-lf (a .image .now) (a .port) (a .b) (a .room .now) (c .before .if2 .taken) (c .if3 .taken)) refl refl refl
 
 returns-3 : tie.Need-returns-3
 returns-3 c =
@@ -28,7 +31,9 @@ returns-3 c =
     let on : eqb (a .b) 10 && a .port .after ≡ false =
     ⊎-elim (λ w. rw (eq-eqb (a .b) 10 (w .0 .taken), w .1 .left)) (λ w. rw (ne-eqb (a .b) 10 (w .left))) (c .before .if2 .came)
     in
-    turns-so (a .image .now) (a .port) (a .b) (a .room .now) _ _ _ _ (heard-kept (a .image .now) (a .port) (a .b) (a .room .now) (c .before .before .if1 .left) on) (ap (λ (p : Port). record { port = p; count = 0 }) (c .keep .ensures)) refl refl
+    turns-so (a .image .now) (a .port) (a .b) (a .room .now) _ _ _ _
+    (heard-kept (a .image .now) (a .port) (a .b) (a .room .now) (c .before .before .if1 .left) on)
+    (ap (λ (p : Port). record { port = p; count = 0 }) (c .keep .ensures)) refl refl
 
 pub hear-spec : {M : Type 1} → statement M
 hear-spec =

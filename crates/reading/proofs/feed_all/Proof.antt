@@ -1,53 +1,68 @@
 -- `reading::feed_all` meets its contract: each byte is fed in turn, and as long as all is printed the reading goes on.
-use Prim.Native.Nat.{_+_, _-_, _≤_}
+use Prim.Native.Nat.{ℕ, _+_, _-_, _≤_}
 use mathlib.Core.Path.{_≡_, refl, ap, _∙_}
 use mathlib.Core.Bool.{false≢true}
+use mathlib.Core.List.{List}
 use native.Mathlib.Omega.{arith}
-use borrow.Author.Needs.{needs}
 use lib.ListN.{length, drop}
-use Rattle.reading.specs.Turns.{Standing, after}
-use Rattle.reading.proofs.Turning.{turn-fits, turn-kept, turn-next, after-more, after-none}
+use Rattle.reading.specs.declared.turns.Progress.{Progress}
+use Rattle.reading.specs.Turns.{Standing, afterBytes, Reached}
+use Rattle.reading.specs.Printed.{Due}
+use Rattle.reading.proofs.Turning.{turn-fits, turn-next, after-more, after-none, reached-kept, reached-next, byte-due}
 use Rattle.reading.proofs.feed_all.Statement.{statement}
 use Rattle.reading.proofs.feed_all.Tie as tie
 
+abbrev standing : Progress → List ℕ → List ℕ → Standing
+standing g room text = record { progress = g; room = room; text = text }
+
 abbrev Inv-loop : tie.InvT-loop
 Inv-loop bytes room₀ text₀ at₀ i₀ room text at i =
-    (i ≤ length bytes) × (length room ≡ length room₀) × (length text ≡ length text₀) × (at .kept ≤ length room)
-    × (after (record { progress = at₀; room = room₀; text = text₀ }) bytes ≡ after (record { progress = at; room = room; text = text }) (drop i bytes))
+    (i ≤ length bytes) × (length room ≡ length room₀) × (length text ≡ length text₀) × Reached room at text
+    × (afterBytes (standing at₀ room₀ text₀) bytes ≡ afterBytes (standing at room text) (drop i bytes))
 
 abbrev μ-loop : tie.MeasureT-loop
 μ-loop bytes room₀ text₀ at₀ i₀ room text at i = length bytes - i
 
--- where it stood at the turn's start, and what the turn left
+-- where it stood at the turn's start
 abbrev stood : tie.After-feed Inv-loop μ-loop → Standing
-stood c = let at = c .before .before .before .before .before .loop in record { progress = at .at; room = at .room; text = at .text }
+stood c = let at = c .before .before .before .before .before .loop in standing (at .at) (at .room) (at .text)
 
 fits : (c : tie.After-feed Inv-loop μ-loop) → c .feed .result .count ≤ length (c .feed .last .1 .1 .1 .0)
 fits c = omega (arith, turn-fits (stood c) _ _ _ _ (c .feed .ensures), c .feed .kept .1 .1 .1 .0)
 
-kept : (c : tie.After-feed Inv-loop μ-loop) → c .feed .result .progress .kept ≤ length (c .feed .last .0)
-kept c = omega (arith, turn-kept (stood c) _ _ _ _ (c .feed .ensures), c .feed .kept .0)
+due : (c : tie.After-feed Inv-loop μ-loop) → Due (c .feed .last .1 .1 .1 .0) (c .feed .result .count)
+due c = let at = c .before .before .before .before .before .loop in byte-due (at .room) (at .at) (at .text) (at .inv .3) _ _ _ _ (c .feed .ensures)
 
-same-room : (c : tie.After-feed Inv-loop μ-loop) → length (c .feed .last .0) ≡ length (c .before .before .before .before .before .before .before .before .before .args .room .now)
-same-room c = c .feed .kept .0 ∙ c .before .before .before .before .before .loop .inv .1
+same-room : tie.Need-same-length Inv-loop μ-loop
+same-room c =
+    let feed = c .before .before .before .before .before .before .before .before in
+    feed .feed .kept .0 ∙ feed .before .before .before .before .before .loop .inv .1
 
-same-text : (c : tie.After-feed Inv-loop μ-loop) → length (c .feed .last .1 .1 .1 .0) ≡ length (c .before .before .before .before .before .before .before .before .before .args .text .now)
-same-text c = c .feed .kept .1 .1 .1 .0 ∙ c .before .before .before .before .before .loop .inv .2
+same-text : tie.Need-same-length-2 Inv-loop μ-loop
+same-text c =
+    let feed = c .before .before .before .before .before .before .before .before in
+    feed .feed .kept .1 .1 .1 .0 ∙ feed .before .before .before .before .before .loop .inv .2
 
 loop-again : tie.Need-loop-again Inv-loop μ-loop
 loop-again c =
     let feed = c .before .before .before .before .before .before .before .before in
     let at = feed .before .before .before .before .before in
     let bytes = at .before .before .before .before .args .bytes .now in
+    let inv = at .loop .inv in
+    let fed = feed .feed .ensures in
     let more = after-more (stood feed) bytes (at .loop .i) (feed .before .before .before .before .loop-test .taken) in
-    let on = ap (λ s. after s (drop (at .loop .i + 1) bytes)) (turn-next (stood feed) _ _ _ _ (feed .feed .ensures)) in
-    (omega arith, same-room feed, same-text feed, kept feed, at .loop .inv .4 ∙ (more ∙ on))
+    let on = ap (λ s. afterBytes s (drop (at .loop .i + 1) bytes)) (turn-next (stood feed) _ _ _ _ fed) in (
+      omega arith,
+      feed .feed .kept .0 ∙ inv .1,
+      feed .feed .kept .1 .1 .1 .0 ∙ inv .2,
+      reached-next (at .loop .room) (at .loop .at) (at .loop .text) (inv .3) _ _ _ _ fed,
+      inv .4 ∙ (more ∙ on),
+    )
 
 returns-2 : tie.Need-returns-2 Inv-loop μ-loop
 returns-2 c =
     let at = c .before in
-    let inv = at .loop .inv in
-    (inv .3, λ _. inv .4 ∙ after-none _ (at .before .before .before .before .args .bytes .now) (at .loop .i) (c .loop-test .left))
+    λ _. at .loop .inv .4 ∙ after-none _ (at .before .before .before .before .args .bytes .now) (at .loop .i) (c .loop-test .left)
 
 pub feed-all-spec : {M : Type 1} → statement M
 feed-all-spec =
@@ -55,13 +70,13 @@ feed-all-spec =
     (tie.spec
     Inv-loop
     μ-loop
-    (λ c. (omega arith, refl, refl, search needs, refl))
+    (λ c. (omega arith, refl, refl, c .before .before .before .pre, refl))
     (λ c. omega arith)
-    (λ c κs. search needs)
-    (λ c κs. fits (c .before .before .before .before .before .before))
-    (λ c. same-room (c .before .before .before .before .before .before .before .before))
-    (λ c. same-text (c .before .before .before .before .before .before .before .before))
-    (λ c. (kept (c .before .before .before .before .before .before .before .before), λ e. absurd (false≢true e)))
+    (λ c κs. let at = c .before .before .before .before .loop in reached-kept (at .room) (at .at) (at .text) (at .inv .3))
+    (λ c κs. let feed = c .before .before .before .before .before .before in (fits feed, due feed))
+    same-room
+    same-text
+    (λ c e. absurd (false≢true e))
     (λ c. omega arith)
     (λ c. omega arith)
     loop-again

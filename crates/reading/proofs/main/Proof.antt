@@ -1,26 +1,34 @@
--- `reading::main` is safe and ends: the measure is the number of turns that are left.
-use Prim.Native.Nat.{_≤_}
-use mathlib.Core.Path.{_≡_, refl, _∙_}
-use native.Mathlib.Omega.{arith}
+-- `reading::main` is safe and ends: it stands where some file's bytes lead, and the measure is the number of turns that are left.
+use mathlib.Core.Path.{_≡_, refl, sym, ap, _∙_}
+use mathlib.Core.List.{[]}
 use borrow.Author.Needs.{needs}
-use lib.ListN.{length}
+use borrow.Author.Tests.{not-false}
+use lib.ListN.{length, replicate}
+use Rattle.reading.specs.declared.turns.Progress.{Progress}
+use Rattle.reading.specs.Turns.{afterBytes, begun, Reached}
+use Rattle.reading.proofs.Turning.{reached-on}
 use Rattle.reading.proofs.main.Statement.{statement}
 use Rattle.reading.proofs.main.Tie as tie
 
 abbrev Inv-loop : tie.InvT-loop
-Inv-loop room₀ text₀ progress₀ turns₀ room text progress turns = (length room ≡ 800) × (length text ≡ 5280) × (progress .kept ≤ length room)
+Inv-loop room₀ text₀ progress₀ turns₀ room text progress turns = (length room ≡ 800) × (length text ≡ 5367) × Reached room progress text
 
 abbrev μ-loop : tie.MeasureT-loop
 μ-loop room₀ text₀ progress₀ turns₀ room text progress turns = turns
 
 loop-holds : tie.Need-loop-holds Inv-loop μ-loop
-loop-holds c = (refl, refl, rw (c .start .ensures) (omega arith))
+unfolding afterBytes begun
+loop-holds c = (refl, refl, ([], sym (ap (λ (g : Progress). record { progress = g; room = replicate 800 0; text = replicate 5367 0 }) (c .start .ensures))))
 
 loop-again : tie.Need-loop-again Inv-loop μ-loop
 loop-again c =
     let t = c .before .before .before .before .before in
-    let inv = t .before .before .before .before .loop .inv in
-    (t .turn .kept .0 ∙ inv .0, t .turn .kept .1 .1 .0 ∙ inv .1, t .turn .ensures)
+    let loop = t .before .before .before .before .loop in
+    let on = not-false (t .turn .result .on) (c .before .if1 .left) in (
+      t .turn .kept .0 ∙ loop .inv .0,
+      t .turn .kept .1 .1 .0 ∙ loop .inv .1,
+      reached-on (loop .room) (loop .progress) (loop .text) (loop .inv .2) (t .turn .ensures .0) _ _ _ (t .turn .ensures .1 on),
+    )
 
 pub main-spec : {M : Type 1} → statement M
 main-spec =
@@ -32,7 +40,7 @@ main-spec =
     loop-holds
     (λ c. search needs)
     (λ c. search needs)
-    (λ c κs. search needs)
+    (λ c κs. c .before .before .before .loop .inv .2)
     (λ c. search needs)
     (λ c. search needs)
     (λ c. search needs)

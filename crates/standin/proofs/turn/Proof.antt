@@ -14,13 +14,17 @@ fits : (c : tie.After-hear) → c .hear .result .count ≤ length (c .hear .last
 fits c =
     let read = c .before .before .before .before .before in
     let a = read .before .before .before .args in
-    omega (arith, ap (λ (t : Turn). t .count) (c .hear .ensures .0), heard-fits (a .image .now) (a .port) (getD (read .read .last .1 .0) 0 0) (replicate 306 0), c .hear .kept .1 .1 .1 .0)
+    let heard = ap (λ (t : Turn). t .count) (c .hear .ensures .0) in
+    let within = heard-fits (a .image .now) (a .port) (getD (read .read .last .1 .0) 0 0) (replicate 306 0) in
+    omega (arith, heard, within, c .hear .kept .1 .1 .1 .0)
 
 array-share-prefix-room : tie.Need-array-share-prefix-room
 array-share-prefix-room c = fits (c .before .before .before .before)
 
 slice-aggregate-write-all : tie.Need-slice-aggregate-write-all
-slice-aggregate-write-all c = let hear = c .before .before .before .before .before in sym (length-take-le (hear .hear .result .count) (hear .hear .last .1 .1 .1 .0) (fits hear))
+slice-aggregate-write-all c =
+    let at = c .before .before .before .before .before in
+    sym (length-take-le (at .hear .result .count) (at .hear .last .1 .1 .1 .0) (fits at))
 
 pub turn-spec : {M : Type 1} → statement M
 turn-spec =

@@ -42,7 +42,10 @@ returns-2 c =
     let a = c .before .before .before .before .before .args in
     let ws = take (a .b .n) (a .b .words) in
     let put = c .before .before .put-words in
-    put-same (replicate 771 0) (a .wide) ws (starBytes (a .wide) ++ wordsBytes (a .wide) ws) (put .result) (put .ensures) (c .enum-told .given .0 .0) (c .enum-told .given .1) (blockBytes (a .wide) (a .crlf) ws)
+    let done = starBytes (a .wide) ++ wordsBytes (a .wide) ws in
+    let all = blockBytes (a .wide) (a .crlf) ws in
+    let told = c .enum-told .given in
+    put-same (replicate 771 0) (a .wide) ws done (put .result) (put .ensures) (told .0 .0) (told .1) all
     ∙ sym (composed-some (a .wide) (a .crlf) ws (some-words (c .before .before .before)))
 
 -- the words are right, and end before the terminator's place
@@ -64,7 +67,9 @@ words-put c =
     let ws = take (a .b .n) (a .b .words) in
     let put = c .before .before .put-words in
     let count = listed (a .b) _ (start .good .0) (start .pre) in
-    let told = put-written (replicate 771 0) (a .wide) ws (starBytes (a .wide) ++ wordsBytes (a .wide) ws) (put .result) (put .ensures) (c .answer .given .0 .0) (c .answer .given .1) in
+    let done = starBytes (a .wide) ++ wordsBytes (a .wide) ws in
+    let answer = c .answer .given in
+    let told = put-written (replicate 771 0) (a .wide) ws done (put .result) (put .ensures) (answer .0 .0) (answer .1) in
     let fits = words-end (a .wide) ws (omega (arith, start .pre)) (told .0) in
     (told .0, told .1, told .2, omega (arith, told .1, room-size))
 
@@ -86,7 +91,9 @@ returns-3 c =
     let a = here .before .before .before .before .before .args in
     let ws = take (a .b .n) (a .b .words) in
     let put = words-put here in
-    ends-crlf (starBytes (a .wide)) (wordsBytes (a .wide) ws) (replicate 771 0) (here .before .before .put-words .result .bytes) (here .answer .given .0 .0) (a .crlf) (put .1) (put .3) (put .2) (c .if2 .taken)
+    let bytes = here .before .before .put-words .result .bytes in
+    let at = here .answer .given .0 .0 in
+    ends-crlf (starBytes (a .wide)) (wordsBytes (a .wide) ws) (replicate 771 0) bytes at (a .crlf) (put .1) (put .3) (put .2) (c .if2 .taken)
     ∙ sym (composed-right (a .wide) (a .crlf) ws (some-words (here .before .before .before)) (put .0))
 
 returns-4 : tie.Need-returns-4
@@ -95,7 +102,9 @@ returns-4 c =
     let a = here .before .before .before .before .before .args in
     let ws = take (a .b .n) (a .b .words) in
     let put = words-put here in
-    ends-cr (starBytes (a .wide)) (wordsBytes (a .wide) ws) (replicate 771 0) (here .before .before .put-words .result .bytes) (here .answer .given .0 .0) (a .crlf) (put .1) (put .3) (put .2) (c .if2 .left)
+    let bytes = here .before .before .put-words .result .bytes in
+    let at = here .answer .given .0 .0 in
+    ends-cr (starBytes (a .wide)) (wordsBytes (a .wide) ws) (replicate 771 0) bytes at (a .crlf) (put .1) (put .3) (put .2) (c .if2 .left)
     ∙ sym (composed-right (a .wide) (a .crlf) ws (some-words (here .before .before .before)) (put .0))
 
 pub compose-spec : {M : Type 1} → statement M

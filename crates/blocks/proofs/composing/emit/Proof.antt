@@ -8,7 +8,8 @@ use Rattle.figures.specs.Bytes.{laid}
 use Rattle.words.specs.Records.{blank}
 use Rattle.blocks.specs.declared.answers.Refusal.the-variants.{Count, Room}
 use Rattle.blocks.specs.declared.answers.Wrote.the-variants.{Refused, Written}
-use Rattle.blocks.specs.Composing.{blockBytes, listOf, written, fitted}
+use Rattle.blocks.specs.Composing.{blockBytes, written, blockInRoom}
+use Rattle.blocks.specs.Keeping.{listOf}
 use Rattle.blocks.proofs.Rooms.{listed, room-size, room-length}
 use Rattle.blocks.proofs.Composes.{composed-refused, composed-written, fitted-not, fitted-laid, listed-many, listed-few, writes-as}
 use Rattle.blocks.proofs.composing.emit.Statement.{statement}
@@ -17,7 +18,8 @@ use Rattle.blocks.proofs.composing.emit.Tie as tie
 returns : tie.Need-returns
 returns c =
     let a = c .before .before .before .args in
-    writes-as (listOf (a .b)) (replicate 33 blank) (a .wide) (a .crlf) (a .out .now) (a .out .now) (Refused Count) (listed-many (a .b) (c .if1 .taken)) refl
+    let out = a .out .now in
+    writes-as (listOf (a .b)) (replicate 33 blank) (a .wide) (a .crlf) out out (Refused Count) (listed-many (a .b) (c .if1 .taken)) refl
 
 compose-requires : tie.Need-compose-requires
 compose-requires c κs = search needs
@@ -41,8 +43,10 @@ returns-2 c =
     let out = a .out .now in
     let ws = take (a .b .n) (a .b .words) in
     let composed = c .before .before .compose in
-    let refused = composed-refused (a .wide) (a .crlf) ws (few here) out (composed .result) (composed .ensures) (c .enum-told .given .0 .0) (c .enum-told .given .1) in
-    writes-as (listOf (a .b)) ws (a .wide) (a .crlf) out out (composed .result .answer) (listed-few (a .b) (here .if1 .left)) (rw (c .enum-told .given .1) refused)
+    let told = c .enum-told .given in
+    let refused = composed-refused (a .wide) (a .crlf) ws (few here) out (composed .result) (composed .ensures) (told .0 .0) (told .1) in
+    let list = listed-few (a .b) (here .if1 .left) in
+    writes-as (listOf (a .b)) ws (a .wide) (a .crlf) out out (composed .result .answer) list (rw (told .1) refused)
 
 -- the bytes composed, and that writing is then by whether they fit
 abbrev Ready : tie.After-answer → Type 0
@@ -54,13 +58,15 @@ Ready c =
     (n ≡ length bytes)
     × (c .before .before .compose .result .bytes ≡ laid bytes (replicate 771 0))
     × (n ≤ 771)
-    × (written ws (a .wide) (a .crlf) (a .out .now) ≡ fitted bytes (a .out .now))
+    × (written ws (a .wide) (a .crlf) (a .out .now) ≡ blockInRoom bytes (a .out .now))
 
 ready : (c : tie.After-answer) → Ready c
 ready c =
     let a = c .before .before .before .before .before .before .args in
     let composed = c .before .before .compose in
-    composed-written (a .wide) (a .crlf) (take (a .b .n) (a .b .words)) (few (c .before .before .before)) (a .out .now) (composed .result) (composed .ensures) (c .answer .given .0 .0) (c .answer .given .1)
+    let ws = take (a .b .n) (a .b .words) in
+    let told = c .answer .given in
+    composed-written (a .wide) (a .crlf) ws (few (c .before .before .before)) (a .out .now) (composed .result) (composed .ensures) (told .0 .0) (told .1)
 
 returns-3 : tie.Need-returns-3
 returns-3 c =
@@ -70,7 +76,9 @@ returns-3 c =
     let ws = take (a .b .n) (a .b .words) in
     let n = here .answer .given .0 .0 in
     let there = ready here in
-    writes-as (listOf (a .b)) ws (a .wide) (a .crlf) out out (Refused (Room n)) (listed-few (a .b) (here .before .before .before .if1 .left)) (there .3 ∙ fitted-not (blockBytes (a .wide) (a .crlf) ws) out n (there .0) (c .if2 .taken))
+    let list = listed-few (a .b) (here .before .before .before .if1 .left) in
+    let none = fitted-not (blockBytes (a .wide) (a .crlf) ws) out n (there .0) (c .if2 .taken) in
+    writes-as (listOf (a .b)) ws (a .wide) (a .crlf) out out (Refused (Room n)) list (there .3 ∙ none)
 
 sub-lay : tie.Need-sub-lay
 sub-lay c = search needs
@@ -99,8 +107,13 @@ returns-4 c =
     let ws = take (a .b .n) (a .b .words) in
     let n = here .answer .given .0 .0 in
     let there = ready here in
-    let all = fitted-laid (blockBytes (a .wide) (a .crlf) ws) out n (there .0) (replicate 771 0) (here .before .before .compose .result .bytes) (lay .last .1 .0) (n - 0) (omega arith) (omega (arith, there .2, room-size)) (c .before .before .before .before .before .before .before .if2 .left) (there .1) (lay .ensures) in
-    writes-as (listOf (a .b)) ws (a .wide) (a .crlf) out (lay .last .1 .0) (Written n) (listed-few (a .b) (here .before .before .before .if1 .left)) (there .3 ∙ all)
+    let list = listed-few (a .b) (here .before .before .before .if1 .left) in
+    let kept = here .before .before .compose .result .bytes in
+    let fits = c .before .before .before .before .before .before .before .if2 .left in
+    let all =
+    fitted-laid (blockBytes (a .wide) (a .crlf) ws) out n (there .0) (replicate 771 0) kept (lay .last .1 .0) (n - 0) (omega arith)
+    (omega (arith, there .2, room-size)) fits (there .1) (lay .ensures) in
+    writes-as (listOf (a .b)) ws (a .wide) (a .crlf) out (lay .last .1 .0) (Written n) list (there .3 ∙ all)
 
 pub emit-spec : {M : Type 1} → statement M
 emit-spec =

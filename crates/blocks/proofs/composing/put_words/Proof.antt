@@ -12,12 +12,16 @@ use Rattle.figures.specs.Bytes.{laid}
 use Rattle.figures.proofs.Bytes.{length-on}
 use Rattle.words.specs.Records.{isRight}
 use Rattle.words.specs.Reading.{wordSize}
-use Rattle.words.specs.Writing.{bytesOf, spellingOf}
+use Rattle.words.specs.Writing.{bytesOf}
+use Rattle.words.specs.Keeping.{spellingOf}
 use Rattle.words.specs.declared.records.Word.{Word}
 use Rattle.blocks.specs.declared.answers.Refusal.the-variants.{Record}
-use Rattle.blocks.specs.Composing.{starBytes, wordsBytes, refusedList, wroteList}
+use Rattle.blocks.specs.Composing.{starBytes, wordsBytes}
+use Rattle.blocks.specs.Keeping.{refusedList, wroteList}
 use Rattle.blocks.proofs.Steps.{width-small}
-use Rattle.blocks.proofs.Rooms.{listed, firstWrong, putBytes, unless-right, unless-wrong, first-more, first-wrong, first-none, spelt-right, spelt-not, spelt-bytes, spelt-long, put-length, put-more, put-none, star-small, star-length, star-fits, room-size, room-length, opened-on, opened-whole, wrote-as}
+use Rattle.blocks.proofs.Rooms.{listed, firstWrong, putBytes, unless-right, unless-wrong, first-more, first-wrong, first-none}
+use Rattle.blocks.proofs.Rooms.{spelt-right, spelt-not, spelt-bytes, spelt-long, put-length, put-more, put-none, wrote-as}
+use Rattle.blocks.proofs.Rooms.{star-small, star-length, star-fits, room-size, room-length, opened-on, opened-whole}
 use Rattle.blocks.proofs.composing.put_words.Statement.{statement}
 use Rattle.blocks.proofs.composing.put_words.Tie as tie
 
@@ -70,27 +74,39 @@ held c =
 abbrev empty : Word
 empty = record { index = 0; info = []; minus = 0; mmminus = 0; size = 0; mm = 0; text = [] }
 
+-- where a record is spelt: what the call began with, its list, and the list's place
+abbrev begun : tie.After-spell Inv-loop μ-loop → tie.Start Inv-loop μ-loop
+begun c = c .before .before .before .before .before .before .before .before
+
+abbrev list : tie.After-spell Inv-loop μ-loop → List Word
+list c =
+    let b = begun c .args .b in
+    take (b .n) (b .words)
+
+abbrev place : tie.After-spell Inv-loop μ-loop → ℕ
+place c = c .before .before .before .loop .i
+
 -- the record that is spelt is the list's
 abbrev spelt-word : tie.After-spell Inv-loop μ-loop → Word
-spelt-word c =
-    let b = c .before .before .before .before .before .before .before .before .args .b in
-    getD (take (b .n) (b .words)) (c .before .before .before .loop .i) empty
+spelt-word c = getD (list c) (place c) empty
 
-spelling : (c : tie.After-spell Inv-loop μ-loop) → c .spell .result ≡ spellingOf (c .before .before .before .before .before .before .before .before .args .wide) (spelt-word c)
+spelling : (c : tie.After-spell Inv-loop μ-loop) → c .spell .result ≡ spellingOf (begun c .args .wide) (spelt-word c)
 spelling c =
-    let b = c .before .before .before .before .before .before .before .before .args .b in
-    rw (getD-take (b .n) (b .words) (c .before .before .before .loop .i) empty (c .before .before .loop-test .taken)) (c .spell .ensures)
+    let b = begun c .args .b in
+    rw (getD-take (b .n) (b .words) (place c) empty (c .before .before .loop-test .taken)) (c .spell .ensures)
 
-in-list : (c : tie.After-spell Inv-loop μ-loop) → let b = c .before .before .before .before .before .before .before .before .args .b in c .before .before .before .loop .i < length (take (b .n) (b .words))
+in-list : (c : tie.After-spell Inv-loop μ-loop) → place c < length (list c)
 in-list c =
-    let start = c .before .before .before .before .before .before .before .before in
+    let start = begun c in
     let count = listed (start .args .b) _ (start .good .0) (start .pre) in
     omega (arith, c .before .before .loop-test .taken)
 
-right : (c : tie.After-enum-told Inv-loop μ-loop) → isRight (c .before .before .before .before .before .before .before .before .before .before .args .wide) (spelt-word (c .before .before)) ≡ true
+right : (c : tie.After-enum-told Inv-loop μ-loop) →
+    let spelled = c .before .before in
+    isRight (begun spelled .args .wide) (spelt-word spelled) ≡ true
 right c =
     let spelled = c .before .before in
-    spelt-right (c .before .before .before .before .before .before .before .before .before .before .args .wide) (spelt-word spelled) (spelled .spell .result) (spelling spelled) (c .enum-told .given .1)
+    spelt-right (begun spelled .args .wide) (spelt-word spelled) (spelled .spell .result) (spelling spelled) (c .enum-told .given .1)
 
 mul-word : tie.Need-mul-word Inv-loop μ-loop
 mul-word c = omega arith
@@ -113,12 +129,13 @@ refuse-list-requires c κs = search needs
 returns : tie.Need-returns Inv-loop μ-loop
 returns c =
     let spelled = c .before .before .before in
-    let a = spelled .before .before .before .before .before .before .before .before .args in
+    let a = begun spelled .args in
     let l = spelled .before .before .before .loop in
-    let ws = take (a .b .n) (a .b .words) in
+    let ws = list spelled in
+    let done = wroteList (starBytes (a .wide) ++ wordsBytes (a .wide) ws) in
     let wrong = spelt-not (a .wide) (spelt-word spelled) (spelled .spell .result) (spelling spelled) (c .before .enum-told2 .given .1) in
     let first = l .inv .4 ∙ first-wrong (a .wide) (l .i) ws empty (in-list spelled) wrong in
-    c .refuse-list .ensures ∙ sym (unless-wrong (a .wide) ws (λ i. refusedList (Record i)) (wroteList (starBytes (a .wide) ++ wordsBytes (a .wide) ws)) (l .i) first)
+    c .refuse-list .ensures ∙ sym (unless-wrong (a .wide) ws (λ i. refusedList (Record i)) done (l .i) first)
 
 sub-lay : tie.Need-sub-lay Inv-loop μ-loop
 sub-lay c = omega arith
@@ -129,8 +146,9 @@ part-lay-start c = omega arith
 part-lay-end : tie.Need-part-lay-end Inv-loop μ-loop
 part-lay-end c =
     let spelled = c .before .before .before .before in
-    let long = spelt-long (c .before .before .before .before .before .before .before .before .before .before .before .before .args .wide) (spelt-word spelled) (spelled .spell .result) (spelling spelled) (right (c .before .before)) in
-    omega (arith, long, c .before .before .before .before .before .before .before .before .before .before .width-of .ensures)
+    let wide = begun spelled .args .wide in
+    let long = spelt-long wide (spelt-word spelled) (spelled .spell .result) (spelling spelled) (right (c .before .before)) in
+    omega (arith, long, spelled .before .before .before .before .before .before .width-of .ensures)
 
 sub-lay-2 : tie.Need-sub-lay-2 Inv-loop μ-loop
 sub-lay-2 c = omega arith
@@ -145,7 +163,9 @@ lay-requires : tie.Need-lay-requires Inv-loop μ-loop
 lay-requires c κs = search needs
 
 add-at : tie.Need-add-at Inv-loop μ-loop
-add-at c = omega (arith, width-small (c .before .before .before .before .before .before .before .before .before .before .before .before .before .before .before .before .args .wide))
+add-at c =
+    let spelled = c .before .before .before .before .before .before .before .before in
+    omega (arith, width-small (begun spelled .args .wide))
 
 add-i : tie.Need-add-i Inv-loop μ-loop
 add-i c = omega arith
@@ -160,8 +180,8 @@ loop-again c =
     let l = spelled .before .before .before .loop in
     let opened = spelled .before .before .before .before .before in
     let width = spelled .before .before .before .before .before .before .width-of in
-    let a = spelled .before .before .before .before .before .before .before .before .args in
-    let ws = take (a .b .n) (a .b .words) in
+    let a = begun spelled .args in
+    let ws = list spelled in
     let w = spelt-word spelled in
     let listed-there = in-list spelled in
     let is-right = right (c .before .before .before .before .before .before) in
@@ -171,8 +191,16 @@ loop-again c =
     lay .ensures ∙ ap (λ (x : List ℕ). laid x (midOf (l .at) (771 - l .at) (l .bytes))) word in
     let longer = put-length (a .wide) ws (l .i) empty listed-there is-right in
     let whole = opened-length opened in
-    let more = put-more (a .wide) ws (l .i) empty listed-there is-right (opened .«open» .result) (l .bytes) (lay .last .1 .0) (l .at) 771 (l .inv .2) (omega arith) (sym (held (spelled .before .before))) (l .inv .3) laid-there in
-    (omega arith, omega (arith, width-small (a .wide), width .ensures), omega (arith, longer, width .ensures), more, l .inv .4 ∙ first-more (a .wide) (l .i) ws empty listed-there is-right)
+    let held-there = sym (held (spelled .before .before)) in
+    let more =
+    put-more (a .wide) ws (l .i) empty listed-there is-right (opened .«open» .result) (l .bytes) (lay .last .1 .0) (l .at) 771 (l .inv .2)
+    (omega arith) held-there (l .inv .3) laid-there in (
+      omega arith,
+      omega (arith, width-small (a .wide), width .ensures),
+      omega (arith, longer, width .ensures),
+      more,
+      l .inv .4 ∙ first-more (a .wide) (l .i) ws empty listed-there is-right,
+    )
 
 returns-2 : tie.Need-returns-2 Inv-loop μ-loop
 returns-2 c =

@@ -2,7 +2,8 @@
 use mathlib.Core.Path.{sym, ap, _∙_}
 use native.Mathlib.Omega.{arith}
 use borrow.Author.Needs.{needs}
-use Rattle.blocks.specs.Judging.{isWide, keptOf}
+use Rattle.blocks.specs.Judging.{isWide}
+use Rattle.blocks.specs.Keeping.{keptOf}
 use Rattle.blocks.proofs.Steps.{start-small, judged-empty, judged-no-word, judged-words}
 use Rattle.blocks.proofs.judging.judge.Statement.{statement}
 use Rattle.blocks.proofs.judging.judge.Tie as tie
@@ -33,7 +34,8 @@ returns-2 c =
     let start = here .before .start-of in
     let a = here .before .before .before .before .before .args in
     let byte = sym (here .is-at .ensures) ∙ c .before .if2 .taken in
-    c .refuse2 .ensures ∙ sym (ap keptOf (judged-no-word (a .s .now) (a .places) (start .result) (here .before .before .before .if1 .left) (start .ensures) byte))
+    let some = here .before .before .before .if1 .left in
+    c .refuse2 .ensures ∙ sym (ap keptOf (judged-no-word (a .s .now) (a .places) (start .result) some (start .ensures) byte))
 
 words-from-requires : tie.Need-words-from-requires
 words-from-requires c κs =
@@ -46,7 +48,8 @@ returns-3 c =
     let start = here .before .start-of in
     let a = here .before .before .before .before .before .args in
     let byte = sym (here .is-at .ensures) ∙ c .before .if2 .left in
-    c .words-from .ensures ∙ sym (ap keptOf (judged-words (a .s .now) (a .places) (start .result) (here .before .before .before .if1 .left) (start .ensures) byte))
+    let some = here .before .before .before .if1 .left in
+    c .words-from .ensures ∙ sym (ap keptOf (judged-words (a .s .now) (a .places) (start .result) some (start .ensures) byte))
 
 pub judge-spec : {M : Type 1} → statement M
 judge-spec =

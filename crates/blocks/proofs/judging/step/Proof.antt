@@ -9,7 +9,8 @@ use lib.Seq.{take-all}
 use Rattle.words.specs.Reading.{wordOf}
 use Rattle.words.specs.declared.reading.OneWord.{OneWord}
 use Rattle.blocks.specs.declared.judging.Stepped.{Stepped}
-use Rattle.blocks.specs.Judging.{isAt, nextOf, stepOf}
+use Rattle.blocks.specs.Judging.{isAt}
+use Rattle.blocks.specs.Keeping.{nextOf, stepOf}
 use Rattle.blocks.proofs.Steps.{width-small, next-ends, next-full, next-short, next-no-place, next-word}
 use Rattle.blocks.proofs.judging.step.Statement.{statement}
 use Rattle.blocks.proofs.judging.step.Tie as tie
@@ -41,7 +42,8 @@ stops-requires c κs = search needs
 returns-2 : tie.Need-returns-2
 returns-2 c =
     let a = c .before .before .before .before .before .args in
-    c .stops .ensures ∙ sym (next-full (a .wide) (a .places) (a .count) (a .at) (drop (a .at) (a .s .now)) (no-end (c .before .before)) (c .before .if2 .taken))
+    let rest = drop (a .at) (a .s .now) in
+    c .stops .ensures ∙ sym (next-full (a .wide) (a .places) (a .count) (a .at) rest (no-end (c .before .before)) (c .before .if2 .taken))
 
 sub-rest : tie.Need-sub-rest
 sub-rest c = search needs
@@ -65,7 +67,9 @@ returns-3 : tie.Need-returns-3
 returns-3 c =
     let a = c .before .before .before .before .before .before .before .before .args in
     let left = length-drop (a .at) (a .s .now) in
-    c .stops2 .ensures ∙ sym (next-short (a .wide) (a .places) (a .count) (a .at) (drop (a .at) (a .s .now)) (no-end (c .before .before .before .before .before)) (omega arith) (omega arith))
+    let rest = drop (a .at) (a .s .now) in
+    let more = no-end (c .before .before .before .before .before) in
+    c .stops2 .ensures ∙ sym (next-short (a .wide) (a .places) (a .count) (a .at) rest more (omega arith) (omega arith))
 
 stops-requires-3 : tie.Need-stops-requires-3
 stops-requires-3 c κs = search needs
@@ -74,7 +78,9 @@ returns-4 : tie.Need-returns-4
 returns-4 c =
     let a = c .before .before .before .before .before .before .before .before .before .args in
     let left = length-drop (a .at) (a .s .now) in
-    c .stops3 .ensures ∙ sym (next-no-place (a .wide) (a .places) (a .count) (a .at) (drop (a .at) (a .s .now)) (no-end (c .before .before .before .before .before .before)) (omega arith) (omega arith) (omega arith))
+    let rest = drop (a .at) (a .s .now) in
+    let more = no-end (c .before .before .before .before .before .before) in
+    c .stops3 .ensures ∙ sym (next-no-place (a .wide) (a .places) (a .count) (a .at) rest more (omega arith) (omega arith) (omega arith))
 
 read-word-requires : tie.Need-read-word-requires
 read-word-requires c κs = search needs
@@ -89,7 +95,10 @@ enum-told : tie.Need-enum-told
 enum-told c = search needs
 
 -- where a word was read the step is by what the word is
-found : (c : tie.After-read-word) → next (c .before .before .before .before .before .before .before) ≡ stepOf (c .before .before .before .before .before .before .before .before .before .args .at) (c .read-word .result) (c .read-word .result .answer)
+found : (c : tie.After-read-word) →
+    let start = c .before .before .before .before .before .before .before in
+    let word = c .read-word .result in
+    next start ≡ stepOf (start .before .before .args .at) word (word .answer)
 found c =
     let a = c .before .before .before .before .before .before .before .before .before .args in
     let s = a .s .now in
@@ -97,7 +106,8 @@ found c =
     let left = length-drop (a .at) s in
     let all : take (length s - a .at) rest ≡ rest = take-all (length s - a .at) rest (omega arith) in
     let read : c .read-word .result ≡ wordOf (a .wide) rest = c .read-word .ensures ∙ ap (wordOf (a .wide)) all in
-    next-word (a .wide) (a .places) (a .count) (a .at) rest (no-end (c .before .before .before .before .before .before)) (omega arith) (omega arith) (omega arith)
+    let more = no-end (c .before .before .before .before .before .before) in
+    next-word (a .wide) (a .places) (a .count) (a .at) rest more (omega arith) (omega arith) (omega arith)
     ∙ ap (λ (o : OneWord). stepOf (a .at) o (o .answer)) (sym read)
 
 returns-5 : tie.Need-returns-5

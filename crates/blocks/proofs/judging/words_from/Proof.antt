@@ -8,7 +8,8 @@ use lib.ListN.{length, take, drop, length-set}
 use lib.Seq.{length-take-le}
 use Rattle.words.specs.Reading.{wordSize}
 use Rattle.blocks.specs.declared.judging.Block.{Block}
-use Rattle.blocks.specs.Judging.{blockFrom, keptOf}
+use Rattle.blocks.specs.Judging.{blockFrom}
+use Rattle.blocks.specs.Keeping.{keptOf}
 use Rattle.blocks.proofs.Steps.{width-small, walk-ends, walk-stops, walk-goes, walk-on, ends-inside, goes-inside, kept-more, kept-judged}
 use Rattle.blocks.proofs.judging.words_from.Statement.{statement}
 use Rattle.blocks.proofs.judging.words_from.Tie as tie
@@ -60,7 +61,13 @@ returns c =
     let a = here .before .before .before .before .before .before .args in
     let none = l .inv .3 ∙ ap (λ (b : Block). drop (l .n) (b .words)) (here .before .before .before .no-block .ensures) in
     let judged = kept-judged (c .ended .result) (l .words) (l .n) (omega arith) none (c .ended .ensures .0) in
-    let block = l .inv .4 ∙ walk-ends (a .wide) (a .places) (l .n) (l .at) (drop (l .at) (a .s .now)) (take (l .n) (l .words)) (l .inv .0) (kept (here .before)) (here .step .result) (here .step .ensures) (c .before .enum-told .given .1) in
+    let rest = drop (l .at) (a .s .now) in
+    let ws = take (l .n) (l .words) in
+    let few = l .inv .0 in
+    let step = here .step in
+    let block =
+    l .inv .4
+    ∙ walk-ends (a .wide) (a .places) (l .n) (l .at) rest ws few (kept (here .before)) (step .result) (step .ensures) (c .before .enum-told .given .1) in
     rw block (judged ∙ rw (c .ended .ensures .1))
 
 enum-known-next : tie.Need-enum-known-next Inv-loop μ-loop
@@ -74,15 +81,23 @@ returns-2 c =
     let here = c .before .before .before .before in
     let l = here .before .loop in
     let a = here .before .before .before .before .before .before .args in
-    let block = l .inv .4 ∙ walk-stops (a .wide) (a .places) (l .n) (l .at) (drop (l .at) (a .s .now)) (take (l .n) (l .words)) (l .inv .0) (kept (here .before)) (here .step .result) (here .step .ensures) _ (c .before .before .next .given .1) in
+    let rest = drop (l .at) (a .s .now) in
+    let ws = take (l .n) (l .words) in
+    let few = l .inv .0 in
+    let step = here .step in
+    let block =
+    l .inv .4
+    ∙ walk-stops (a .wide) (a .places) (l .n) (l .at) rest ws few (kept (here .before)) (step .result) (step .ensures) _ (c .before .before .next .given .1) in
     c .refuse .ensures ∙ sym (ap keptOf block)
 
 enum-told-2 : tie.Need-enum-told-2 Inv-loop μ-loop
 enum-told-2 c = search needs
 
 -- where a word stands there is a place for its record, and the word's bytes
-goes : (c : tie.After-word Inv-loop μ-loop)
-    → let l = c .before .before .before .before .loop in let a = c .before .before .before .before .before .before .before .before .before .args in (l .n < 32) × (l .at + wordSize (a .wide) ≤ length (a .s .now))
+goes : (c : tie.After-word Inv-loop μ-loop) →
+    let l = c .before .before .before .before .loop in
+    let a = c .before .before .before .before .before .before .before .before .before .args in
+    (l .n < 32) × (l .at + wordSize (a .wide) ≤ length (a .s .now))
 goes c =
     let here = c .before .before .before in
     let l = here .before .loop in
@@ -99,7 +114,9 @@ add-n : tie.Need-add-n Inv-loop μ-loop
 add-n c = omega arith
 
 add-at : tie.Need-add-at Inv-loop μ-loop
-add-at c = omega (arith, goes c .1, c .before .before .before .before .before .before .before .width-of .ensures, c .before .before .before .before .before .before .before .before .before .good .0)
+add-at c =
+    let width = c .before .before .before .before .before .before .before in
+    omega (arith, goes c .1, width .width-of .ensures, width .before .before .good .0)
 
 loop-less : tie.Need-loop-less Inv-loop μ-loop
 loop-less c = omega (arith, goes c .0)
@@ -114,9 +131,16 @@ loop-again c =
     let w = here .step .result .word in
     let room : l .n < length (l .words) = omega (arith, goes c .0) in
     let size : width .result + 8 ≡ wordSize (a .wide) = omega (arith, width .ensures) in
-    let block = l .inv .4 ∙ walk-goes (a .wide) (a .places) (l .n) (l .at) (drop (l .at) (a .s .now)) (take (l .n) (l .words)) (l .inv .0) (kept (here .before)) (here .step .result) (here .step .ensures) (c .before .enum-told2 .given .1) in
+    let rest = drop (l .at) (a .s .now) in
+    let ws = take (l .n) (l .words) in
+    let few = l .inv .0 in
+    let step = here .step in
+    let block =
+    l .inv .4
+    ∙ walk-goes (a .wide) (a .places) (l .n) (l .at) rest ws few (kept (here .before)) (step .result) (step .ensures) (c .before .enum-told2 .given .1) in
     let on = walk-on (32 - (l .n + 1)) (l .n) (l .at) (width .result + 8) (a .wide) (a .places) (a .s .now) (l .words) w room size in
-    (omega (arith, goes c .0), omega (arith, goes c .1, size), length-set (l .words) (l .n) w ∙ l .inv .2, kept-more (l .words) first (l .n) w (l .inv .3), block ∙ on)
+    let long = length-set (l .words) (l .n) w ∙ l .inv .2 in
+    (omega (arith, goes c .0), omega (arith, goes c .1, size), long, kept-more (l .words) first (l .n) w (l .inv .3), block ∙ on)
 
 pub words-from-spec : {M : Type 1} → statement M
 words-from-spec =

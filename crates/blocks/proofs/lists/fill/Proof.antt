@@ -1,5 +1,5 @@
--- `fill` meets its contract, by a walk of its MIR with a loop. The borrow of the list is opened once, before the loop, and closed once, after it; the block's array, copied into a local, is taken apart into its words.
--- After i turns the list is `mix words ys i`.
+-- `fill` meets its contract, by a walk of its MIR with a loop: the list's borrow is opened before it and closed after it, and the block's array,
+-- copied into a local, is taken apart into its words. After i turns the list is `mix words ys i`.
 use mathlib.Core.Path.{_≡_, refl, sym, ap, subst}
 use mathlib.Core.Bool.{Bool, true, false, not}
 use Prim.Native.Nat.{ℕ, _+_, _<_, _≤_, zero-le}
@@ -21,8 +21,10 @@ use prog.Wp.{Heap, Out, Env, afterSeq, afterBlock, afterTurn, Calls, Loops, Wp, 
 use ghost.Atoms.{Atoms}
 use contract.Monad.{Fun}
 use contract.Running.{givenOf, tables, tablesOf}
-use types.Kit.{Given, Item, ‵, _⊛_, ⋆, runs, anyQ, atRet, Sq, _$_, _∵_, !, qed, by, move, keep, drop, use1, split, join, rewrite, fsplit, fjoin, feqI, suffices, frame, done}
-use types.Run.{look, look-raw, init, store, store-raw, forget, stop, hop, fld, from, load, lit, unit-lit, of-opd, bin, addr, assigns, assigns-last, first, blocks, stays, leaves-loop, returns, enter, alloc1, alloc0, params1, pass1, pass0, free1, free0, exec, Below, again, loops}
+use types.Kit.{Given, Item, ‵, _⊛_, ⋆, runs, anyQ, atRet, Sq, _$_, _∵_, !, qed, by, move, keep, drop}
+use types.Kit.{use1, split, join, rewrite, fsplit, fjoin, feqI, suffices, frame, done}
+use types.Run.{look, look-raw, init, store, store-raw, forget, stop, hop, fld, from, load, lit, unit-lit, of-opd, bin, addr, assigns, assigns-last, first}
+use types.Run.{blocks, stays, leaves-loop, returns, enter, alloc1, alloc0, params1, pass1, pass0, free1, free0, exec, Below, again, loops}
 use types.Part.{whole, sub, look-in}
 use sound.WpLaws.{WpFn-mono}
 use denote.RattleType.{owns}
@@ -48,7 +50,8 @@ use Rattle.words.proofs.records.Word as T
 use Rattle.words.proofs.records.Word.Laws as T′
 use Rattle.blocks.proofs.judging.Block as B
 use Rattle.blocks.proofs.judging.Block.Laws as B′
-use Rattle.blocks.proofs.Row.{R, val, vals, tells, blank, makes, typed, mix, mix-more, mix-length, word-place, place-fits, next-fits, int, words-ty, Upto, Nearer, Nearer-wf, block, array, words-are, n-fits, arr, local-apart, local-whole}
+use Rattle.blocks.proofs.Row.{R, val, vals, tells, blank, makes, typed, mix, mix-more, mix-length, word-place, place-fits, next-fits, int}
+use Rattle.blocks.proofs.Row.{words-ty, Upto, Nearer, Nearer-wf, block, array, words-are, n-fits, arr, local-apart, local-whole}
 use Rattle.blocks.proofs.lists.fill.Key.{name as #fill}
 use Rattle.blocks.proofs.lists.fill as f
 use Rattle.blocks.proofs.lists.fill.Statement as stated
@@ -62,7 +65,8 @@ stayed = (stay-slice (0 ∷ []) tt (plain (λ _. R)), (stay-none (λ _. B.the-ro
 abbrev slice : Ty
 slice = sliceTy (tyRef (named 0) mut (pointee (R .written)))
 
-module _ {M : Type 1} (𝓤 : URA M) (H : Heap 𝓤) (A : Atoms 𝓤) (W : Given 𝓤 H A) (at-mem : Memory → SProp 𝓤) (run : Routine → Fun 𝓤) (κ : Lft) (q : Share) (b o : ℕ) (γ : GName) (ys : List Word) (k : Block)
+module _ {M : Type 1} (𝓤 : URA M) (H : Heap 𝓤) (A : Atoms 𝓤) (W : Given 𝓤 H A) (at-mem : Memory → SProp 𝓤) (run : Routine → Fun 𝓤) (κ : Lft) (q : Share)
+    (b o : ℕ) (γ : GName) (ys : List Word) (k : Block)
     (gn : Room R (length ys)) (gk : Is B.the-row k (block k ∷ [])) (small : k .n ≤ 32) (within : k .n ≤ length ys) where
   abbrev n : ℕ
   n = k .n
@@ -104,10 +108,11 @@ module _ {M : Type 1} (𝓤 : URA M) (H : Heap 𝓤) (A : Atoms 𝓤) (W : Given
   exits : ent 𝓤 (⋆ 𝓤 H A (‵ (fobs γ (codedHoleys R .code (heres R zs))) ∷ ‵ (fbor κ (Held R (length zs) b o γ)) ∷ ‵ (flft κ q) ∷ [])) (Post vunit)
   exits =
       qed W (‵ (fobs γ (codedHoleys R .code (heres R zs))) ∷ ‵ (fbor κ (Held R (length zs) b o γ)) ∷ ‵ (flft κ q) ∷ []) ∵
-      suffices ! _ (ends-at 𝓤 H A f.ended stayed (f.clauses 𝓤 H A at-mem run) W (((κ, tt), (q, tt), tt, a, machs), tt) vunit tt (zs, (tt, tt)) (same, (tt, tt))) $ says ! refl $
-      nothing ! $ move ! (3 ∷ 0 ∷ []) $ join ! $ frame ! $
-      fjoin ! $ pureI ! (at-slice R (x zs) (s ∷ [])) (tt, (tt, tt)) (ap (λ (m : ℕ). sliceVal (b, o) m ∷ []) (sym same), subst (Room R) (sym same) gn) $ fjoin ! $
-      nothing ! $ owned ! B.the-row (Is B.the-row) (LL.makes B.the-type B′.the-plain 𝓤 H A) k _ gk $ fjoin ! $ move ! (1 ∷ 0 ∷ []) $ fjoin ! $ feqI ! (List Val) (vunit ∷ []) (vunit ∷ []) refl $ move ! (1 ∷ 0 ∷ []) $ done !
+      suffices ! _ (ends-at 𝓤 H A f.ended stayed (f.clauses 𝓤 H A at-mem run) W (((κ, tt), (q, tt), tt, a, machs), tt) vunit tt (zs, (tt, tt))
+      (same, (tt, tt))) $ says ! refl $ nothing ! $ move ! (3 ∷ 0 ∷ []) $ join ! $ frame ! $
+      fjoin ! $ pureI ! (at-slice R (x zs) (s ∷ [])) (tt, (tt, tt)) (ap (λ (m : ℕ). sliceVal (b, o) m ∷ []) (sym same), subst (Room R) (sym same) gn) $
+      fjoin ! $ nothing ! $ owned ! B.the-row (Is B.the-row) (LL.makes B.the-type B′.the-plain 𝓤 H A) k _ gk $ fjoin ! $ move ! (1 ∷ 0 ∷ []) $ fjoin ! $
+      feqI ! (List Val) (vunit ∷ []) (vunit ∷ []) refl $ move ! (1 ∷ 0 ∷ []) $ done !
 
   module _ (𝓣 : Tables 𝓤 H) (l₀ l₁ l₂ l₃ l₄ l₅ l₆ l₇ l₈ l₉ l₁₀ l₁₁ l₁₂ : ℕ) where
     abbrev C : Calls 𝓤 H
@@ -117,47 +122,55 @@ module _ {M : Type 1} (𝓤 : URA M) (H : Heap 𝓤) (A : Atoms 𝓤) (W : Given
     Λ = 𝓣 .Λ
 
     abbrev En : Env 𝓤 H
-    En = (tyUnit, l₀) ∷ (slice, l₁) ∷ (B′.mir, l₂) ∷ (words-ty, l₃) ∷ (int, l₄) ∷ (int, l₅) ∷ (tyBool, l₆) ∷ (int, l₇) ∷ (tyPtr, l₈) ∷ (tyPtr, l₉) ∷ (T′.mir, l₁₀) ∷ (int, l₁₁) ∷ (tyPtr, l₁₂) ∷ []
+    En =
+        (tyUnit, l₀) ∷ (slice, l₁) ∷ (B′.mir, l₂) ∷ (words-ty, l₃) ∷ (int, l₄) ∷ (int, l₅) ∷ (tyBool, l₆) ∷ (int, l₇) ∷ (tyPtr, l₈) ∷ (tyPtr, l₉)
+        ∷ (T′.mir, l₁₀) ∷ (int, l₁₁) ∷ (tyPtr, l₁₂) ∷ []
 
     -- the invariant. The list's row is at 0, the block's words are at 1, the open borrow at 2 to 4, and each local where the comments below say
     abbrev At : Upto n → List (Item 𝓤)
     At i = ‵ (row R fullShare (mix ws ys (i .0)) b o) ∷ ‵ (row R fullShare ws l₃ 0)
         ∷ ‵ (fobor κ q (Held R (length ys) b o γ)) ∷ ‵ (fobs γ (codedHoleys R .code (heres R ys))) ∷ ‵ (fauth γ (codedHoleys R .code (heres R ys)))
         -- 5: _12; 7: _11; 9: _10; 11: _9; 13: _8; 15: _7; 17: _6
-        ∷ ‵ (froom tyPtr l₁₂ 0) ∷ ‵ (fdies tyPtr l₁₂) ∷ ‵ (froom int l₁₁ 0) ∷ ‵ (fdies int l₁₁) ∷ ‵ (froom T′.mir l₁₀ 0) ∷ ‵ (fdies T′.mir l₁₀) ∷ ‵ (froom tyPtr l₉ 0) ∷ ‵ (fdies tyPtr l₉)
+        ∷ ‵ (froom tyPtr l₁₂ 0) ∷ ‵ (fdies tyPtr l₁₂) ∷ ‵ (froom int l₁₁ 0) ∷ ‵ (fdies int l₁₁) ∷ ‵ (froom T′.mir l₁₀ 0) ∷ ‵ (fdies T′.mir l₁₀)
+        ∷ ‵ (froom tyPtr l₉ 0) ∷ ‵ (fdies tyPtr l₉)
         ∷ ‵ (froom tyPtr l₈ 0) ∷ ‵ (fdies tyPtr l₈) ∷ ‵ (froom int l₇ 0) ∷ ‵ (fdies int l₇) ∷ ‵ (froom tyBool l₆ 0) ∷ ‵ (fdies tyBool l₆)
         -- 19: i; 21: n; 23: the array dies; 24: the block; 26: the slice; 28: room for the result
         ∷ ‵ (fat fullShare int l₅ 0 (vint w64 (i .0))) ∷ ‵ (fdies int l₅) ∷ ‵ (fat fullShare int l₄ 0 (vint w64 n)) ∷ ‵ (fdies int l₄) ∷ ‵ (fdies words-ty l₃)
-        ∷ ‵ (fat fullShare B′.mir l₂ 0 (block k)) ∷ ‵ (fdies B′.mir l₂) ∷ ‵ (fat fullShare slice l₁ 0 s) ∷ ‵ (fdies slice l₁) ∷ ‵ (froom tyUnit l₀ 0) ∷ ‵ (fdies tyUnit l₀) ∷ []
+        ∷ ‵ (fat fullShare B′.mir l₂ 0 (block k)) ∷ ‵ (fdies B′.mir l₂) ∷ ‵ (fat fullShare slice l₁ 0 s) ∷ ‵ (fdies slice l₁) ∷ ‵ (froom tyUnit l₀ 0)
+        ∷ ‵ (fdies tyUnit l₀) ∷ []
 
     -- a turn's postcondition: it ends nearer to n, or the loop is left and the rest of the body runs
     abbrev Turned : Upto n → Out → SProp 𝓤
-    Turned i = afterTurn 𝓤 H (Below 𝓤 H A (Nearer n) At i) (afterBlock 𝓤 H (afterSeq 𝓤 H (Wp 𝓤 H C Λ En steps.t-5 (atReturn 𝓤 H En Post)) (atReturn 𝓤 H En Post)))
+    Turned i =
+        afterTurn 𝓤 H (Below 𝓤 H A (Nearer n) At i) (afterBlock 𝓤 H (afterSeq 𝓤 H (Wp 𝓤 H C Λ En steps.t-5 (atReturn 𝓤 H En Post)) (atReturn 𝓤 H En Post)))
 
     turn-on : (i : Upto n) (t : Bool) → ltb (i .0) n ≡ t → Sq W (At i) (runs C Λ En steps.turn-1 (anyQ (Turned i)))
     unfolding afterTurn
     turn-on i true e =
-        assigns ! (bin ! (load ! (from ! (stop !)) (look ! 19 refl)) (load ! (from ! (stop !)) (look ! 21 refl)) tt) (from ! (stop !)) (init ! 17 refl (tt, tt)) $
-        rewrite ! 17 (λ (t : Bool). ‵ (fat fullShare tyBool l₆ 0 (vbool t))) e refl $ stays ! (load ! (from ! (stop !)) (look ! 17 refl)) $
+        assigns ! (bin ! (load ! (from ! (stop !)) (look ! 19 refl)) (load ! (from ! (stop !)) (look ! 21 refl)) tt) (from ! (stop !))
+        (init ! 17 refl (tt, tt)) $ rewrite ! 17 (λ (t : Bool). ‵ (fat fullShare tyBool l₆ 0 (vbool t))) e refl $
+        stays ! (load ! (from ! (stop !)) (look ! 17 refl)) $
         -- the word is read from the block's array
-        assigns ! (bin ! (load ! (from ! (stop !)) (look ! 19 refl)) (lit ! tt) (record { fits = place-fits less small })) (from ! (stop !)) (init ! 15 refl (tt, record { fits = place-fits less small })) $
-        assigns ! (addr ! (from ! (stop !))) (from ! (stop !)) (init ! 13 refl (tt, tt)) $
-        assigns ! (bin ! (load ! (from ! (stop !)) (look ! 13 refl)) (load ! (from ! (stop !)) (look ! 15 refl)) tt) (from ! (stop !)) (init ! 11 refl (tt, tt)) $
-        rewrite ! 11 (λ (p : ℕ). ‵ (fat fullShare tyPtr l₉ 0 (vptr l₃ p))) (word-place 0 (i .0)) refl $
+        assigns ! (bin ! (load ! (from ! (stop !)) (look ! 19 refl)) (lit ! tt) (record { fits = place-fits less small })) (from ! (stop !))
+        (init ! 15 refl (tt, record { fits = place-fits less small })) $ assigns ! (addr ! (from ! (stop !))) (from ! (stop !)) (init ! 13 refl (tt, tt)) $
+        assigns ! (bin ! (load ! (from ! (stop !)) (look ! 13 refl)) (load ! (from ! (stop !)) (look ! 15 refl)) tt) (from ! (stop !))
+        (init ! 11 refl (tt, tt)) $ rewrite ! 11 (λ (p : ℕ). ‵ (fat fullShare tyPtr l₉ 0 (vptr l₃ p))) (word-place 0 (i .0)) refl $
         move ! (1 ∷ []) $ elem-out ! R (Is R) (shows 𝓤 H A R) vals tells fullShare ws (i .0) blank l₃ 0 in-ws (λ g.
         assigns ! (of-opd ! (load ! (from ! (hop ! (look ! 13 refl) (stop !))) (look-raw ! 0 refl))) (from ! (stop !)) (init ! 11 refl (typed 𝓤 H A W w g)) $
         elem-back ! R fullShare ws (i .0) blank (val w ∷ []) l₃ 0 in-ws $ move ! (1 ∷ []) $
         -- and stored into the list
-        assigns ! (bin ! (load ! (from ! (stop !)) (look ! 19 refl)) (lit ! tt) (record { fits = place-fits less small })) (from ! (stop !)) (init ! 7 refl (tt, record { fits = place-fits less small })) $
-        assigns ! (bin ! (load ! (from ! (fld ! refl (stop !))) (look-in ! 26 (sub ! 0 refl (whole !)))) (load ! (from ! (stop !)) (look ! 7 refl)) tt) (from ! (stop !)) (init ! 5 refl (tt, tt)) $
-        rewrite ! 5 (λ (p : ℕ). ‵ (fat fullShare tyPtr l₁₂ 0 (vptr b p))) (word-place o (i .0)) refl $
+        assigns ! (bin ! (load ! (from ! (stop !)) (look ! 19 refl)) (lit ! tt) (record { fits = place-fits less small })) (from ! (stop !))
+        (init ! 7 refl (tt, record { fits = place-fits less small })) $
+        assigns ! (bin ! (load ! (from ! (fld ! refl (stop !))) (look-in ! 26 (sub ! 0 refl (whole !)))) (load ! (from ! (stop !)) (look ! 7 refl)) tt)
+        (from ! (stop !)) (init ! 5 refl (tt, tt)) $ rewrite ! 5 (λ (p : ℕ). ‵ (fat fullShare tyPtr l₁₂ 0 (vptr b p))) (word-place o (i .0)) refl $
         elem-out ! R (Is R) (shows 𝓤 H A R) vals tells fullShare (mix ws ys (i .0)) (i .0) blank b o in-mix (λ _.
         assigns ! (of-opd ! (load ! (from ! (stop !)) (look ! 11 refl))) (from ! (hop ! (look ! 7 refl) (stop !))) (store-raw ! 0 refl (typed 𝓤 H A W w g)) $
-        move ! (1 ∷ []) $ drop ! $ owned ! R (Is R) (makes 𝓤 H A) w _ g $ move ! (1 ∷ 0 ∷ []) $ elem-put ! R fullShare (mix ws ys (i .0)) (i .0) w (val w ∷ []) b o in-mix $
+        move ! (1 ∷ []) $ drop ! $ owned ! R (Is R) (makes 𝓤 H A) w _ g $ move ! (1 ∷ 0 ∷ []) $
+        elem-put ! R fullShare (mix ws ys (i .0)) (i .0) w (val w ∷ []) b o in-mix $
         rewrite ! 0 (λ (l : List Word). ‵ (row R fullShare l b o)) (mix-more ws ys (i .0) blank in-ws in-ys) refl $
-        assigns-last ! (bin ! (load ! (from ! (stop !)) (look ! 19 refl)) (lit ! tt) (record { fits = next-fits less small })) (from ! (stop !)) (store ! 19 refl (tt, record { fits = next-fits less small })) $
-        forget ! 5 refl $ forget ! 7 refl $ forget ! 9 refl $ forget ! 11 refl $ forget ! 13 refl $ forget ! 15 refl $ forget ! 17 refl $
-        again ! (Nearer n) At i (i .0 + 1, add-one-le less) (add-one-dec n (i .0) less)))
+        assigns-last ! (bin ! (load ! (from ! (stop !)) (look ! 19 refl)) (lit ! tt) (record { fits = next-fits less small })) (from ! (stop !))
+        (store ! 19 refl (tt, record { fits = next-fits less small })) $ forget ! 5 refl $ forget ! 7 refl $ forget ! 9 refl $ forget ! 11 refl $
+        forget ! 13 refl $ forget ! 15 refl $ forget ! 17 refl $ again ! (Nearer n) At i (i .0 + 1, add-one-le less) (add-one-dec n (i .0) less)))
       where
         less : i .0 < n
         less = ltb→lt (i .0) n (subst Holds (sym e) tt)
@@ -174,17 +187,21 @@ module _ {M : Type 1} (𝓤 : URA M) (H : Heap 𝓤) (A : Atoms 𝓤) (W : Given
         w : Word
         w = getD ws (i .0) blank
     turn-on i false e =
-        assigns ! (bin ! (load ! (from ! (stop !)) (look ! 19 refl)) (load ! (from ! (stop !)) (look ! 21 refl)) tt) (from ! (stop !)) (init ! 17 refl (tt, tt)) $
-        rewrite ! 17 (λ (t : Bool). ‵ (fat fullShare tyBool l₆ 0 (vbool t))) e refl $ leaves-loop ! (load ! (from ! (stop !)) (look ! 17 refl)) $
-        exec ! C Λ En steps.t-5 (atRet En Post) $ assigns ! (of-opd ! (unit-lit !)) (from ! (stop !)) (init ! 28 refl (tt, tt)) $
+        assigns ! (bin ! (load ! (from ! (stop !)) (look ! 19 refl)) (load ! (from ! (stop !)) (look ! 21 refl)) tt) (from ! (stop !))
+        (init ! 17 refl (tt, tt)) $ rewrite ! 17 (λ (t : Bool). ‵ (fat fullShare tyBool l₆ 0 (vbool t))) e refl $
+        leaves-loop ! (load ! (from ! (stop !)) (look ! 17 refl)) $ exec ! C Λ En steps.t-5 (atRet En Post) $
+        assigns ! (of-opd ! (unit-lit !)) (from ! (stop !)) (init ! 28 refl (tt, tt)) $
         rewrite ! 0 (λ (j : ℕ). ‵ (row R fullShare (mix ws ys j) b o)) all-done refl $
         move ! (0 ∷ 2 ∷ 3 ∷ 4 ∷ []) $ closes-slice ! tt R ys zs same b o $
         -- [obs; the borrow; the token; the block's words; _12 at 4; …]: the array is one local again
-        move ! (3 ∷ []) $ use1 W (‵ (fat fullShare words-ty l₃ 0 (arr 𝓤 H A W 32 ws l₃)) ⊛ ‵ (Array R 32 .own ws (arr 𝓤 H A W 32 ws l₃ ∷ []))) (local-whole 𝓤 H A W 32 ws l₃ count) $ split ! $ move ! (1 ∷ []) $ drop ! $
+        move ! (3 ∷ []) $ use1 W (‵ (fat fullShare words-ty l₃ 0 (arr 𝓤 H A W 32 ws l₃)) ⊛ ‵ (Array R 32 .own ws (arr 𝓤 H A W 32 ws l₃ ∷ [])))
+        (local-whole 𝓤 H A W 32 ws l₃ count) $ split ! $ move ! (1 ∷ []) $ drop ! $
         -- [the array; obs; the borrow; the token; _12 at 4; …; _6 at 16; i at 18; n at 20; 22; the block at 23; the slice at 25; the result at 27]
-        returns ! (look ! 27 refl) $ forget ! 0 refl $ forget ! 16 refl $ forget ! 18 refl $ forget ! 20 refl $ forget ! 23 refl $ forget ! 25 refl $ forget ! 27 refl $
-        move ! (27 ∷ 28 ∷ []) $ free1 ! $ move ! (25 ∷ 26 ∷ []) $ free1 ! $ move ! (23 ∷ 24 ∷ []) $ free1 ! $ move ! (0 ∷ 22 ∷ []) $ free1 ! $ move ! (19 ∷ 20 ∷ []) $ free1 ! $ move ! (17 ∷ 18 ∷ []) $ free1 ! $
-        move ! (15 ∷ 16 ∷ []) $ free1 ! $ move ! (13 ∷ 14 ∷ []) $ free1 ! $ move ! (11 ∷ 12 ∷ []) $ free1 ! $ move ! (9 ∷ 10 ∷ []) $ free1 ! $ move ! (7 ∷ 8 ∷ []) $ free1 ! $ move ! (5 ∷ 6 ∷ []) $ free1 ! $ move ! (3 ∷ 4 ∷ []) $ free1 ! $
+        returns ! (look ! 27 refl) $ forget ! 0 refl $ forget ! 16 refl $ forget ! 18 refl $ forget ! 20 refl $ forget ! 23 refl $ forget ! 25 refl $
+        forget ! 27 refl $ move ! (27 ∷ 28 ∷ []) $ free1 ! $ move ! (25 ∷ 26 ∷ []) $ free1 ! $ move ! (23 ∷ 24 ∷ []) $ free1 ! $ move ! (0 ∷ 22 ∷ []) $
+        free1 ! $ move ! (19 ∷ 20 ∷ []) $ free1 ! $ move ! (17 ∷ 18 ∷ []) $ free1 ! $
+        move ! (15 ∷ 16 ∷ []) $ free1 ! $ move ! (13 ∷ 14 ∷ []) $ free1 ! $ move ! (11 ∷ 12 ∷ []) $ free1 ! $ move ! (9 ∷ 10 ∷ []) $ free1 ! $
+        move ! (7 ∷ 8 ∷ []) $ free1 ! $ move ! (5 ∷ 6 ∷ []) $ free1 ! $ move ! (3 ∷ 4 ∷ []) $ free1 ! $
         free0 ! $ by ! exits
       where
         all-done : i .0 ≡ n
@@ -199,32 +216,37 @@ module _ {M : Type 1} (𝓤 : URA M) (H : Heap 𝓤) (A : Atoms 𝓤) (W : Given
 
   walk : (𝓣 : Tables 𝓤 H) → ent 𝓤 (onEntry 𝓤 H A f.signature (κ, tt) (q, tt) a machs) (WpFn 𝓤 H (𝓣 .C) (𝓣 .Λ) code.function (s ∷ block k ∷ []) Post)
   walk 𝓣 =
-      qed W ((‵ (flft κ q) ⊛ ‵ ftrue) ∷ ‵ (owns (MutSlice (named 0) κ R ∷ B.the-row ∷ []) a machs) ∷ []) ∵ enter ! (𝓣 .C) (𝓣 .Λ) code.function (s ∷ block k ∷ []) _ $
-      alloc1 ! (λ l₀. alloc1 ! (λ l₁. alloc1 ! (λ l₂. alloc1 ! (λ l₃. alloc1 ! (λ l₄. alloc1 ! (λ l₅. alloc1 ! (λ l₆. alloc1 ! (λ l₇. alloc1 ! (λ l₈. alloc1 ! (λ l₉. alloc1 ! (λ l₁₀. alloc1 ! (λ l₁₁. alloc1 ! (λ l₁₂. alloc0 ! $ params1 ! $
+      qed W ((‵ (flft κ q) ⊛ ‵ ftrue) ∷ ‵ (owns (MutSlice (named 0) κ R ∷ B.the-row ∷ []) a machs) ∷ []) ∵
+      enter ! (𝓣 .C) (𝓣 .Λ) code.function (s ∷ block k ∷ []) _ $ alloc1 ! (λ l₀. alloc1 ! (λ l₁. alloc1 ! (λ l₂. alloc1 ! (λ l₃. alloc1 ! (λ l₄.
+      alloc1 ! (λ l₅. alloc1 ! (λ l₆. alloc1 ! (λ l₇. alloc1 ! (λ l₈. alloc1 ! (λ l₉. alloc1 ! (λ l₁₀. alloc1 ! (λ l₁₁. alloc1 ! (λ l₁₂. alloc0 ! $ params1 ! $
       -- local j at 2 * (12 - j): _12 at 0, …, _5 at 14, _4 at 16, _3 at 18, _2 at 20, _1 at 22, _0 at 24; the token at 26; what is owned at 27
-      pass1 ! (init ! 22 refl (tt, (tt, (record { fits = gn .0 }, tt)))) $ pass1 ! (init ! 20 refl (LL.lawful B.the-type B′.the-laws 𝓤 H A W .typed k _ gk .0)) $ pass0 ! $
+      pass1 ! (init ! 22 refl (tt, (tt, (record { fits = gn .0 }, tt)))) $
+      pass1 ! (init ! 20 refl (LL.lawful B.the-type B′.the-laws 𝓤 H A W .typed k _ gk .0)) $ pass0 ! $
       assigns ! (of-opd ! (load ! (from ! (fld ! refl (stop !))) (look-in ! 20 (sub ! 0 refl (whole !))))) (from ! (stop !))
       (init ! 18 refl (B′.the-laws .0 .lawful 𝓤 H A W .typed (map (T.the-type .to) ws) (array ws ∷ []) (LL.owed B.the-type B′.the-laws k _ gk .0) .0)) $
-      assigns ! (of-opd ! (load ! (from ! (fld ! refl (stop !))) (look-in ! 20 (sub ! 1 refl (whole !))))) (from ! (stop !)) (init ! 16 refl (tt, record { fits = n-fits k gk })) $
+      assigns ! (of-opd ! (load ! (from ! (fld ! refl (stop !))) (look-in ! 20 (sub ! 1 refl (whole !))))) (from ! (stop !))
+      (init ! 16 refl (tt, record { fits = n-fits k gk })) $
       assigns ! (of-opd ! (lit ! tt)) (from ! (stop !)) (init ! 14 refl (tt, record { fits = lit< tt })) $
       move ! (18 ∷ []) $ use1 W (‵ (row R fullShare ws l₃ 0)) (local-apart 𝓤 H A W 32 ws l₃ (array ws) (words-are k gk)) $
       move ! (27 ∷ []) $ fsplit ! $ fsplit ! $ move ! (1 ∷ []) $ fsplit ! $ move ! (30 ∷ []) $ split ! $ move ! (2 ∷ 3 ∷ 0 ∷ []) $
       opens-slice ! tt R ys b o $
       -- [the list's row; the open borrow; obs; auth; true; list's fact; the block's; the block's words; _12; …]
-      keep ! (0 ∷ 7 ∷ 1 ∷ 2 ∷ 3 ∷ 8 ∷ 9 ∷ 10 ∷ 11 ∷ 12 ∷ 13 ∷ 14 ∷ 15 ∷ 16 ∷ 17 ∷ 18 ∷ 19 ∷ 20 ∷ 21 ∷ 22 ∷ 23 ∷ 24 ∷ 25 ∷ 26 ∷ 27 ∷ 28 ∷ 29 ∷ 30 ∷ 31 ∷ 32 ∷ []) $
-      from-loop 𝓣 l₀ l₁ l₂ l₃ l₄ l₅ l₆ l₇ l₈ l₉ l₁₀ l₁₁ l₁₂)))))))))))))
+      keep ! (0 ∷ 7 ∷ 1 ∷ 2 ∷ 3 ∷ 8 ∷ 9 ∷ 10 ∷ 11 ∷ 12 ∷ 13 ∷ 14 ∷ 15 ∷ 16 ∷ 17 ∷ 18 ∷ 19 ∷ 20 ∷ 21 ∷ 22 ∷ 23 ∷ 24 ∷ 25 ∷ 26 ∷ 27 ∷ 28 ∷ 29 ∷ 30 ∷ 31 ∷ 32
+      ∷ []) $ from-loop 𝓣 l₀ l₁ l₂ l₃ l₄ l₅ l₆ l₇ l₈ l₉ l₁₀ l₁₁ l₁₂)))))))))))))
 
 module _ {M : Type 1} (𝓤 : URA M) (H : Heap 𝓤) (A : Atoms 𝓤) (W : Given 𝓤 H A) (at-mem : Memory → SProp 𝓤) (run : Routine → Fun 𝓤) (𝓣 : Tables 𝓤 H) where
   fill-walks : Walks 𝓤 H A f.ended stayed (WpFn 𝓤 H (𝓣 .C) (𝓣 .Λ) code.function) (f.clauses 𝓤 H A at-mem run)
   fill-walks = walked 𝓤 H A f.ended stayed (f.clauses 𝓤 H A at-mem run) (WpFn 𝓤 H (𝓣 .C) (𝓣 .Λ) code.function)
       (λ κs. (slice-vals, (LL.vals B.the-type B′.the-laws, tt))) (λ κs. (mut-slice-tells (named 0) (κs .0) R, (LL.tells B.the-type B′.the-laws, tt)))
       (λ κs qs bounds a g are. needs 𝓤 ((a .1 .0 .n ≤ 32) × (a .1 .0 .n ≤ length (a .0 .now))) _
-      (λ ok. walk 𝓤 H A W at-mem run (κs .0) (qs .0) (a .0 .ptr .0) (a .0 .ptr .1) (a .0 .name) (a .0 .now) (a .1 .0) (are .0 .0 .1) (are .1 .0) (ok .0) (ok .1) 𝓣))
+      (λ ok. walk 𝓤 H A W at-mem run (κs .0) (qs .0) (a .0 .ptr .0) (a .0 .ptr .1) (a .0 .name) (a .0 .now) (a .1 .0) (are .0 .0 .1) (are .1 .0) (ok .0)
+      (ok .1) 𝓣))
 
 fill-meets : {M : Type 1} (𝓤 : URA M) (H : Heap 𝓤) (A : Atoms 𝓤) → Given 𝓤 H A → (at-mem : Memory → SProp 𝓤) (run : Routine → Fun 𝓤) (𝓣 : Tables 𝓤 H)
     → Meets 𝓤 H A f.signature (WpFn 𝓤 H (𝓣 .C) (𝓣 .Λ) code.function) (f.spec 𝓤 H A at-mem run)
 fill-meets 𝓤 H A W at-mem run 𝓣 =
-    walk-meets 𝓤 H A f.ended stayed W (goes-slice 𝓤 H A W 1 0 tt (plain (λ _. R)), (goes-none 𝓤 H A W 1 (λ _. B.the-row) yes (λ κs x f. refl), tt)) (f.clauses 𝓤 H A at-mem run)
+    walk-meets 𝓤 H A f.ended stayed W (goes-slice 𝓤 H A W 1 0 tt (plain (λ _. R)), (goes-none 𝓤 H A W 1 (λ _. B.the-row) yes (λ κs x f. refl), tt))
+    (f.clauses 𝓤 H A at-mem run)
     (WpFn 𝓤 H (𝓣 .C) (𝓣 .Λ) code.function) (WpFn-mono 𝓤 H (W .laws) 𝓣 code.function) (fill-walks 𝓤 H A W at-mem run 𝓣)
 
 pub fill-spec : {M : Type 1} → stated.statement M

@@ -6,7 +6,9 @@ use Rattle.host.proofs.machine.gsi_line.Statement.{statement}
 use Rattle.host.proofs.machine.gsi_line.Tie as tie
 
 returns : tie.Need-returns
-returns c = (c .told-line .ensures ∙ ap toldLine (c .before .before .before .before .before .line .ensures .0), c .before .before .before .before .before .line .ensures .1)
+returns c =
+    let line = c .before .before .before .before .before .line in
+    (c .told-line .ensures ∙ ap toldLine (line .ensures .0), line .ensures .1)
 
 pub gsi-line-spec : {M : Type 1} → statement M
 gsi-line-spec =

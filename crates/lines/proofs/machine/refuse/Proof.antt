@@ -4,7 +4,7 @@ use mathlib.Core.Path.{refl}
 use mathlib.Core.List.{_++_}
 use native.Mathlib.Omega.{arith}
 use borrow.Author.Needs.{needs}
-use Rattle.lines.specs.Replies.{endsLf, endBytes, wrong}
+use Rattle.lines.specs.Replies.{endsLf, replyEnd, wrong}
 use Rattle.lines.proofs.Replying.{end-long}
 use Rattle.lines.proofs.Calling.{ends-short, ends-fits}
 use Rattle.lines.proofs.machine.refuse.Statement.{statement}
@@ -15,15 +15,21 @@ add-n c = omega (arith, c .end-length .ensures, end-long (endsLf (c .before .bef
 
 returns : tie.Need-returns
 returns c =
-    let a = c .before .before .before .before .args in
-    ends-short (a .s) (a .verdict) (wrong ++ endBytes (a .s)) (a .s) (a .room .now) (c .with-state .result) (omega (arith, c .before .if1 .taken, c .before .before .end-length .ensures)) (c .with-state .ensures)
+    let n = c .before .before in
+    let a = n .before .before .args in
+    ends-short (a .s) (a .verdict) (wrong ++ replyEnd (a .s)) (a .s) (a .room .now) (c .with-state .result)
+    (omega (arith, c .before .if1 .taken, n .end-length .ensures))
+    (c .with-state .ensures)
 
 returns-2 : tie.Need-returns-2
 returns-2 c =
-    let a = c .before .before .before .before .before .before .before .before .args in
-    let n = c .before .before .before .before .before .before .end-length in
+    let else1 = c .before .before .before .before .before in
+    let n = else1 .before .end-length in
+    let a = else1 .before .before .before .args in
     let p = c .before .before .before .put-wrong in
-    ends-fits (a .s) (a .verdict) (wrong ++ endBytes (a .s)) (a .s) (a .room .now) (c .with-state2 .result) (p .last .1 .0) (5 + n .result) (a .s) (omega (arith, n .ensures)) refl (c .before .before .before .before .before .if1 .left) (c .with-state2 .ensures) (p .ensures)
+    ends-fits (a .s) (a .verdict) (wrong ++ replyEnd (a .s)) (a .s) (a .room .now) (c .with-state2 .result)
+    (p .last .1 .0) (5 + n .result) (a .s)
+    (omega (arith, n .ensures)) refl (else1 .if1 .left) (c .with-state2 .ensures) (p .ensures)
 
 pub refuse-spec : {M : Type 1} → statement M
 refuse-spec =

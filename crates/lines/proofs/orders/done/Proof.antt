@@ -23,8 +23,16 @@ rest s t Get h = refl
 rest s t Undo h = absurd (miss (0 ∷ 2 ∷ 4 ∷ []) 5 tt h)
 rest s t Keep h = absurd (miss (0 ∷ 2 ∷ 4 ∷ []) 6 tt h)
 
+set-done-requires : tie.Need-set-done-requires
+set-done-requires c κs = rw (c .before .order .given .1) at (c .before .before .before .before .pre .1 .1 .0)
+
 word-of-requires : tie.Need-word-of-requires
-word-of-requires c κs = order-put _ (sym (c .before .before .before .pre .1) ∙ c .enum-told .given .1)
+word-of-requires c κs = order-put _ (sym (c .before .before .before .pre .1 .0) ∙ c .enum-told .given .1)
+
+put-done-requires : tie.Need-put-done-requires
+put-done-requires c κs =
+    rw (c .word-of .ensures)
+    (rw (c .before .enum-told .given .1) at (c .before .before .before .before .pre .1 .1 .0))
 
 returns : tie.Need-returns
 returns c = rw (c .before .before .order .given .1) (c .set-done .ensures)
@@ -48,10 +56,10 @@ done-spec =
     tie.close
     (tie.spec
     (λ c. search needs)
-    (λ c κs. search needs)
+    set-done-requires
     (λ c. search needs)
     word-of-requires
-    (λ c κs. search needs)
+    put-done-requires
     (λ c. search needs)
     (λ c κs. search needs)
     (λ c. search needs)

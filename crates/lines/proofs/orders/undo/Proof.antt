@@ -5,7 +5,9 @@ use borrow.Author.Needs.{needs}
 use borrow.Author.Tests.{eq-eqb, ne-eqb}
 use lib.ListN.{length, length-map}
 use lib.Seq.{set-out}
-use Rattle.state.specs.Entries.{settingsN, valuesN, valueOf}
+use Rattle.state.specs.Entries.{valueOf}
+use Rattle.instrument.specs.Values.{valuesN}
+use Rattle.instrument.specs.Settings.{settingsN}
 use Rattle.lines.specs.Orders.{newest}
 use Rattle.lines.proofs.orders.undo.Statement.{statement}
 use Rattle.lines.proofs.orders.undo.Tie as tie
@@ -39,12 +41,14 @@ returns-4 c =
 returns-5 : tie.Need-returns-5
 returns-5 c =
     let made = c .before .before .before .before .before in
-    rw (ne-eqb _ _ (made .before .before .before .if1 .left), made .blank-entry .ensures, c .before .before .before .item .given .1, c .before .place-of .ensures)
+    let start = made .before .before .before in
+    rw (ne-eqb _ _ (start .if1 .left), made .blank-entry .ensures, c .before .before .before .item .given .1, c .before .place-of .ensures)
 
 returns-6 : tie.Need-returns-6
 returns-6 c =
     let made = c .before .before .before .before .before in
-    rw (ne-eqb _ _ (made .before .before .before .if1 .left), made .blank-entry .ensures, c .before .before .before .item2 .given .1, c .before .place-of2 .ensures)
+    let start = made .before .before .before in
+    rw (ne-eqb _ _ (start .if1 .left), made .blank-entry .ensures, c .before .before .before .item2 .given .1, c .before .place-of2 .ensures)
 
 pub undo-spec : {M : Type 1} → statement M
 undo-spec =

@@ -7,16 +7,23 @@ use Rattle.lines.proofs.replies.body_length.Statement.{statement}
 use Rattle.lines.proofs.replies.body_length.Tie as tie
 
 sub-result : tie.Need-sub-result
-sub-result c = let s = c .before .before in get-length (s .args .s) (s .args .text .now) (s .args .order) (c .enum-told5 .given .1) (s .pre .0) (s .pre .1 .0)
+sub-result c =
+    let s = c .before .before in
+    get-length (s .args .s) (s .args .text .now) (s .args .order) (c .enum-told5 .given .1) (s .pre .0) (s .pre .1 .0)
 
 mul-result : tie.Need-mul-result
 mul-result c = let s = c .before .before in omega (arith, s .pre .1 .1)
 
 returns-3 : tie.Need-returns-3
-returns-3 c = let s = c .before .before in sym (conf-body-long (s .args .s) (s .args .text .now) (s .args .order) (c .enum-told3 .given .0 .0) (c .enum-told3 .given .1) (s .pre .1 .0))
+returns-3 c =
+    let s = c .before .before in
+    let conf = c .enum-told3 .given in
+    sym (conf-body-long (s .args .s) (s .args .text .now) (s .args .order) (conf .0 .0) (conf .1) (s .pre .1 .0))
 
 returns-5 : tie.Need-returns-5
-returns-5 c = let s = c .before .before in sym (get-body-long (s .args .s) (s .args .text .now) (s .args .order) (c .enum-told5 .given .1) (s .pre .0) (s .pre .1 .0))
+returns-5 c =
+    let s = c .before .before in
+    sym (get-body-long (s .args .s) (s .args .text .now) (s .args .order) (c .enum-told5 .given .1) (s .pre .0) (s .pre .1 .0))
 
 pub body-length-spec : {M : Type 1} → statement M
 body-length-spec =

@@ -1,13 +1,19 @@
 -- `lines::replies::conf_body` meets its contract. The setting is listed, so that neither early return is taken.
-use mathlib.Core.Path.{sym, ap, _∙_}
+use mathlib.Core.Path.{_≡_, sym, ap, _∙_}
 use native.Mathlib.Omega.{arith}
 use borrow.Author.Needs.{needs}
 use lib.ListN.{getD, length-append}
+use Rattle.instrument.specs.Settings.{settingPlace}
+use Rattle.instrument.specs.declared.settings.Found.the-variants.{At}
 use Rattle.lines.specs.Replies.{confAt}
 use Rattle.lines.proofs.Lookups.{setting-in}
 use Rattle.lines.proofs.Replying.{not-both, conf-named, slashes, conf-laid}
 use Rattle.lines.proofs.replies.conf_body.Statement.{statement}
 use Rattle.lines.proofs.replies.conf_body.Tie as tie
+
+-- the place that the setting is found at
+found : (c : tie.After-place) → settingPlace (c .before .before .before .args .number) ≡ At (c .place .given .0 .0)
+found c = sym (c .before .before .setting-of .ensures) ∙ c .place .given .1
 
 returns : tie.Need-returns
 returns c =
@@ -18,21 +24,22 @@ returns c =
 
 returns-2 : tie.Need-returns-2
 returns-2 c =
-    let p = c .before .before .place .given in
-    absurd (omega (arith, c .if1 .taken, setting-in (c .before .before .before .before .before .args .number) (p .0 .0) (sym (c .before .before .before .before .setting-of .ensures) ∙ p .1)))
+    let p = c .before .before in
+    absurd (omega (arith, c .if1 .taken, setting-in (p .before .before .before .args .number) (p .place .given .0 .0) (found p)))
 
 part-body-end-2 : tie.Need-part-body-end-2
 part-body-end-2 c = let l = c .before .before .put-number in omega (arith, length-append (l .last .1 .0) slashes, l .kept .1 .0)
 
 returns-3 : tie.Need-returns-3
 returns-3 c =
-    let s = c .before .before .before .before .before .before .before .before .before .before .before .before in
-    let p = c .before .before .before .before .before .before .before .before .before .place .given in
-    let found = sym (c .before .before .before .before .before .before .before .before .before .before .before .setting-of .ensures) ∙ p .1 in
-    let first = c .before .before .before .before .before .put-number in
-    let last = c .before .put-number2 in
-    let wide = c .before .before .before .wide .ensures in
-    conf-laid (s .args .number) (getD (s .args .t1) (p .0 .0) 0) (first .last .1 .0) (last .last .1 .0) (first .ensures) (rw wide at (last .ensures)) ∙ sym (ap (confAt (s .args .t1) (s .args .number)) found)
+    let first = c .before .before .before .before .before in
+    let p = first .before .before .before .before in
+    let a = p .before .before .before .args in
+    let one = first .put-number in
+    let two = c .before .put-number2 in
+    let is = rw (c .before .before .before .wide .ensures) at (two .ensures) in
+    conf-laid (a .number) (getD (a .t1) (p .place .given .0 .0) 0) (one .last .1 .0) (two .last .1 .0) (one .ensures) is
+    ∙ sym (ap (confAt (a .t1) (a .number)) (found p))
 
 pub conf-body-spec : {M : Type 1} → statement M
 conf-body-spec =

@@ -5,8 +5,8 @@ use mathlib.Core.Path.{_≡_, sym, _∙_}
 use native.Mathlib.Omega.{arith}
 use borrow.Author.Needs.{needs}
 use lib.ListN.{length, getD}
-use Rattle.state.specs.Entries.{valuesN}
-use Rattle.state.specs.declared.settings.Found.the-variants.{At}
+use Rattle.instrument.specs.Values.{valuesN}
+use Rattle.instrument.specs.declared.settings.Found.the-variants.{At}
 use Rattle.lines.specs.Verdicts.{placeNamed}
 use Rattle.lines.proofs.Replying.{same-place, not-both, Got, got-none, got-length, got-room, got-all, got-named, got-more}
 use Rattle.lines.proofs.replies.put_get.Statement.{statement}
@@ -26,10 +26,16 @@ record Turn (g room₀ room : List ℕ) (i at : ℕ) : Type 0 where
   named : placeNamed (getD g (i + 3) 0) (getD g (i + 4) 0) ≡ At place
   below : place < valuesN
 
+abbrev start : tie.At-loop Inv-loop μ-loop → tie.Start Inv-loop μ-loop
+start c = c .before .before .before
+
 -- what a turn rests on
-turn : (c : tie.In-loop Inv-loop μ-loop) → Turn (c .before .before .before .before .args .groups .now) (c .before .before .before .before .args .room .now) (c .before .loop .room) (c .before .loop .i) (c .before .loop .at)
+turn : (c : tie.In-loop Inv-loop μ-loop) →
+    let a = start (c .before) .args in
+    let l = c .before .loop in
+    Turn (a .groups .now) (a .room .now) (l .room) (l .i) (l .at)
 turn c =
-    let s = c .before .before .before .before in
+    let s = start (c .before) in
     let l = c .before .loop in
     let g = s .args .groups .now in
     let r = s .args .room .now in
@@ -43,6 +49,19 @@ turn c =
       named = n .1 .1 .0;
       below = n .1 .1 .1;
     }
+
+-- where the turn began, from where its group is looked up, from where its place is known, and from where its word is laid down
+abbrev from-named : tie.After-place-named Inv-loop μ-loop → tie.In-loop Inv-loop μ-loop
+from-named c = c .before .before .before
+
+abbrev from-place : tie.After-known-told Inv-loop μ-loop → tie.In-loop Inv-loop μ-loop
+from-place c = from-named (c .before .before .before)
+
+abbrev from-word : tie.After-word Inv-loop μ-loop → tie.In-loop Inv-loop μ-loop
+from-word c = from-place (c .before .before .before .before)
+
+abbrev from-lay : tie.After-slice-known2 Inv-loop μ-loop → tie.In-loop Inv-loop μ-loop
+from-lay c = from-word (c .before .before .before .before)
 
 loop-holds : tie.Need-loop-holds Inv-loop μ-loop
 loop-holds c = let s = c .before .before in got-none (s .args .t1) (s .args .groups .now) (s .args .room .now) (s .pre)
@@ -60,59 +79,62 @@ shared-slice-read-place-named-2 : tie.Need-shared-slice-read-place-named-2 Inv-l
 shared-slice-read-place-named-2 c = omega (arith, turn (c .before .before) .five)
 
 same-length : tie.Need-same-length Inv-loop μ-loop
-same-length c = turn (c .before .before .before .before .before) .same
+same-length c = turn (from-named (c .before .before)) .same
 
 returns : tie.Need-returns Inv-loop μ-loop
 returns c =
-    let t = turn (c .before .before .before .before .before) in
-    let r = c .before .before .place-named in
-    absurd (not-both (r .result) (t .place) (r .ensures ∙ t .named) (c .enum-told .given .1))
+    let r = c .before .before in
+    let t = turn (from-named r) in
+    absurd (not-both (r .place-named .result) (t .place) (r .place-named .ensures ∙ t .named) (c .enum-told .given .1))
 
 same-length-2 : tie.Need-same-length-2 Inv-loop μ-loop
-same-length-2 c = turn (c .before .before .before .before .before .before .before) .same
+same-length-2 c = turn (from-place (c .before)) .same
 
 returns-2 : tie.Need-returns-2 Inv-loop μ-loop
 returns-2 c =
-    let t = turn (c .before .before .before .before .before .before .before) in
-    let r = c .before .before .before .before .place-named in
-    let p = c .before .before .place .given in
-    let e = same-place (r .result) (t .place) (p .0 .0) (r .ensures ∙ t .named) (p .1) in
+    let p = c .before .before in
+    let r = p .before .before .place-named in
+    let t = turn (from-place (c .before)) in
+    let e = same-place (r .result) (t .place) (p .place .given .0 .0) (r .ensures ∙ t .named) (p .place .given .1) in
     absurd (omega (arith, t .below, c .if1 .taken))
 
 sub-lay : tie.Need-sub-lay Inv-loop μ-loop
-sub-lay c = omega (arith, turn (c .before .before .before .before .before .before .before .before .before .before) .words, turn (c .before .before .before .before .before .before .before .before .before .before) .same)
+sub-lay c = let t = turn (from-word c) in omega (arith, t .words, t .same)
 
 part-lay-start : tie.Need-part-lay-start Inv-loop μ-loop
-part-lay-start c = omega (arith, turn (c .before .before .before .before .before .before .before .before .before .before) .words, turn (c .before .before .before .before .before .before .before .before .before .before) .same)
+part-lay-start c = let t = turn (from-word c) in omega (arith, t .words, t .same)
 
 add-at : tie.Need-add-at Inv-loop μ-loop
-add-at c = omega (arith, turn (c .before .before .before .before .before .before .before .before .before .before .before .before .before .before) .words, c .before .before .before .before .before .before .before .before .before .before .before .before .before .before .before .before .before .before .good)
+add-at c = let t = from-lay c in omega (arith, turn t .words, start (t .before) .good)
 
 add-i : tie.Need-add-i Inv-loop μ-loop
-add-i c = omega (arith, turn (c .before .before .before .before .before .before .before .before .before .before .before .before .before .before) .five, c .before .before .before .before .before .before .before .before .before .before .before .before .before .before .before .before .before .before .good)
+add-i c = let t = from-lay c in omega (arith, turn t .five, start (t .before) .good)
 
 loop-less : tie.Need-loop-less Inv-loop μ-loop
-loop-less c = omega (arith, turn (c .before .before .before .before .before .before .before .before .before .before .before .before .before .before) .five)
+loop-less c = omega (arith, turn (from-lay c) .five)
 
 loop-again : tie.Need-loop-again Inv-loop μ-loop
 loop-again c =
-    let s = c .before .before .before .before .before .before .before .before .before .before .before .before .before .before .before .before .before .before in
-    let l = c .before .before .before .before .before .before .before .before .before .before .before .before .before .before .before .loop in
-    let p = c .before .before .before .before .before .before .before .before .before .place .given in
-    let r = c .before .before .before .before .before .before .before .before .before .before .before .place-named in
-    let w = c .before .before .before .before .before .get-word in
+    let t = from-lay c in
+    let s = start (t .before) in
+    let l = t .before .loop in
+    let w = c .before .before .before .before .before in
+    let p = w .before .before .before .before in
+    let found = sym (p .before .before .place-named .ensures) ∙ p .place .given .1 in
     let last = c .before .before .lay in
-    got-more (s .args .t1) (s .args .groups .now) (s .args .room .now) (s .pre) (l .room) (l .i) (l .at) (l .inv) (p .0 .0) (last .last .1 .0) (c .before .before .before .before .before .before .before .before .before .before .before .before .before .before .loop-test .taken) (sym (r .ensures) ∙ p .1) (rw (← w .ensures) (last .ensures))
+    got-more (s .args .t1) (s .args .groups .now) (s .args .room .now) (s .pre) (l .room) (l .i) (l .at) (l .inv)
+    (p .place .given .0 .0) (last .last .1 .0) (t .loop-test .taken) found
+    (rw (← w .get-word .ensures) (last .ensures))
 
 same-length-3 : tie.Need-same-length-3 Inv-loop μ-loop
 same-length-3 c =
-    let s = c .before .before .before .before in
+    let s = start (c .before) in
     let l = c .before .loop in
     got-length (s .args .t1) (s .args .groups .now) (s .args .room .now) (s .pre) (l .room) (l .i) (l .at) (l .inv)
 
 returns-3 : tie.Need-returns-3 Inv-loop μ-loop
 returns-3 c =
-    let s = c .before .before .before .before in
+    let s = start (c .before) in
     let l = c .before .loop in
     got-all (s .args .t1) (s .args .groups .now) (s .args .room .now) (s .pre) (l .room) (l .i) (l .at) (l .inv) (c .loop-test .left)
 

@@ -6,11 +6,12 @@ use native.Mathlib.Omega.{arith}
 use types.Run.{OneOf, miss}
 use denote.Enum.Declared.{tagOf}
 use borrow.Author.Needs.{needs}
-use lib.ListN.{length}
+use lib.ListN.{length, drop}
 use Rattle.figures.specs.Bytes.{laid}
 use Rattle.state.specs.declared.entries.State.{State}
 use Rattle.lines.specs.Shapes.{groupsIn}
-use Rattle.lines.specs.Replies.{lineEnd, getBody, done, bodyOf}
+use Rattle.lines.specs.Replies.{getBody, done, bodyOf}
+use Rattle.figures.specs.Text.{endBytes}
 use Rattle.lines.specs.declared.shapes.Order.{Order}
 use Rattle.lines.specs.declared.shapes.Order.the-variants.{Not, Set, Conf, Put, Get, Undo, Keep}
 use Rattle.lines.proofs.Shape.{to-end}
@@ -29,26 +30,54 @@ rest s t Get h = absurd (miss (1 ∷ 3 ∷ 5 ∷ 6 ∷ []) 4 tt h)
 rest s t Undo h = refl
 rest s t Keep h = refl
 
+abbrev start : tie.After-ends-lf → tie.Start
+start c = c .before .before .before
+
+-- where the end was asked for, from CONF's text and from the arm of GET
+abbrev from-conf : tie.After-conf-body → tie.After-ends-lf
+from-conf c = c .before .before .before .before .before
+
+abbrev from-get : tie.After-values → tie.After-ends-lf
+from-get c = c .before .before .before
+
 conf-body-requires : tie.Need-conf-body-requires
 conf-body-requires c κs = rw (c .before .before .order .given .1) at (c .before .before .before .before .before .before .before .pre .0 .1 .0)
 
+-- CONF's text is its reply
+conf-is : (c : tie.After-conf-body) →
+    let a = start (from-conf c) .args in
+    c .conf-body .result ≡ bodyOf (a .s) (a .text .now) (a .order)
+conf-is c =
+    let a = start (from-conf c) .args in
+    c .conf-body .ensures ∙ sym (ap (bodyOf (a .s) (a .text .now)) (c .before .before .before .order .given .1))
+
 put-text-requires : tie.Need-put-text-requires
 put-text-requires c κs =
-    let s = c .before .before .before .before .before .before .before .before .before .before in
+    let conf = c .before .before in
+    let lf = from-conf conf .ends-lf in
+    let s = start (from-conf conf) in
     let a = s .args in
-    let b = c .before .before .conf-body in
-    let lf = c .before .before .before .before .before .before .before .ends-lf in
-    reply-fits (a .s) (a .text .now) (a .order) (b .result) (lf .result) (length (a .room .now)) (b .ensures ∙ sym (ap (bodyOf (a .s) (a .text .now)) (c .before .before .before .before .before .order .given .1))) (lf .ensures) (s .pre .1)
+    reply-fits (a .s) (a .text .now) (a .order) (conf .conf-body .result) (lf .result) (length (a .room .now)) (conf-is conf) (lf .ensures) (s .pre .1)
 
 -- the line of GET is long enough
-long : (c : tie.After-values) → 5 ≤ length (c .before .before .before .before .before .before .args .text .now)
-long c = let s = c .before .before .before .before .before .before in get-length (s .args .s) (s .args .text .now) (s .args .order) (c .before .enum-told .given .1) (s .pre .0 .0) (s .pre .0 .1 .0)
+long : (c : tie.After-values) → 5 ≤ length (start (from-get c) .args .text .now)
+long c =
+    let s = start (from-get c) in
+    get-length (s .args .s) (s .args .text .now) (s .args .order) (c .before .enum-told .given .1) (s .pre .0 .0) (s .pre .0 .1 .0)
+
+-- and so is what it's answered
+words-long : (c : tie.After-values) →
+    let a = start (from-get c) .args in
+    length (bodyOf (a .s) (a .text .now) (a .order)) ≡ (length (a .text .now) - 5) / 5 * 16
+words-long c =
+    let s = start (from-get c) in
+    get-body-long (s .args .s) (s .args .text .now) (s .args .order) (c .before .enum-told .given .1) (s .pre .0 .0) (s .pre .0 .1 .0)
 
 sub-n : tie.Need-sub-n
 sub-n c = long c
 
 mul-n : tie.Need-mul-n
-mul-n c = omega (arith, c .before .before .before .before .before .before .pre .0 .1 .1)
+mul-n c = omega (arith, start (from-get c) .pre .0 .1 .1)
 
 sub-put-get : tie.Need-sub-put-get
 sub-put-get c = long c
@@ -58,14 +87,20 @@ part-put-get-start c = omega (arith, long c)
 
 put-get-requires : tie.Need-put-get-requires
 put-get-requires c κs =
-    let s = c .before .before .before .before .before .before .before .before in
-    get-fits (s .args .s) (s .args .text .now) (s .args .order) (c .before .before .before .enum-told .given .1) (s .pre .0 .0) (s .pre .0 .1 .0) (s .args .room .now) (s .pre .1)
+    let get = c .before .before in
+    let s = start (from-get get) in
+    let a = s .args in
+    get-fits (a .s) (a .text .now) (a .order) (get .before .enum-told .given .1) (s .pre .0 .0) (s .pre .0 .1 .0) (a .room .now) (s .pre .1)
+
+abbrev from-words : tie.After-slice-known3 → tie.After-values
+from-words c = c .before .before .before .before .before
 
 -- GET's words end within the room
-within : (c : tie.After-slice-known3) → (length (c .before .before .before .before .before .before .before .before .before .before .before .args .text .now) - 5) / 5 * 16 ≤ length (c .before .before .put-get .last .1 .1 .0)
+within : (c : tie.After-slice-known3) →
+    (length (start (from-get (from-words c)) .args .text .now) - 5) / 5 * 16 ≤ length (c .before .before .put-get .last .1 .1 .0)
 within c =
-    let s = c .before .before .before .before .before .before .before .before .before .before .before in
-    omega (arith, get-body-long (s .args .s) (s .args .text .now) (s .args .order) (c .before .before .before .before .before .before .enum-told .given .1) (s .pre .0 .0) (s .pre .0 .1 .0), s .pre .1, c .before .before .put-get .kept .1 .1 .0)
+    let get = from-words c in
+    omega (arith, words-long get, start (from-get get) .pre .1, c .before .before .put-get .kept .1 .1 .0)
 
 sub-put-end : tie.Need-sub-put-end
 sub-put-end c = within c
@@ -75,47 +110,60 @@ part-put-end-start c = omega (arith, within c)
 
 put-text-requires-2 : tie.Need-put-text-requires-2
 put-text-requires-2 c κs =
-    let s = c .before .before .before .before .before .before in
+    let lf = c .before .before .before in
+    let s = start lf in
     let a = s .args in
-    let lf = c .before .before .before .ends-lf in
-    reply-fits (a .s) (a .text .now) (a .order) done (lf .result) (length (a .room .now)) (rest (a .s) (a .text .now) (a .order) (c .before .before .match .keys4)) (lf .ensures) (s .pre .1)
+    let is = rest (a .s) (a .text .now) (a .order) (c .before .before .match .keys4) in
+    reply-fits (a .s) (a .text .now) (a .order) done (lf .ends-lf .result) (length (a .room .now)) is (lf .ends-lf .ensures) (s .pre .1)
 
 returns : tie.Need-returns
 returns c =
-    let a = c .before .before .before .before .before .before .before .before .before .before .before .before .before .args in
-    let b = c .before .before .before .before .before .conf-body in
-    let lf = c .before .before .before .before .before .before .before .before .before .before .ends-lf in
+    let conf = c .before .before .before .before .before in
+    let lf = from-conf conf .ends-lf in
+    let a = start (from-conf conf) .args in
     let p = c .before .before .put-text in
-    reply-laid (a .s) (a .text .now) (a .order) (b .result) (lf .result) (a .room .now) (p .last .1 .1 .0) (b .ensures ∙ sym (ap (bodyOf (a .s) (a .text .now)) (c .before .before .before .before .before .before .before .before .order .given .1))) (lf .ensures) (p .ensures)
+    reply-laid (a .s) (a .text .now) (a .order) (conf .conf-body .result) (lf .result) (a .room .now) (p .last .1 .1 .0)
+    (conf-is conf) (lf .ensures) (p .ensures)
 
 returns-2 : tie.Need-returns-2
 returns-2 c =
-    let s = c .before .before .before .before .before .before .before .before .before .before .before .before .before .before .before in
+    let words = c .before .before .before .before .before .before in
+    let get = words .before .before .before in
+    let lf = from-get get .ends-lf in
+    let s = start (from-get get) in
     let a = s .args in
     let t = a .text .now in
     let room = a .room .now in
-    let get = c .before .before .before .before .before .before .before .before .before .before .enum-told .given .1 in
     let w = bodyOf (a .s) t (a .order) in
-    let lf = c .before .before .before .before .before .before .before .before .before .before .before .before .ends-lf in
-    let g = c .before .before .before .before .before .before .put-get in
+    let is : w ≡ getBody (a .s .values) (groupsIn (drop 5 t)) (drop 5 t) =
+    get-body (a .s) t (a .order) (get .before .enum-told .given .1) (s .pre .0 .0) (s .pre .0 .1 .0)
+    in
+    let g = words .put-get in
     let p = c .before .before .put-end in
-    let long = get-body-long (a .s) t (a .order) get (s .pre .0 .0) (s .pre .0 .1 .0) in
-    let words = g .ensures ∙ ap (λ (l : List ℕ). laid (getBody (a .s .values) (groupsIn l) l) room) (to-end 5 t) ∙ ap (λ (l : List ℕ). laid l room) (sym (get-body (a .s) t (a .order) get (s .pre .0 .0) (s .pre .0 .1 .0))) in
-    reply-laid (a .s) t (a .order) w (lf .result) room _ refl (lf .ensures) (laid-then w (lineEnd (lf .result)) room (g .last .1 .1 .0) (p .last .1 .0) ((length t - 5) / 5 * 16) (sym long) (reply-fits (a .s) t (a .order) w (lf .result) (length room) refl (lf .ensures) (s .pre .1)) words (p .ensures))
+    let down : g .last .1 .1 .0 ≡ laid w room = rw (is, ← to-end 5 t) (g .ensures) in
+    reply-laid (a .s) t (a .order) w (lf .result) room _ refl (lf .ensures)
+    (laid-then w (endBytes (lf .result)) room (g .last .1 .1 .0) (p .last .1 .0) ((length t - 5) / 5 * 16) (sym (words-long get))
+    (reply-fits (a .s) t (a .order) w (lf .result) (length room) refl (lf .ensures) (s .pre .1))
+    down
+    (p .ensures))
 
 returns-3 : tie.Need-returns-3
 returns-3 c =
-    let a = c .before .before .before .before .before .before .before .before .before .args in
-    let lf = c .before .before .before .before .before .before .ends-lf in
+    let none = c .before .before .before .before in
+    let lf = none .before .before in
+    let a = start lf .args in
     let p = c .before .before .put-end2 in
-    reply-laid (a .s) (a .text .now) (a .order) [] (lf .result) (a .room .now) (p .last .1 .0) (sym (ap (bodyOf (a .s) (a .text .now)) (c .before .before .before .before .enum-told2 .given .1))) (lf .ensures) (p .ensures)
+    let is = sym (ap (bodyOf (a .s) (a .text .now)) (none .enum-told2 .given .1)) in
+    reply-laid (a .s) (a .text .now) (a .order) [] (lf .ends-lf .result) (a .room .now) (p .last .1 .0) is (lf .ends-lf .ensures) (p .ensures)
 
 returns-4 : tie.Need-returns-4
 returns-4 c =
-    let a = c .before .before .before .before .before .before .before .before .before .args in
-    let lf = c .before .before .before .before .before .before .ends-lf in
+    let arm = c .before .before .before .before .before in
+    let lf = arm .before in
+    let a = start lf .args in
     let p = c .before .before .put-text2 in
-    reply-laid (a .s) (a .text .now) (a .order) done (lf .result) (a .room .now) (p .last .1 .1 .0) (rest (a .s) (a .text .now) (a .order) (c .before .before .before .before .before .match .keys4)) (lf .ensures) (p .ensures)
+    let is = rest (a .s) (a .text .now) (a .order) (arm .match .keys4) in
+    reply-laid (a .s) (a .text .now) (a .order) done (lf .ends-lf .result) (a .room .now) (p .last .1 .1 .0) is (lf .ends-lf .ensures) (p .ensures)
 
 pub put-reply-spec : {M : Type 1} → statement M
 put-reply-spec =

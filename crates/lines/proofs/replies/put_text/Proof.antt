@@ -2,17 +2,20 @@
 use mathlib.Core.Path.{refl}
 use borrow.Author.Needs.{needs}
 use lib.ListN.{length}
-use Rattle.lines.specs.Replies.{lineEnd}
+use Rattle.figures.specs.Text.{endBytes}
 use Rattle.lines.proofs.Replying.{laid-then}
 use Rattle.lines.proofs.replies.put_text.Statement.{statement}
 use Rattle.lines.proofs.replies.put_text.Tie as tie
 
 returns : tie.Need-returns
 returns c =
-    let s = c .before .before .before .before .before .before .before .before .before .before in
-    let first = c .before .before .before .before .before .before .lay in
+    let first = c .before .before .before .before .before .before in
+    let s = first .before .before .before .before in
+    let w = s .args .w .now in
     let last = c .before .before .put-end in
-    laid-then (s .args .w .now) (lineEnd (s .args .lf)) (s .args .room .now) (first .last .1 .0) (last .last .1 .0) (length (s .args .w .now)) refl (s .pre) (first .ensures) (last .ensures)
+    laid-then w (endBytes (s .args .lf)) (s .args .room .now) (first .lay .last .1 .0) (last .last .1 .0) (length w) refl (s .pre)
+    (first .lay .ensures)
+    (last .ensures)
 
 pub put-text-spec : {M : Type 1} → statement M
 put-text-spec =

@@ -10,7 +10,9 @@ returns c = rw (number-not _ (sym (c .enum-told .given .1) ∙ c .before .before
 
 returns-2 : tie.Need-returns-2
 returns-2 c =
-    let said = number-is (c .before .before .before .before .before .args .s .now) (c .before .setting .given .0 .0) (sym (c .before .setting .given .1) ∙ c .before .before .before .number-of .ensures) in
+    let n = c .before .before .before in
+    let setting = c .before .setting .given in
+    let said = number-is (n .before .before .args .s .now) (setting .0 .0) (sym (setting .1) ∙ n .number-of .ensures) in
     rw (said .0, said .1)
 
 pub conf-order-spec : {M : Type 1} → statement M

@@ -33,19 +33,16 @@ returns-3 : tie.Need-returns-3 Inv-loop μ-loop
 returns-3 c =
     let at = c .before .before .before .loop in
     let s = c .before .before .before .before .before .before .before .args .s .now in
-    rw (lt-ltb 0 (length s) (at .inv .3), at .inv .4, groups-more (drop (at .at) s) (omega (arith, length-drop (at .at) s)), sym (c .before .group-right .ensures) ∙ not-true _ (c .if3 .taken))
+    let more = groups-more (drop (at .at) s) (omega (arith, length-drop (at .at) s)) in
+    rw (lt-ltb 0 (length s) (at .inv .3), at .inv .4, more, sym (c .before .group-right .ensures) ∙ not-true _ (c .if3 .taken))
 
 loop-again : tie.Need-loop-again Inv-loop μ-loop
 loop-again c =
     let at = c .before .before .before .loop in
-    let s = c .before .before .before .before .before .before .before .args .s .now in (
-      omega arith,
-      omega arith,
-      omega arith,
-      omega arith,
-      at .inv .4
-          ∙ rw (groups-more (drop (at .at) s) (omega (arith, length-drop (at .at) s)), sym (c .before .group-right .ensures) ∙ not-false _ (c .if3 .left), drop-drop 5 (at .at) s),
-    )
+    let s = c .before .before .before .before .before .before .before .args .s .now in
+    let more = groups-more (drop (at .at) s) (omega (arith, length-drop (at .at) s)) in
+    let right = sym (c .before .group-right .ensures) ∙ not-false _ (c .if3 .left) in
+    (omega arith, omega arith, omega arith, omega arith, at .inv .4 ∙ rw (more, right, drop-drop 5 (at .at) s))
 
 returns-4 : tie.Need-returns-4 Inv-loop μ-loop
 returns-4 c =

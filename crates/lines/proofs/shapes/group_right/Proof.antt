@@ -6,6 +6,9 @@ use Rattle.lines.proofs.Shape.{to-end}
 use Rattle.lines.proofs.shapes.group_right.Statement.{statement}
 use Rattle.lines.proofs.shapes.group_right.Tie as tie
 
+abbrev start : tie.After-group → tie.Start
+start c = c .before .before
+
 returns : tie.Need-returns
 returns c =
     let a = c .before .before .before .args in
@@ -13,18 +16,27 @@ returns c =
 
 returns-2 : tie.Need-returns-2
 returns-2 c =
-    let a = c .before .before .before .before .before .before .args in
-    rw (← to-end (a .at) (a .s .now), le-leb 5 _ (c .before .before .before .if1 .left), sym (c .before .starts .ensures) ∙ not-true _ (c .if2 .taken))
+    let else1 = c .before .before .before in
+    let a = start (else1 .before) .args in
+    rw (← to-end (a .at) (a .s .now), le-leb 5 _ (else1 .if1 .left), sym (c .before .starts .ensures) ∙ not-true _ (c .if2 .taken))
 
 returns-3 : tie.Need-returns-3
 returns-3 c =
-    let a = c .before .before .before .before .before .before .before .before .before .args in
-    rw (← to-end (a .at) (a .s .now), le-leb 5 _ (c .before .before .before .before .before .before .if1 .left), sym (c .before .before .before .before .starts .ensures) ∙ not-false _ (c .before .before .before .if2 .left), sym (c .before .digit .ensures) ∙ not-true _ (c .if3 .taken))
+    let else2 = c .before .before .before in
+    let else1 = else2 .before .before .before in
+    let a = start (else1 .before) .args in
+    let named = sym (else2 .before .starts .ensures) ∙ not-false _ (else2 .if2 .left) in
+    rw (← to-end (a .at) (a .s .now), le-leb 5 _ (else1 .if1 .left), named, sym (c .before .digit .ensures) ∙ not-true _ (c .if3 .taken))
 
 returns-4 : tie.Need-returns-4
 returns-4 c =
-    let a = c .before .before .before .before .before .before .before .before .before .before .before .args in
-    rw (← to-end (a .at) (a .s .now), le-leb 5 _ (c .before .before .before .before .before .before .before .before .if1 .left), sym (c .before .before .before .before .before .before .starts .ensures) ∙ not-false _ (c .before .before .before .before .before .if2 .left), sym (c .before .before .before .digit .ensures) ∙ not-false _ (c .before .before .if3 .left)) (c .digit2 .ensures)
+    let else3 = c .before .before in
+    let else2 = else3 .before .before .before in
+    let else1 = else2 .before .before .before in
+    let a = start (else1 .before) .args in
+    let named = sym (else2 .before .starts .ensures) ∙ not-false _ (else2 .if2 .left) in
+    let tens = sym (else3 .before .digit .ensures) ∙ not-false _ (else3 .if3 .left) in
+    rw (← to-end (a .at) (a .s .now), le-leb 5 _ (else1 .if1 .left), named, tens) (c .digit2 .ensures)
 
 pub group-right-spec : {M : Type 1} → statement M
 group-right-spec =

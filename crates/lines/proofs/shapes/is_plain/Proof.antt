@@ -25,13 +25,15 @@ returns-2 : tie.Need-returns-2 Inv-loop μ-loop
 returns-2 c =
     let at = c .before .before .before .before .before .loop in
     let s = c .before .before .before .before .before .before .args .s .now in
-    sym (at .inv .1 ∙ every-not _ s (at .i) (omega arith) (rw (ne-eqb (getD s (at .i) 0) 13 (c .before .before .if1 .left), eq-eqb (getD s (at .i) 0) 10 (c .if2 .taken))))
+    let b = getD s (at .i) 0 in
+    sym (at .inv .1 ∙ every-not _ s (at .i) (omega arith) (rw (ne-eqb b 13 (c .before .before .if1 .left), eq-eqb b 10 (c .if2 .taken))))
 
 loop-again : tie.Need-loop-again Inv-loop μ-loop
 loop-again c =
     let at = c .before .before .before .before .before .loop in
     let s = c .before .before .before .before .before .before .args .s .now in
-    (omega arith, at .inv .1 ∙ every-more _ s (at .i) (omega arith) (rw (ne-eqb (getD s (at .i) 0) 13 (c .before .before .if1 .left), ne-eqb (getD s (at .i) 0) 10 (c .if2 .left))))
+    let b = getD s (at .i) 0 in
+    (omega arith, at .inv .1 ∙ every-more _ s (at .i) (omega arith) (rw (ne-eqb b 13 (c .before .before .if1 .left), ne-eqb b 10 (c .if2 .left))))
 
 returns-3 : tie.Need-returns-3 Inv-loop μ-loop
 returns-3 c =

@@ -27,7 +27,10 @@ returns-4 : tie.Need-returns-4
 returns-4 c =
     let s = c .before .before .before .before .before .args .s .now in
     let first : eqb (length s) 1 || not (eqb (getD s 0 0) 48) ≡ true =
-    ⊎-elim (λ w. rw (ne-eqb (length s) 1 (λ e. omega (arith, w .0 .taken)), ne-eqb (getD s 0 0) 48 (w .2 .left))) (λ w. rw (eq-eqb (length s) 1 (omega arith))) (c .before .if3 .came)
+    ⊎-elim
+    (λ w. rw (ne-eqb (length s) 1 (λ e. omega (arith, w .0 .taken)), ne-eqb (getD s 0 0) 48 (w .2 .left)))
+    (λ w. rw (eq-eqb (length s) 1 (omega arith)))
+    (c .before .if3 .came)
     in
     c .number .ensures ∙ rw (le-leb 1 (length s) (omega arith), le-leb (length s) 4 (omega arith), le-leb (length s) 16 (omega arith), first)
 

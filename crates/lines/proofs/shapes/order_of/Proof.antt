@@ -1,41 +1,58 @@
 -- `order_of` meets its contract: the keywords one after the other, and what each goes on with.
+use Prim.Native.Nat.{ℕ}
 use mathlib.Core.Path.{_≡_, sym, _∙_}
 use mathlib.Core.Bool.{true, false}
+use mathlib.Core.List.{List}
 use borrow.Author.Needs.{needs}
 use borrow.Author.Tests.{eq-eqb, ne-eqb}
 use Rattle.figures.specs.Bytes.{startsWith, sameBytes}
 use Rattle.lines.specs.Shapes.{set-slash, conf-slash, put-slash, get-i, undo-word}
-use Rattle.lines.proofs.Shape.{starts-length, to-end}
+use Rattle.lines.proofs.Shape.{to-end}
+use Rattle.figures.proofs.Bytes.{starts-length}
 use Rattle.lines.proofs.shapes.order_of.Statement.{statement}
 use Rattle.lines.proofs.shapes.order_of.Tie as tie
 
--- what each test says of the line
+-- the line, where each test stands
+abbrev text1 : tie.After-starts → List ℕ
+text1 c = c .before .before .before .args .text .now
 
-is-set : (c : tie.Then1) → startsWith set-slash (c .before .before .before .before .args .text .now) ≡ true
+abbrev text2 : tie.After-starts2 → List ℕ
+text2 c = text1 (c .before .before .before)
+
+abbrev text3 : tie.After-starts3 → List ℕ
+text3 c = text2 (c .before .before .before)
+
+abbrev text4 : tie.After-starts4 → List ℕ
+text4 c = text3 (c .before .before .before)
+
+-- what each test says of it
+
+is-set : (c : tie.Then1) → startsWith set-slash (text1 (c .before)) ≡ true
 is-set c = sym (c .before .starts .ensures) ∙ c .if1 .taken
 
-no-set : (c : tie.Else1) → startsWith set-slash (c .before .before .before .before .args .text .now) ≡ false
+no-set : (c : tie.Else1) → startsWith set-slash (text1 (c .before)) ≡ false
 no-set c = sym (c .before .starts .ensures) ∙ c .if1 .left
 
-is-conf : (c : tie.Then2) → startsWith conf-slash (c .before .before .before .before .before .before .before .args .text .now) ≡ true
+is-conf : (c : tie.Then2) → startsWith conf-slash (text2 (c .before)) ≡ true
 is-conf c = sym (c .before .starts2 .ensures) ∙ c .if2 .taken
 
-no-conf : (c : tie.Else2) → startsWith conf-slash (c .before .before .before .before .before .before .before .args .text .now) ≡ false
+no-conf : (c : tie.Else2) → startsWith conf-slash (text2 (c .before)) ≡ false
 no-conf c = sym (c .before .starts2 .ensures) ∙ c .if2 .left
 
-is-put : (c : tie.Then3) → startsWith put-slash (c .before .before .before .before .before .before .before .before .before .before .args .text .now) ≡ true
+is-put : (c : tie.Then3) → startsWith put-slash (text3 (c .before)) ≡ true
 is-put c = sym (c .before .starts3 .ensures) ∙ c .if3 .taken
 
-no-put : (c : tie.Else3) → startsWith put-slash (c .before .before .before .before .before .before .before .before .before .before .args .text .now) ≡ false
+no-put : (c : tie.Else3) → startsWith put-slash (text3 (c .before)) ≡ false
 no-put c = sym (c .before .starts3 .ensures) ∙ c .if3 .left
 
-is-get : (c : tie.Then5)
-    → startsWith get-i (c .before .before .before .before .before .before .before .before .before .before .before .before .before .args .text .now) ≡ true
+is-get : (c : tie.Then5) → startsWith get-i (text4 (c .before)) ≡ true
 is-get c = sym (c .before .starts4 .ensures) ∙ c .if5 .taken
 
-no-get : (c : tie.Else5)
-    → startsWith get-i (c .before .before .before .before .before .before .before .before .before .before .before .before .before .args .text .now) ≡ false
+no-get : (c : tie.Else5) → startsWith get-i (text4 (c .before)) ≡ false
 no-get c = sym (c .before .starts4 .ensures) ∙ c .if5 .left
+
+no-undo : (c : tie.Else6) → sameBytes (text4 (c .before .before .before .before)) undo-word ≡ false
+no-undo c = sym (c .before .same .ensures) ∙ c .if6 .left
 
 returns : tie.Need-returns
 returns c = rw (is-set (c .before .before)) (c .set-order .ensures ∙ rw to-end)
@@ -70,10 +87,6 @@ returns-6 c =
     let c3 = c5 .before .before .before in
     let c2 = c3 .before .before .before in
     rw (no-set (c2 .before .before .before), no-conf c2, no-put c3, no-get c5, sym (c .before .same .ensures) ∙ c .if6 .taken)
-
-no-undo : (c : tie.Else6)
-    → sameBytes (c .before .before .before .before .before .before .before .before .before .before .before .before .before .before .before .before .args .text .now) undo-word ≡ false
-no-undo c = sym (c .before .same .ensures) ∙ c .if6 .left
 
 returns-7 : tie.Need-returns-7
 returns-7 c =

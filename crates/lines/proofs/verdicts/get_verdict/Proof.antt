@@ -5,7 +5,7 @@ use native.Mathlib.Omega.{arith}
 use borrow.Author.Needs.{needs}
 use borrow.Author.Tests.{not-true, not-false}
 use lib.ListN.{length, getD, drop, drop-of-length-le}
-use Rattle.state.specs.declared.settings.Found.the-variants.{At}
+use Rattle.instrument.specs.declared.settings.Found.the-variants.{At}
 use Rattle.lines.specs.Shapes.{groupsIn}
 use Rattle.lines.specs.Verdicts.{placeNamed, getBy, getVerdict}
 use Rattle.lines.proofs.Shape.{groups-length}
@@ -28,7 +28,8 @@ returns : tie.Need-returns Inv-loop μ-loop
 returns c =
     let turn = c .before .before .before .before .before .before in
     let a = turn .before .before .args in
-    rw (turn .loop .inv .3, get-more (a .t1) (a .groups .now) (turn .loop .at) (omega arith), sym (c .before .before .place-named .ensures) ∙ c .enum-told .given .1)
+    let none = sym (c .before .before .place-named .ensures) ∙ c .enum-told .given .1 in
+    rw (turn .loop .inv .3, get-more (a .t1) (a .groups .now) (turn .loop .at) (omega arith), none)
 
 -- the place that was found
 looked : (c : tie.After-place Inv-loop μ-loop)

@@ -1,49 +1,21 @@
 -- `place_named` meets its contract: two digits, and the value of that index.
-use mathlib.Core.Path.{_≡_, sym, _∙_}
-use mathlib.Core.Bool.{true}
 use borrow.Author.Needs.{needs}
-use borrow.Author.Tests.{not-true, not-false}
-use Rattle.figures.specs.Decimal.{isDigit}
-use Rattle.figures.proofs.Bytes.{within-bounds}
+use Rattle.units.proofs.Positions.{named-not, named-is}
 use Rattle.lines.proofs.verdicts.place_named.Statement.{statement}
 use Rattle.lines.proofs.verdicts.place_named.Tie as tie
 
 returns : tie.Need-returns
-returns c = rw (sym (c .before .digit .ensures) ∙ not-true _ (c .if1 .taken))
-
--- what the two tests say
-first : (c : tie.Else1) → isDigit (c .before .before .args .tens) ≡ true
-first c = sym (c .before .digit .ensures) ∙ not-false _ (c .if1 .left)
-
-second : (c : tie.Else2) → isDigit (c .before .before .before .before .args .ones) ≡ true
-second c = sym (c .before .digit2 .ensures) ∙ not-false _ (c .if2 .left)
+returns c =
+    let a = c .before .before .before .args in
+    rw (named-not (a .tens) (a .ones) (c .before .before .named-by .ensures) (c .enum-told .given .1))
 
 returns-2 : tie.Need-returns-2
-returns-2 c = rw (first (c .before .before), sym (c .before .digit2 .ensures) ∙ not-true _ (c .if2 .taken))
-
-sub-figure : tie.Need-sub-figure
-sub-figure c = within-bounds 48 57 _ (first (c .before .before)) .0
-
-sub-figure-2 : tie.Need-sub-figure-2
-sub-figure-2 c = within-bounds 48 57 _ (second (c .before)) .0
-
-returns-3 : tie.Need-returns-3
-returns-3 c =
-    rw (first (c .before .before .before .before .before), second (c .before .before .before)) (c .value-at .ensures ∙ rw (c .before .before .figure .ensures, c .before .figure2 .ensures))
+returns-2 c =
+    let a = c .before .before .before .before .before .args in
+    let told = named-is (a .tens) (a .ones) (c .before .before .before .before .named-by .ensures) (c .before .before .index .given .1) in
+    rw (told .0, told .1, ← told .2) (c .value-at .ensures)
 
 pub place-named-spec : {M : Type 1} → statement M
 place-named-spec =
     tie.close
-    (tie.spec
-    (λ c κs. search needs)
-    returns
-    (λ c κs. search needs)
-    returns-2
-    sub-figure
-    (λ c κs. search needs)
-    (λ c. search needs)
-    sub-figure-2
-    (λ c κs. search needs)
-    (λ c. search needs)
-    (λ c κs. search needs)
-    returns-3)
+    (tie.spec (λ c κs. search needs) (λ c. search needs) (λ c. search needs) returns (λ c κs. search needs) returns-2)

@@ -3,7 +3,7 @@ use mathlib.Core.Path.{_≡_, sym, _∙_}
 use borrow.Author.Needs.{needs}
 use borrow.Author.Tests.{not-true, not-false}
 use Rattle.words.specs.Reading.{pos}
-use Rattle.state.specs.declared.settings.Found.the-variants.{At}
+use Rattle.instrument.specs.declared.settings.Found.the-variants.{At}
 use Rattle.lines.specs.Verdicts.{placeNamed}
 use Rattle.lines.proofs.verdicts.put_verdict.Statement.{statement}
 use Rattle.lines.proofs.verdicts.put_verdict.Tie as tie

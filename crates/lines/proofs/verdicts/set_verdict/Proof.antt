@@ -1,9 +1,9 @@
 -- `set_verdict` meets its contract: the setting is looked up, then its range, then the count.
 use mathlib.Core.Path.{_≡_, sym, _∙_}
 use borrow.Author.Needs.{needs}
-use borrow.Author.Tests.{lt-ltb, le-ltb}
-use Rattle.state.specs.Settings.{settingAt}
-use Rattle.state.specs.declared.settings.Found.the-variants.{At}
+use Rattle.instrument.specs.Settings.{settingPlace}
+use Rattle.instrument.specs.declared.settings.Found.the-variants.{At}
+use Rattle.figures.proofs.Tests.{passed, failed}
 use Rattle.lines.proofs.verdicts.set_verdict.Statement.{statement}
 use Rattle.lines.proofs.verdicts.set_verdict.Tie as tie
 
@@ -11,18 +11,18 @@ returns : tie.Need-returns
 returns c = rw (sym (c .before .before .setting-of .ensures) ∙ c .enum-told .given .1)
 
 -- the place that was found
-looked : (c : tie.After-place) → settingAt (c .before .before .before .args .number) ≡ At (c .place .given .0 .0)
+looked : (c : tie.After-place) → settingPlace (c .before .before .before .args .number) ≡ At (c .place .given .0 .0)
 looked c = sym (c .before .before .setting-of .ensures) ∙ c .place .given .1
 
 returns-2 : tie.Need-returns-2
 returns-2 c =
-    let found = c .before .before .before .before in
-    rw (looked found, ← c .before .before .row-at .ensures, ← c .before .wide .ensures, lt-ltb _ _ (c .if1 .taken))
+    let told = c .before in
+    rw (looked (told .before .before .before), ← told .before .row-at .ensures, failed (told .in-range .ensures) (c .if1 .taken))
 
 returns-3 : tie.Need-returns-3
 returns-3 c =
-    let found = c .before .before .before .before .before in
-    rw (looked found, ← c .before .before .before .row-at .ensures, ← c .before .before .wide .ensures, le-ltb _ _ (c .before .if1 .left)) (c .full .ensures)
+    let told = c .before .before in
+    rw (looked (told .before .before .before), ← told .before .row-at .ensures, passed (told .in-range .ensures) (c .before .if1 .left)) (c .full .ensures)
 
 pub set-verdict-spec : {M : Type 1} → statement M
 set-verdict-spec =

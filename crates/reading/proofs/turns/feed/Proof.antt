@@ -10,7 +10,8 @@ returns c =
     let join = c .before .before in
     let joins = join .before .before .before in
     let a = joins .before .before .before .args in
-    feeds-on (a .room .now) (a .progress) (a .b) (a .text .now) _ _ _ (sym (joins .joins .ensures) ∙ join .before .before .if1 .taken) (join .join .ensures .0) refl (join .join .ensures .1) refl
+    let is = join .join .ensures in
+    feeds-on (a .room .now) (a .progress) (a .b) (a .text .now) _ _ _ (sym (joins .joins .ensures) ∙ join .before .before .if1 .taken) (is .0) refl (is .1) refl
 
 returns-2 : tie.Need-returns-2
 returns-2 c =
@@ -18,7 +19,10 @@ returns-2 c =
     let tell = join .before .before .before .before .before in
     let joins = tell .before .before .before .before in
     let a = joins .before .before .before .args in
-    feeds-next (a .room .now) (a .progress) (a .b) (a .text .now) _ _ _ (tell .tell .result) (sym (joins .joins .ensures) ∙ tell .before .before .before .if1 .left) (tell .tell .ensures .0) (rw (join .join2 .ensures .0)) (join .join2 .ensures .1) (tell .tell .ensures .1)
+    let apart = sym (joins .joins .ensures) ∙ tell .before .before .before .if1 .left in
+    let is = join .join2 .ensures in
+    let told = tell .tell .ensures in
+    feeds-next (a .room .now) (a .progress) (a .b) (a .text .now) _ _ _ (tell .tell .result) apart (told .0) (rw (is .0)) (is .1) (told .1)
 
 pub feed-spec : {M : Type 1} → statement M
 feed-spec =

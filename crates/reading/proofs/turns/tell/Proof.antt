@@ -14,8 +14,9 @@ returns c =
     let report = c .before .before .before .before in
     let a = report .before .before .before .before .before .before .args in
     let more = report .before .before .before .more .ensures in
+    let t = c .before .if1 .taken in
     let r = report .report in (
-      told-so (a .room .now) (a .progress) (a .text .now) _ more (r .result) _ _ (r .ensures .0 .0) (r .ensures .1) (rw (c .before .if1 .taken) (c .more2 .ensures)) (rw (c .before .if1 .taken)),
+      told-so (a .room .now) (a .progress) (a .text .now) _ more (r .result) _ _ (r .ensures .0 .0) (r .ensures .1) (rw t (c .more2 .ensures)) (rw t),
       told-text-so (a .room .now) (a .progress) (a .text .now) _ more _ (r .ensures .0 .1),
     )
 
@@ -24,8 +25,9 @@ returns-2 c =
     let report = c .before .before .before .before in
     let a = report .before .before .before .before .before .before .args in
     let more = report .before .before .before .more .ensures in
+    let t = c .before .if1 .left in
     let r = report .report in (
-      told-so (a .room .now) (a .progress) (a .text .now) _ more (r .result) _ _ (r .ensures .0 .0) (r .ensures .1) (rw (c .before .if1 .left)) (rw (c .before .if1 .left) (c .more3 .ensures)),
+      told-so (a .room .now) (a .progress) (a .text .now) _ more (r .result) _ _ (r .ensures .0 .0) (r .ensures .1) (rw t) (rw t (c .more3 .ensures)),
       told-text-so (a .room .now) (a .progress) (a .text .now) _ more _ (r .ensures .0 .1),
     )
 

@@ -1,6 +1,6 @@
 -- `measures::put_pair` meets its contract: its four parts come to its text.
 use borrow.Author.Needs.{needs}
-use Rattle.reports.proofs.Putting.{puts-more}
+use Rattle.figures.proofs.Putting.{puts-more}
 use Rattle.reports.proofs.measures.put_pair.Statement.{statement}
 use Rattle.reports.proofs.measures.put_pair.Tie as tie
 

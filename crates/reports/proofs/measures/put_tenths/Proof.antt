@@ -1,6 +1,6 @@
 -- `measures::put_tenths` meets its contract: its eleven parts come to its text.
 use borrow.Author.Needs.{needs}
-use Rattle.reports.proofs.Putting.{puts-more, puts-long}
+use Rattle.figures.proofs.Putting.{puts-more, puts-long}
 use Rattle.reports.proofs.measures.put_tenths.Statement.{statement}
 use Rattle.reports.proofs.measures.put_tenths.Tie as tie
 

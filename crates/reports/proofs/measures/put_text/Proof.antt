@@ -4,7 +4,7 @@ use native.Mathlib.Omega.{arith}
 use borrow.Author.Needs.{needs}
 use lib.ListN.{length}
 use lib.Seq.{take-all}
-use Rattle.reports.proofs.Putting.{puts-as, puts-more}
+use Rattle.figures.proofs.Putting.{puts-as, puts-more}
 use Rattle.reports.proofs.measures.put_text.Statement.{statement}
 use Rattle.reports.proofs.measures.put_text.Tie as tie
 

@@ -5,9 +5,9 @@ use Prim.Native.Nat.{ℕ}
 use borrow.Author.Needs.{needs}
 use borrow.Author.Tests.{eq-eqb, ne-eqb}
 use Rattle.units.specs.declared.counts.Count.{Count}
-use Rattle.reports.specs.Rooms.{Puts}
+use Rattle.figures.specs.Rooms.{Puts}
 use Rattle.reports.specs.Measures.{countText, valueText}
-use Rattle.reports.proofs.Putting.{puts-as}
+use Rattle.figures.proofs.Putting.{puts-as}
 use Rattle.reports.proofs.measures.put_value.Statement.{statement}
 use Rattle.reports.proofs.measures.put_value.Tie as tie
 
@@ -61,7 +61,8 @@ returns-8 c =
     let decimals = put .before .before in
     let other = decimals .before .before in
     let counted = other .before .before .before in
-    shown (counted .before .before) (counted .counted5 .given .1) (rw (ne-eqb _ _ (other .if1 .left), ← decimals .decimals-of .ensures) (put .put-measure5 .ensures))
+    shown (counted .before .before) (counted .counted5 .given .1)
+    (rw (ne-eqb _ _ (other .if1 .left), ← decimals .decimals-of .ensures) (put .put-measure5 .ensures))
 
 returns-9 : tie.Need-returns-9
 returns-9 c =

@@ -4,8 +4,8 @@ use mathlib.Core.Logic.{⊎-elim}
 use borrow.Author.Needs.{needs}
 use borrow.Author.Tests.{eq-eqb, ne-eqb}
 use Rattle.units.specs.Information.{signByte}
-use Rattle.reports.specs.Rooms.{Puts}
-use Rattle.reports.proofs.Putting.{puts-as, puts-more, puts-long}
+use Rattle.figures.specs.Rooms.{Puts}
+use Rattle.figures.proofs.Putting.{puts-as, puts-more, puts-long}
 use Rattle.reports.proofs.measures.put_whole.Statement.{statement}
 use Rattle.reports.proofs.measures.put_whole.Tie as tie
 

@@ -1,6 +1,6 @@
 -- `piece::put_head` meets its contract: its four parts come to its text.
 use borrow.Author.Needs.{needs}
-use Rattle.reports.proofs.Putting.{puts-more}
+use Rattle.figures.proofs.Putting.{puts-more}
 use Rattle.reports.proofs.piece.put_head.Statement.{statement}
 use Rattle.reports.proofs.piece.put_head.Tie as tie
 

@@ -1,9 +1,9 @@
 -- `piece::put_reading` meets its contract: its seven parts come to its text.
 use mathlib.Core.Logic.{⊎-elim}
 use borrow.Author.Needs.{needs}
-use Rattle.reports.specs.Rooms.{Puts}
+use Rattle.figures.specs.Rooms.{Puts}
 use Rattle.reports.specs.Piece.{widthText, endText}
-use Rattle.reports.proofs.Putting.{puts-as, puts-more, puts-long}
+use Rattle.figures.proofs.Putting.{puts-as, puts-more, puts-long}
 use Rattle.reports.proofs.piece.put_reading.Statement.{statement}
 use Rattle.reports.proofs.piece.put_reading.Tie as tie
 

@@ -1,6 +1,6 @@
 -- `piece::put_refusal` meets its contract: its five parts come to its text.
 use borrow.Author.Needs.{needs}
-use Rattle.reports.proofs.Putting.{puts-more}
+use Rattle.figures.proofs.Putting.{puts-more}
 use Rattle.reports.proofs.piece.put_refusal.Statement.{statement}
 use Rattle.reports.proofs.piece.put_refusal.Tie as tie
 

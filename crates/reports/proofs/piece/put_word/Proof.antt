@@ -2,7 +2,7 @@
 use mathlib.Core.Path.{_≡_, sym}
 use borrow.Author.Needs.{needs, length-unmapped}
 use lib.ListN.{length}
-use Rattle.reports.proofs.Putting.{puts-more, puts-long}
+use Rattle.figures.proofs.Putting.{puts-more, puts-long}
 use Rattle.reports.proofs.piece.put_word.Statement.{statement}
 use Rattle.reports.proofs.piece.put_word.Tie as tie
 
@@ -10,7 +10,9 @@ info-long : (c : tie.Start) → length (c .args .w .info) ≡ 4
 info-long c = length-unmapped _ (c .args .w .info) 4 (search needs)
 
 slice-aggregate-put-4 : tie.Need-slice-aggregate-put-4
-slice-aggregate-put-4 c = sym (info-long (c .before .before .before .before .before .before .before .before .before .before .before .before .before .before .before .before .before .before .before .before .before .before .before .before .before .before .before .before .before))
+slice-aggregate-put-4 c =
+    let earlier = c .before .before .before .before .before .before .before .before .before .before .before .before .before .before in
+    sym (info-long (earlier .before .before .before .before .before .before .before .before .before .before .before .before .before .before .before))
 
 returns : tie.Need-returns
 returns c =

@@ -6,9 +6,9 @@ use native.Mathlib.Omega.{arith}
 use borrow.Author.Needs.{needs}
 use lib.ListN.{length, take}
 use Rattle.words.specs.declared.records.Word.{Word}
-use Rattle.reports.specs.Rooms.{Puts}
+use Rattle.figures.specs.Rooms.{Puts}
 use Rattle.reports.specs.Piece.{wordsText}
-use Rattle.reports.proofs.Putting.{puts-long, puts-nothing}
+use Rattle.figures.proofs.Putting.{puts-long, puts-nothing}
 use Rattle.reports.proofs.Words.{words-more}
 use Rattle.reports.proofs.piece.put_words.Statement.{statement}
 use Rattle.reports.proofs.piece.put_words.Tie as tie

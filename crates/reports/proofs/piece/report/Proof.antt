@@ -1,7 +1,7 @@
 -- `piece::report` meets its contract: the head's text, and then the answer's.
 use borrow.Author.Needs.{needs}
 use Rattle.blocks.specs.Judging.{judged}
-use Rattle.reports.proofs.Putting.{puts-within}
+use Rattle.figures.proofs.Putting.{puts-within}
 use Rattle.reports.proofs.Reporting.{refused-on, read-on, few-kept}
 use Rattle.reports.proofs.piece.report.Statement.{statement}
 use Rattle.reports.proofs.piece.report.Tie as tie
@@ -9,7 +9,8 @@ use Rattle.reports.proofs.piece.report.Tie as tie
 put-words-requires : tie.Need-put-words-requires
 put-words-requires c κs =
     let judge = c .before .before .before .before .before .before .before .before .before .before .before .before .before .before in
-    (puts-within _ _ _ (c .before .before .before .before .put-reading .ensures), few-kept (judge .before .before .before .args .piece .now) (judge .judge .result) (judge .judge .ensures))
+    let few = few-kept (judge .before .before .before .args .piece .now) (judge .judge .result) (judge .judge .ensures) in
+    (puts-within _ _ _ (c .before .before .before .before .put-reading .ensures), few)
 
 returns : tie.Need-returns
 returns c =
@@ -17,7 +18,8 @@ returns c =
     let head = answer .before .before .before .before in
     let judge = head .before .before .before in
     let a = judge .before .before .before .args in
-    refused-on (judged (a .piece .now) 32) (judge .judge .result) (judge .judge .ensures) (a .number) (a .place) (a .room .now) (head .put-head .ensures) (answer .answer .given .0 .0) (answer .answer .given .1) (c .before .before .put-refusal .ensures)
+    refused-on (judged (a .piece .now) 32) (judge .judge .result) (judge .judge .ensures) (a .number) (a .place) (a .room .now)
+    (head .put-head .ensures) (answer .answer .given .0 .0) (answer .answer .given .1) (c .before .before .put-refusal .ensures)
 
 returns-2 : tie.Need-returns-2
 returns-2 c =
@@ -26,7 +28,9 @@ returns-2 c =
     let head = answer .before .before .before .before in
     let judge = head .before .before .before in
     let a = judge .before .before .before .args in
-    read-on (judged (a .piece .now) 32) (judge .judge .result) (judge .judge .ensures) (a .number) (a .place) (a .room .now) (head .put-head .ensures) (answer .answer2 .given .0 .0) (answer .answer2 .given .1) (reading .put-reading .ensures) (c .before .before .put-words .ensures)
+    read-on (judged (a .piece .now) 32) (judge .judge .result) (judge .judge .ensures) (a .number) (a .place) (a .room .now)
+    (head .put-head .ensures) (answer .answer2 .given .0 .0) (answer .answer2 .given .1) (reading .put-reading .ensures)
+    (c .before .before .put-words .ensures)
 
 pub report-spec : {M : Type 1} → statement M
 report-spec =

@@ -1,6 +1,6 @@
 -- `piece::tally` meets its contract: its seven parts come to its text.
 use borrow.Author.Needs.{needs}
-use Rattle.reports.proofs.Putting.{puts-more}
+use Rattle.figures.proofs.Putting.{puts-more}
 use Rattle.reports.proofs.piece.tally.Statement.{statement}
 use Rattle.reports.proofs.piece.tally.Tie as tie
 

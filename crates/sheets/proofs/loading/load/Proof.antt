@@ -5,15 +5,17 @@ use mathlib.Core.Path.{_≡_, sym, ap, _∙_}
 use mathlib.Core.Bool.{true}
 use native.Mathlib.Omega.{arith}
 use borrow.Author.Needs.{needs}
+use Rattle.state.specs.Entries.{noEntries}
 use Rattle.state.specs.Image.{isImage, encodedIn}
 use Rattle.state.specs.declared.entries.State.{State}
-use Rattle.sheets.specs.Loading.{wrong, loadingOf, settingsIn, valuesAt, startOf, Loads}
+use Rattle.sheets.specs.Loading.{wrong, loadingOf, settingsIn, valuesFrom, Loads}
 use Rattle.sheets.specs.declared.loading.Came.the-variants.{To}
 use Rattle.sheets.specs.declared.loading.Settings.{Settings}
 use Rattle.sheets.specs.declared.loading.Values.{Values}
 use Rattle.sheets.specs.declared.answers.Sheeted.the-variants as answer
 use Rattle.state.proofs.Images.{decoded-is, decoded-not}
-use Rattle.sheets.proofs.Loads.{settings-within, settings-got, values-got, wrong-setting, wrong-value, wrong-end, all-right, loads-none, loads-wrong, loads-right}
+use Rattle.sheets.proofs.Loads.{settings-within, settings-got, values-got, wrong-setting, wrong-value, wrong-end, all-right}
+use Rattle.sheets.proofs.Loads.{loads-none, loads-wrong, loads-right}
 use Rattle.sheets.proofs.loading.load.Statement.{statement}
 use Rattle.sheets.proofs.loading.load.Tie as tie
 
@@ -23,7 +25,8 @@ image-is c =
     decoded-is (c .before .before .before .before .before .before .args .image .now) (d .result) (d .ensures) (c .enum-told .given .1) .0
 
 wrongly : (c : tie.After-enum-told) (at : ℕ) → loadingOf (c .before .before .before .before .before .before .args .sheet .now) ≡ wrong at
-    → Loads (c .before .before .before .before .before .before .args .image .now) (c .before .before .before .before .before .before .args .sheet .now) (answer.Wrong at) (c .before .before .before .before .before .before .args .image .now)
+    → let given = c .before .before .before .before .before .before .args in
+    Loads (given .image .now) (given .sheet .now) (answer.Wrong at) (given .image .now)
 wrongly c at e =
     let given = c .before .before .before .before .before .before .args in
     loads-wrong (given .image .now) (given .sheet .now) (image-is c) at e
@@ -42,7 +45,8 @@ returns-2 c =
 
 -- the settings came to their end
 
-settings-came : (c : tie.After-came2) → settingsIn (c .before .before .before .before .before .before .before .before .before .args .sheet .now) .came ≡ To (c .came2 .given .0 .0)
+settings-came : (c : tie.After-came2)
+    → settingsIn (c .before .before .before .before .before .before .before .before .before .args .sheet .now) .came ≡ To (c .came2 .given .0 .0)
 settings-came c = sym (ap (λ (s : Settings). s .came) (c .before .before .settings-in .ensures)) ∙ c .came2 .given .1
 
 returns-3 : tie.Need-returns-3
@@ -56,12 +60,14 @@ returns-4 c =
     let second = c .before .before .before in
     let came = second .before .before .before in
     let sheet = came .before .before .before .before .before .before .before .before .before .args .sheet .now in
-    wrongly (came .before .before .before) _ (wrong-value sheet _ (settings-came came) _ (sym (ap (λ (s : Values). s .came) (second .values-in .ensures)) ∙ c .before .next .given .1))
+    let told = sym (ap (λ (s : Values). s .came) (second .values-in .ensures)) ∙ c .before .next .given .1 in
+    wrongly (came .before .before .before) _ (wrong-value sheet _ (settings-came came) _ told)
 
 -- and so did the values
 
 values-came : (c : tie.After-next2)
-    → valuesAt (c .before .before .before .before .before .before .before .before .before .before .before .before .before .before .args .sheet .now) (c .before .before .before .before .before .came2 .given .0 .0) .came
+    → let came = c .before .before .before .before .before in
+    valuesFrom (came .before .before .before .before .before .before .before .before .before .args .sheet .now) (came .came2 .given .0 .0) .came
     ≡ To (c .next2 .given .0 .0)
 values-came c = sym (ap (λ (s : Values). s .came) (c .before .before .values-in .ensures)) ∙ c .next2 .given .1
 
@@ -84,10 +90,13 @@ returns-6 c =
     let sheet = given .sheet .now in
     let at = came .came2 .given .0 .0 in
     let end = next .next2 .given .0 .0 in
-    let held : made .start-of .result ≡ startOf (settingsIn sheet .got) (valuesAt sheet at .got) =
-    made .start-of .ensures
-    ∙ (λ j. startOf ((ap (λ (s : Settings). s .settings) (first .settings-in .ensures) ∙ settings-got sheet at (settings-came came)) j) ((ap (λ (s : Values). s .values) (second .values-in .ensures) ∙ values-got sheet at end (values-came next)) j)) in
-    loads-right (given .image .now) sheet (image-is (first .before)) (settingsIn sheet .got) (valuesAt sheet at .got) (c .before .before .encode .last .1 .0) (all-right sheet at (settings-came came) end (values-came next) (left .if2 .left)) (c .before .before .encode .ensures ∙ ap (λ (s : State). encodedIn s (given .image .now)) held)
+    let settings = ap (λ (s : Settings). s .settings) (first .settings-in .ensures) ∙ settings-got sheet at (settings-came came) in
+    let values = ap (λ (s : Values). s .values) (second .values-in .ensures) ∙ values-got sheet at end (values-came next) in
+    let held : made .with-no-entries .result ≡ noEntries (settingsIn sheet .got) (valuesFrom sheet at .got) =
+    made .with-no-entries .ensures ∙ (λ j. noEntries (settings j) (values j)) in
+    loads-right (given .image .now) sheet (image-is (first .before)) (settingsIn sheet .got) (valuesFrom sheet at .got) (c .before .before .encode .last .1 .0)
+    (all-right sheet at (settings-came came) end (values-came next) (left .if2 .left))
+    (c .before .before .encode .ensures ∙ ap (λ (s : State). encodedIn s (given .image .now)) held)
 
 pub load-spec : {M : Type 1} → statement M
 load-spec =

@@ -1,27 +1,32 @@
 -- `settings_in` meets its contract. The loop's invariant: the answer turns on the lines from `at` on and the parameters that were read.
-use Prim.Native.Nat.{_+_, _≤_, _-_}
+use Prim.Native.Nat.{ℕ, _≤_, _-_}
 use mathlib.Core.Path.{_≡_, refl, sym, ap, _∙_}
-use mathlib.Core.List.{[]}
+use mathlib.Core.Bool.{true, false}
+use mathlib.Core.List.{List}
 use native.Mathlib.Omega.{arith}
-use lib.ListN.{length, getD, take, drop, length-set, length-drop}
-use Rattle.state.specs.Settings.{rows, row}
-use Rattle.state.specs.Entries.{settingsN}
-use Rattle.state.proofs.Ranges.{held, failed}
-use Rattle.sheets.specs.Keys.{settingKeys}
-use Rattle.sheets.specs.Sheet.{seriesLine}
-use Rattle.sheets.specs.Loading.{settingStands, settingsPart, settingsIn, settingsAs}
-use Rattle.sheets.proofs.Held.{Held, highest-digit, setting-held, setting-keys-long, rows-long}
-use Rattle.sheets.proofs.Standing.{to-end, starts-long, setting-here}
-use Rattle.sheets.proofs.Parts.{settings-wrong, settings-start, settings-done, settings-not, settings-more}
+use borrow.Author.Tests.{not-true, not-false}
+use lib.ListN.{length, length-set}
+use Rattle.figures.specs.Bytes.{startsWith}
+use Rattle.instrument.specs.Settings.{rows, inRange, settingsN}
+use Rattle.instrument.specs.declared.settings.Row.{Row}
+use Rattle.figures.proofs.Tests.{passed, failed}
+use Rattle.sheets.specs.Lines.{Part, wrongAt}
+use Rattle.sheets.specs.Sheet.{seriesLine, settingLine}
+use Rattle.sheets.specs.Loading.{settingSays, settingRight, settingsIn}
+use Rattle.sheets.specs.Keeping.{settingsAs}
+use Rattle.sheets.proofs.Linewise.{line-within, setting-few}
+use Rattle.sheets.proofs.Partwise.{starts-long, leftOf, Turned, part-unright, part-turned, part-done}
+use Rattle.sheets.proofs.Says.{right-small}
+use Rattle.sheets.proofs.Loads.{settings-kept}
 use Rattle.sheets.proofs.loading.settings_in.Statement.{statement}
 use Rattle.sheets.proofs.loading.settings_in.Tie as tie
 
+abbrev settingsLeft : ℕ → ℕ → List ℕ → List ℕ → Part ℕ
+settingsLeft = leftOf (settingLine rows) (settingRight rows) (settingSays rows) settingsN
+
 abbrev Inv-loop : tie.InvT-loop
 Inv-loop sheet settings₀ at₀ i₀ settings at i =
-    (i ≤ settingsN)
-    × (at ≤ length sheet)
-    × (length settings ≡ settingsN)
-    × (settingsIn sheet ≡ settingsPart (drop i settingKeys) (drop i rows) at (drop at sheet) (take i settings))
+    (i ≤ settingsN) × (at ≤ length sheet) × (length settings ≡ settingsN) × (settingsIn sheet ≡ settingsLeft i at sheet settings)
 
 abbrev μ-loop : tie.MeasureT-loop
 μ-loop sheet settings₀ at₀ i₀ settings at i = settingsN - i
@@ -29,85 +34,88 @@ abbrev μ-loop : tie.MeasureT-loop
 returns : tie.Need-returns Inv-loop μ-loop
 returns c =
     let sheet = c .before .before .before .before .before .args .sheet .now in
-    c .wrong-settings .ensures ∙ ap settingsAs (sym (settings-wrong sheet (failed (c .before .before .starts .ensures) (c .before .if1 .taken))))
+    let astray : startsWith seriesLine sheet ≡ false = failed (c .before .before .starts .ensures) (c .before .if1 .taken) in
+    let wrong : settingsIn sheet ≡ wrongAt 0 = rw astray in
+    c .wrong-settings .ensures ∙ ap settingsAs (sym wrong)
 
 loop-holds : tie.Need-loop-holds Inv-loop μ-loop
 loop-holds c =
     let sheet = c .before .before .before .before .args .sheet .now in
-    let stands : _ ≡ _ = held (c .before .starts .ensures) (c .if1 .left) in
-    (omega arith, starts-long seriesLine sheet stands, refl, settings-start sheet stands)
+    let yes : startsWith seriesLine sheet ≡ true = passed (c .before .starts .ensures) (c .if1 .left) in
+    (omega arith, starts-long seriesLine sheet yes, refl, rw yes)
 
--- the key of the turn, and whether its line stands
-
-key-of : (c : tie.After-setting-key Inv-loop μ-loop) → Held (c .setting-key .result) (getD settingKeys (c .before .before .loop .i) [])
-key-of c = setting-held (c .before .before .loop .i) (c .setting-key .result) (c .setting-key .ensures)
-
-setting-stands-requires : tie.Need-setting-stands-requires Inv-loop μ-loop
-setting-stands-requires c κs =
-    let i = c .before .before .before .before .loop .i in
-    (key-of (c .before .before) .short, rw (c .before .row-at .ensures) (highest-digit i))
-
-stands : (c : tie.After-setting-stands Inv-loop μ-loop)
-    → c .setting-stands .result
-    ≡ settingStands (getD settingKeys (c .before .before .before .before .before .loop .i) [])
-    (getD rows (c .before .before .before .before .before .loop .i) (row 0 0 0) .highest)
-    (drop (c .before .before .before .before .before .loop .at) (c .before .before .before .before .before .before .before .before .before .before .args .sheet .now))
-stands c =
-    let sheet = c .before .before .before .before .before .before .before .before .before .before .args .sheet .now in
-    let at = c .before .before .before .before .before .loop .at in
-    c .setting-stands .ensures ∙ (λ j. settingStands (key-of (c .before .before .before) .is j) (c .before .before .row-at .ensures j .highest) (to-end sheet at j))
+-- the parameter is in its range, or not
+judged : (c : tie.After-in-range Inv-loop μ-loop)
+    → c .in-range .result ≡ settingRight rows (c .before .before .before .before .before .loop .i) (c .before .before .parameter-in .result)
+judged c = c .in-range .ensures ∙ ap (λ (r : Row). inRange r (c .before .before .parameter-in .result)) (c .before .row-at .ensures)
 
 returns-2 : tie.Need-returns-2 Inv-loop μ-loop
 returns-2 c =
-    let told = c .before .before in
-    let loop = told .before .before .before .before .before .loop in
-    c .wrong-settings2 .ensures
-    ∙ ap settingsAs (sym (loop .inv .3 ∙ settings-not settingKeys rows (row 0 0 0) (loop .i) (omega (arith, setting-keys-long)) (omega (arith, rows-long)) (loop .at) _ _ (failed (stands told) (c .before .if2 .taken))))
+    let range = c .before .before in
+    let told = range .before .before in
+    let turn = told .before .before in
+    let loop = turn .before .loop in
+    let wrong = part-unright (settingLine rows) (settingRight rows) (settingSays rows) settingsN (loop .i) (loop .at) _ (loop .settings) _
+    (turn .loop-test .taken) (told .parameter-in .ensures) (failed (judged range) (c .before .if2 .taken)) in
+    c .wrong-settings2 .ensures ∙ ap settingsAs (sym (loop .inv .3 ∙ wrong))
 
-here : (c : tie.Else2 Inv-loop μ-loop)
-    → (c .before .before .before .before .setting-key .result .n + 2
-    ≤ length (drop (c .before .before .before .before .before .before .loop .at) (c .before .before .before .before .before .before .before .before .before .before .before .args .sheet .now)))
-    × (48
-    ≤ getD (drop (c .before .before .before .before .before .before .loop .at) (c .before .before .before .before .before .before .before .before .before .before .before .args .sheet .now))
-    (c .before .before .before .before .setting-key .result .n) 0)
-here c = setting-here (key-of (c .before .before .before .before)) _ _ (held (stands (c .before)) (c .if2 .left))
+in-range : (c : tie.Else2 Inv-loop μ-loop)
+    → settingRight rows (c .before .before .before .before .before .before .loop .i) (c .before .before .before .parameter-in .result) ≡ true
+in-range c = passed (judged (c .before)) (c .if2 .left)
 
-shared-slice-read-settings : tie.Need-shared-slice-read-settings Inv-loop μ-loop
-shared-slice-read-settings c =
-    let is = here (c .before) in
-    rw to-end (omega arith)
+small : (c : tie.Else2 Inv-loop μ-loop) → c .before .before .before .parameter-in .result ≤ 255
+small c = right-small (c .before .before .before .before .before .before .loop .i) _ (in-range c)
 
-sub-settings : tie.Need-sub-settings Inv-loop μ-loop
-sub-settings c = rw to-end (here (c .before) .1)
-
--- the line ends within the sheet
-within-sheet : (c : tie.Else2 Inv-loop μ-loop)
-    → c .before .before .before .before .before .before .loop .at + (c .before .before .before .before .setting-key .result .n + 2)
-    ≤ length (c .before .before .before .before .before .before .before .before .before .before .before .args .sheet .now)
-within-sheet c =
-    let at = c .before .before .before .before .before .before .loop .at in
-    let sheet = c .before .before .before .before .before .before .before .before .before .before .before .args .sheet .now in
-    omega (arith, here c .0, length-drop at sheet)
-
-add-at-2 : tie.Need-add-at-2 Inv-loop μ-loop
-add-at-2 c = omega (arith, within-sheet (c .before), c .before .before .before .before .before .before .before .before .before .before .before .before .good)
-
-loop-again : tie.Need-loop-again Inv-loop μ-loop
-loop-again c =
-    let told = c .before .before in
-    let loop = told .before .before .before .before .before .loop in
-    let sheet = told .before .before .before .before .before .before .before .before .before .before .args .sheet .now in (
-      omega arith,
-      within-sheet (c .before),
-      simp length-set (loop .inv .2),
-      loop .inv .3
-          ∙ rw (to-end sheet (loop .at)) (settings-more settingKeys rows (row 0 0 0) sheet (loop .settings) (loop .i) (loop .at) (told .before .before .before .setting-key .result) (omega (arith, setting-keys-long)) (omega (arith, rows-long)) (omega arith) (key-of (told .before .before .before)) (held (stands told) (c .before .if2 .left))),
-    )
+-- whether the line of what was said stands
+turned : (c : tie.After-starts2 Inv-loop μ-loop)
+    → let line = c .before .before .before .before in
+    let told = line .before .before .before .before in
+    let at = told .before .before .before in
+    let sheet = at .before .before .before .before .before .args .sheet .now in
+    Turned (settingLine rows) (settingRight rows) (settingSays rows) settingsN (at .loop .i) (at .loop .at) sheet (at .loop .settings)
+    (told .parameter-in .result) (line .setting-line .result .n) (c .starts2 .result)
+turned c =
+    let line = c .before .before .before .before in
+    let told = line .before .before .before .before in
+    let turn = told .before .before in
+    let loop = turn .before .loop in
+    let p = told .parameter-in .result in
+    part-turned (settingLine rows) (settingRight rows) (settingSays rows) settingsN (loop .i) (loop .at) _ (loop .settings) p (turn .loop-test .taken)
+    (told .parameter-in .ensures) (in-range (line .before)) (loop .inv .1) (omega arith) (line .setting-line .result) (line .setting-line .ensures)
+    (omega (arith, setting-few (loop .i) p (omega (arith, small (line .before))))) (c .starts2 .ensures)
 
 returns-3 : tie.Need-returns-3 Inv-loop μ-loop
 returns-3 c =
+    let told = c .before .before in
+    let loop = told .before .before .before .before .before .before .before .before .before .before .before .loop in
+    c .wrong-settings3 .ensures ∙ ap settingsAs (sym (loop .inv .3 ∙ turned told .astray (not-true _ (c .before .if3 .taken))))
+
+stands : (c : tie.Else3 Inv-loop μ-loop) → c .before .starts2 .result ≡ true
+stands c = not-false _ (c .if3 .left)
+
+loop-again : tie.Need-loop-again Inv-loop μ-loop
+loop-again c =
+    let loop = c .before .before .before .before .before .before .before .before .before .before .before .before .loop in
+    let next = turned (c .before) in
+    (omega arith, next .within (stands c), length-set (loop .settings) (loop .i) _ ∙ loop .inv .2, loop .inv .3 ∙ next .more (stands c))
+
+part-starts-end : tie.Need-part-starts-end Inv-loop μ-loop
+part-starts-end c =
+    let line = c .before .before in
+    let told = line .before .before .before .before in
+    line-within (settingLine rows (told .before .before .before .loop .i) (told .parameter-in .result)) _ (line .setting-line .ensures)
+
+add-at : tie.Need-add-at Inv-loop μ-loop
+add-at c =
+    let at = c .before .before .before .before .before .before .before .before .before .before .before .before in
+    omega (arith, turned (c .before) .within (stands c), at .before .before .before .before .before .good)
+
+returns-4 : tie.Need-returns-4 Inv-loop μ-loop
+returns-4 c =
     let loop = c .before .loop in
-    settings-done settingKeys rows (loop .i) (loop .at) _ (loop .settings) (omega (arith, setting-keys-long)) (omega arith) (loop .inv .2) (loop .inv .3)
+    let done = part-done (settingLine rows) (settingRight rows) (settingSays rows) settingsN (loop .i) (loop .at) _ (loop .settings) (omega arith)
+    (loop .inv .2) in
+    sym (ap settingsAs (loop .inv .3 ∙ done) ∙ settings-kept (loop .at) (loop .settings) (loop .inv .2))
 
 pub settings-in-spec : {M : Type 1} → statement M
 settings-in-spec =
@@ -120,20 +128,25 @@ settings-in-spec =
     (λ c κs. tt)
     returns
     loop-holds
+    (λ c. omega arith)
+    (λ c. omega arith)
+    (λ c. omega arith)
     (λ c κs. tt)
     (λ c κs. tt)
-    (λ c. omega arith)
-    (λ c. omega arith)
-    (λ c. omega arith)
-    setting-stands-requires
+    (λ c κs. tt)
     (λ c κs. tt)
     returns-2
-    shared-slice-read-settings
-    sub-settings
+    (λ c. omega (arith, small c))
+    (λ c κs. tt)
     (λ c. omega arith)
-    (λ c. omega (arith, within-sheet (c .before)))
-    add-at-2
+    (λ c. omega arith)
+    part-starts-end
+    (λ c κs. tt)
+    (λ c κs. tt)
+    returns-3
+    (λ c. omega arith)
+    add-at
     (λ c. omega arith)
     (λ c. omega arith)
     loop-again
-    returns-3)
+    returns-4)

@@ -8,7 +8,8 @@ use borrow.Author.Needs.{needs}
 use Rattle.state.specs.Entries.{factoryState}
 use Rattle.state.specs.Image.{imageOf}
 use Rattle.pieces.specs.Pieces.{pieces}
-use Rattle.sheets.specs.Playing.{runBy, Plays}
+use Rattle.sheets.specs.Playing.{Plays}
+use Rattle.sheets.specs.Keeping.{runBy}
 use Rattle.sheets.specs.declared.answers.Sheeted.{Sheeted}
 use Rattle.sheets.specs.declared.answers.Sheeted.the-variants.{NoState, Room, Wrong, Written, Loaded}
 use Rattle.sheets.proofs.Reached.{writtenN, plays-printed, plays-short, plays-refused}
@@ -25,7 +26,8 @@ rest Loaded h = refl
 
 -- what the write comes to
 out : (w : tie.After-write) (r : ℕ) → r ≡ writtenN (w .write .result)
-    → let a = w .before .before .before .before .before .before .before .before .before .before .before .before .before .args in Plays (a .input .now) (a .room .now) r (w .write .last .1 .0)
+    → let a = w .before .before .before .before .before .before .before .before .before .before .before .before .before .args in
+    Plays (a .input .now) (a .room .now) r (w .write .last .1 .0)
 out w r er =
     let run = w .before .before .before .before in
     let encode = run .before .before .before in

@@ -5,13 +5,14 @@ use native.Mathlib.Omega.{arith}
 use borrow.Author.Needs.{needs}
 use lib.ListN.{length, drop, replicate}
 use Rattle.pieces.specs.Pieces.{pieces}
-use Rattle.sheets.specs.Playing.{runBy}
+use Rattle.sheets.specs.Keeping.{runBy}
 use Rattle.sheets.proofs.Turns.{run-turn, run-none}
 use Rattle.sheets.proofs.playing.run.Statement.{statement}
 use Rattle.sheets.proofs.playing.run.Tie as tie
 
 abbrev Inv-loop : tie.InvT-loop
-Inv-loop input image₀ at₀ image at = (at ≤ length input) × ((length image ≡ length image₀) × (runBy (pieces input) image₀ ≡ runBy (pieces (drop at input)) image))
+Inv-loop input image₀ at₀ image at =
+    (at ≤ length input) × ((length image ≡ length image₀) × (runBy (pieces input) image₀ ≡ runBy (pieces (drop at input)) image))
 
 abbrev μ-loop : tie.MeasureT-loop
 μ-loop input image₀ at₀ image at = length input - at
@@ -24,7 +25,10 @@ turn : (c : tie.After-reply2 Inv-loop μ-loop)
     → let a = c .before .before .before .before .before .before .before .before .before .before in
     let n = c .before .before .before .before .before .before .before .cut .result in
     let input = a .before .before .before .args .input .now in
-    (0 < n) × ((a .loop .at + n ≤ length input) × (runBy (pieces (drop (a .loop .at) input)) (a .loop .image) ≡ runBy (pieces (drop (a .loop .at + n) input)) (c .before .before .before .line .last .0)))
+    let next = c .before .before .before .line .last .0 in
+    (0 < n)
+    × ((a .loop .at + n ≤ length input)
+    × (runBy (pieces (drop (a .loop .at) input)) (a .loop .image) ≡ runBy (pieces (drop (a .loop .at + n) input)) next))
 turn c =
     let a = c .before .before .before .before .before .before .before .before .before .before in
     let t = c .before .before .before .before .before .before .before in
@@ -43,7 +47,9 @@ same-length : tie.Need-same-length Inv-loop μ-loop
 same-length c = c .before .loop .inv .1 .0
 
 returns : tie.Need-returns Inv-loop μ-loop
-returns c = sym (c .before .loop .inv .1 .1 ∙ run-none (c .before .before .before .before .args .input .now) (c .before .loop .image) (c .before .loop .at) (c .loop-test .left))
+returns c =
+    let loop = c .before .loop in
+    sym (loop .inv .1 .1 ∙ run-none (c .before .before .before .before .args .input .now) (loop .image) (loop .at) (c .loop-test .left))
 
 pub run-spec : {M : Type 1} → statement M
 run-spec =

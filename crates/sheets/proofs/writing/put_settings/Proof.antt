@@ -1,75 +1,75 @@
--- `put_settings` meets its contract. The loop's invariant: all but the lines of the settings from `i` on stands in the array, up to `at`.
-use Prim.Native.Nat.{ℕ, _+_, _≤_, _-_}
-use mathlib.Core.Path.{_≡_, refl, ap, _∙_}
-use mathlib.Core.List.{List, [], _++_}
+-- `put_settings` meets its contract. The loop's invariant: after the series the lines of the settings before the i-th are put.
+use Prim.Native.Nat.{ℕ, _-_, _<_, _≤_}
+use mathlib.Core.Path.{_≡_, sym, _∙_}
+use mathlib.Core.List.{_++_}
 use native.Mathlib.Omega.{arith}
-use lib.ListN.{length, getD, drop}
-use Rattle.figures.specs.Bytes.{laid}
-use Rattle.state.specs.Entries.{settingsN}
-use Rattle.state.proofs.Images.{shaped}
-use Rattle.sheets.specs.Keys.{settingKeys}
-use Rattle.sheets.specs.Sheet.{seriesLine, settingLines}
-use Rattle.sheets.proofs.Held.{Held, setting-held, setting-keys-long, state-digit}
-use Rattle.sheets.proofs.Lines.{Stands, stands-first, blank, blank-is, blank-long, sheet-is, front-fits, last-line, setting-room, setting-put}
+use mir.Syntax.{w8}
+use mir.Val.{Fits}
+use borrow.Author.Needs.{needs, length-unmapped}
+use lib.ListN.{length, getD, take, replicate}
+use Rattle.figures.specs.Rooms.{Puts}
+use Rattle.figures.proofs.Putting.{puts-more, puts-long, puts-within}
+use Rattle.instrument.specs.Settings.{rows, settingsN}
+use Rattle.sheets.specs.Lines.{linesBy}
+use Rattle.sheets.specs.Sheet.{seriesLine, settingLine}
+use Rattle.sheets.proofs.Linewise.{lines-none, lines-put, lines-all, line-cut, line-within, sheet-put, setting-few}
 use Rattle.sheets.proofs.writing.put_settings.Statement.{statement}
 use Rattle.sheets.proofs.writing.put_settings.Tie as tie
 
 abbrev Inv-loop : tie.InvT-loop
-Inv-loop settings bytes₀ at₀ i₀ bytes at i =
-    (i ≤ settingsN)
-    × (length settings ≡ settingsN)
-    × Stands (seriesLine ++ settingLines settingKeys settings) blank bytes at (settingLines (drop i settingKeys) (drop i settings))
+Inv-loop settings bytes₀ at₀ i₀ bytes at i = Puts bytes₀ at₀ (linesBy (settingLine rows) 0 (take i settings)) at bytes
 
 abbrev μ-loop : tie.MeasureT-loop
 μ-loop settings bytes₀ at₀ i₀ bytes at i = settingsN - i
 
-abbrev whole : tie.Start Inv-loop μ-loop → List ℕ
-whole c = seriesLine ++ settingLines settingKeys (c .args .s .settings)
+all : (c : tie.Start Inv-loop μ-loop) → length (c .args .s .settings) ≡ settingsN
+all c = length-unmapped _ (c .args .s .settings) settingsN (search needs)
 
-fits : (c : tie.Start Inv-loop μ-loop) → length (whole c) ≤ 352
-fits c = front-fits (c .args .s) (c .pre)
+byte : (c : tie.Start Inv-loop μ-loop) (i : ℕ) → Fits w8 (getD (c .args .s .settings) i 0)
+byte c i = search needs
 
 loop-holds : tie.Need-loop-holds Inv-loop μ-loop
 loop-holds c =
-    let start = c .before .before .before .before .before in
-    let room = fits start in (
-      omega arith,
-      shaped (start .args .s) (start .pre) .settings-long,
-      stands-first (whole start) blank (omega (arith, blank-long)) (c .before .lay .last .1 .0) seriesLine (settingLines settingKeys (start .args .s .settings)) refl (c .before .lay .ensures ∙ ap (laid seriesLine) blank-is),
-    )
+    let put = c .before .put in
+    let settings = c .before .before .before .before .before .args .s .settings in
+    lines-none (settingLine rows) (put .last .0) (put .result) settings (puts-within (replicate 352 0) 0 seriesLine (put .ensures))
 
--- the key of the turn, and the room for its line
+slice-aggregate-put-3 : tie.Need-slice-aggregate-put-3 Inv-loop μ-loop
+slice-aggregate-put-3 c =
+    let at = c .before .before .before .before in
+    sym (puts-long _ _ _ (at .loop .inv) ∙ puts-long (replicate 352 0) 0 seriesLine (at .before .before .put .ensures))
 
-key-of : (c : tie.After-setting-key Inv-loop μ-loop) → Held (c .setting-key .result) (getD settingKeys (c .before .before .loop .i) [])
-key-of c = setting-held (c .before .before .loop .i) (c .setting-key .result) (c .setting-key .ensures)
-
-room : (c : tie.After-setting-key Inv-loop μ-loop) → (c .before .before .loop .at + c .setting-key .result .n + 2 ≤ 352) × (length (c .before .before .loop .bytes) ≡ 352)
-room c =
-    let loop = c .before .before .loop in
-    let start = c .before .before .before .before .before .before .before .before in
-    setting-room (whole start) (loop .bytes) (loop .at) (fits start) settingKeys (start .args .s .settings) (loop .i) (omega (arith, setting-keys-long)) (omega arith) (c .setting-key .result) (key-of c) (loop .inv .2)
-
-add-bytes : tie.Need-add-bytes Inv-loop μ-loop
-add-bytes c =
-    let at = c .before .before .before .before .before .before .before .before in
-    let start = at .before .before .before .before .before .before in
-    omega (arith, state-digit (start .args .s) (start .pre) (at .loop .i))
+part-put-end : tie.Need-part-put-end Inv-loop μ-loop
+part-put-end c =
+    let line = c .before .before .before in
+    let at = line .before .before in
+    let settings = at .before .before .before .before .before .before .args .s .settings in
+    omega (arith, line-within (settingLine rows (at .loop .i) (getD settings (at .loop .i) 0)) (line .setting-line .result) (line .setting-line .ensures))
 
 loop-again : tie.Need-loop-again Inv-loop μ-loop
 loop-again c =
-    let turn = c .before .before .before .before .before .before in
-    let loop = turn .before .before .loop in
-    let start = turn .before .before .before .before .before .before .before .before in (
-      omega arith,
-      loop .inv .1,
-      setting-put (whole start) (loop .bytes) (loop .at) (fits start) settingKeys (start .args .s .settings) (loop .i) (omega (arith, setting-keys-long)) (omega arith) (turn .setting-key .result) (key-of turn) (loop .inv .2) (c .before .lay2 .last .1 .0) (c .before .lay2 .ensures),
-    )
+    let line = c .before .before .before .before .before .before in
+    let at = line .before .before in
+    let put = at .before .before .put in
+    let start = at .before .before .before .before .before .before in
+    let settings = start .args .s .settings in
+    let i = at .loop .i in
+    let p = getD settings i 0 in
+    let inside : i < length settings = omega (arith, all start, line .before .loop-test .taken) in
+    let small : p < 1000 = omega (arith, byte start i .fits) in
+    let cut = line-cut (settingLine rows i p) (line .setting-line .result) (omega (arith, setting-few i p small)) (line .setting-line .ensures) in
+    lines-put (settingLine rows) (put .last .0) (put .result) settings i 0 inside cut (at .loop .inv) (c .before .put2 .ensures)
 
 returns : tie.Need-returns Inv-loop μ-loop
 returns c =
-    let loop = c .before .loop in
-    let start = c .before .before .before .before .before .before .before in
-    sheet-is (whole start) (loop .bytes) (loop .at) (fits start) (last-line settingKeys (start .args .s .settings) (loop .i) (omega (arith, setting-keys-long)) (loop .inv .2))
+    let at = c .before in
+    let put = at .before .before .put in
+    let start = at .before .before .before .before .before .before in
+    let settings = start .args .s .settings in
+    let past : length settings ≤ at .loop .i = omega (arith, all start, c .loop-test .left) in
+    let lines = lines-all (settingLine rows) (put .last .0) (put .result) settings (at .loop .i) past (at .loop .inv) in
+    let text = linesBy (settingLine rows) 0 settings in
+    sheet-put (seriesLine ++ text) (puts-more (replicate 352 0) 0 seriesLine text (put .ensures) lines)
 
 pub put-settings-spec : {M : Type 1} → statement M
 put-settings-spec =
@@ -77,25 +77,17 @@ put-settings-spec =
     (tie.spec
     Inv-loop
     μ-loop
-    (λ c. refl)
-    (λ c. refl)
-    (λ c κs. tt)
+    (λ c. search needs)
+    (λ c. search needs)
+    (λ c κs. search needs)
     loop-holds
-    (λ c κs. tt)
-    (λ c. omega arith)
-    (λ c. omega arith)
-    (λ c. let key = key-of (c .before .before) in omega arith)
-    (λ c. omega (arith, room (c .before .before .before)))
-    (λ c. omega (arith, room (c .before .before .before)))
-    (λ c. omega (arith, room (c .before .before .before)))
-    (λ c κs. tt)
-    (λ c. omega (arith, room (c .before .before .before .before .before .before)))
-    (λ c. omega arith)
-    add-bytes
-    (λ c. omega (arith, room (c .before .before .before .before .before .before)))
-    (λ c. omega (arith, room (c .before .before .before .before .before .before)))
-    (λ c. omega (arith, room (c .before .before .before .before .before .before)))
-    (λ c. omega (arith, room (c .before .before .before .before .before .before)))
+    (λ c. search needs)
+    (λ c κs. search needs)
+    slice-aggregate-put-3
+    (λ c. search needs)
+    (λ c. search needs)
+    part-put-end
+    (λ c κs. search needs)
     (λ c. omega arith)
     (λ c. omega arith)
     loop-again

@@ -8,10 +8,10 @@ use borrow.Author.Needs.{needs}
 use lib.ListN.{length, take}
 use Rattle.figures.specs.Bytes.{laid}
 use Rattle.state.specs.Image.{stateIn, isImage}
-use Rattle.state.proofs.Images.{image-of}
-use Rattle.sheets.specs.Sheet.{sheetOf, sheetPut}
-use Rattle.state.proofs.Images.{decoded-is, decoded-not}
-use Rattle.sheets.proofs.Writes.{is-state, sheet-kept, writes-none, writes-room, writes-sheet}
+use Rattle.state.proofs.Images.{image-of, decoded-is, decoded-not}
+use Rattle.sheets.specs.Sheet.{sheetOf}
+use Rattle.sheets.specs.Keeping.{sheetPut}
+use Rattle.sheets.proofs.Writes.{sheet-kept, writes-none, writes-room, writes-sheet}
 use Rattle.sheets.proofs.writing.write.Statement.{statement}
 use Rattle.sheets.proofs.writing.write.Tie as tie
 
@@ -20,11 +20,6 @@ returns c =
     let given = c .before .before .before .before .before .before .args in
     let d = c .before .before .before .decode in
     writes-none (given .image .now) (given .room .now) (decoded-not (given .image .now) (d .result) (d .ensures) (c .enum-told2 .given .1))
-
-put-sheet-requires : tie.Need-put-sheet-requires
-put-sheet-requires c κs =
-    let d = c .before .before .before .decode in
-    is-state (c .before .before .before .before .before .before .args .image .now) (d .result) (d .ensures) (c .enum-told .given .1)
 
 -- the image is one, and the sheet that is kept is its state's
 
@@ -36,9 +31,9 @@ known c =
     decoded-is (c .before .before .before .before .before .before .args .image .now) (d .result) (d .ensures) (c .enum-told .given .1)
 
 sheet : (c : tie.After-put-sheet)
-    → (c .put-sheet .result .n ≡ length (sheetOf (stateIn (c .before .before .before .before .before .before .before .args .image .now))))
-    × (take (c .put-sheet .result .n) (c .put-sheet .result .bytes) ≡ sheetOf (stateIn (c .before .before .before .before .before .before .before .args .image .now)))
-    × (c .put-sheet .result .n ≤ length (c .put-sheet .result .bytes))
+    → let r = c .put-sheet .result in
+    let whole = sheetOf (stateIn (c .before .before .before .before .before .before .before .args .image .now)) in
+    (r .n ≡ length whole) × (take (r .n) (r .bytes) ≡ whole) × (r .n ≤ length (r .bytes))
 sheet c =
     let image = c .before .before .before .before .before .before .before .args .image .now in
     let is = known (c .before) in
@@ -55,9 +50,10 @@ returns-3 c =
     let left = c .before .before .before .before .before .before in
     let at = left .before .before in
     let given = at .before .before .before .before .before .before .before .args in
-    let laid-sheet : c .before .before .lay .last .1 .0 ≡ laid (sheetOf (stateIn (given .image .now))) (given .room .now) =
-    c .before .before .lay .ensures ∙ rw (sub-zero, sheet at .1) in
-    writes-sheet (given .image .now) (given .room .now) (known (at .before) .0) (at .put-sheet .result .n) (c .before .before .lay .last .1 .0) (omega (arith, left .if1 .left, sheet at .0)) (sheet at .0) laid-sheet
+    let lay = c .before .before .lay in
+    let laid-sheet : lay .last .1 .0 ≡ laid (sheetOf (stateIn (given .image .now))) (given .room .now) = lay .ensures ∙ rw (sub-zero, sheet at .1) in
+    writes-sheet (given .image .now) (given .room .now) (known (at .before) .0) (at .put-sheet .result .n) (lay .last .1 .0)
+    (omega (arith, left .if1 .left, sheet at .0)) (sheet at .0) laid-sheet
 
 pub write-spec : {M : Type 1} → statement M
 write-spec =
@@ -67,7 +63,7 @@ write-spec =
     (λ c. search needs)
     (λ c. search needs)
     returns
-    put-sheet-requires
+    (λ c κs. search needs)
     returns-2
     (λ c. search needs)
     (λ c. search needs)

@@ -7,7 +7,8 @@ use native.Mathlib.Omega.{arith}
 use borrow.Author.Needs.{needs}
 use lib.ListN.{drop, length}
 use Rattle.state.specs.Entries.{entriesN, blankEntry, entriesRight}
-use Rattle.state.proofs.Ranges.{held, failed, stand-more, stand-not, blank-more, blank-not, entries-all}
+use Rattle.state.proofs.Standing.{stand-more, stand-not, blank-more, blank-not, entries-all}
+use Rattle.figures.proofs.Tests.{passed, failed}
 use Rattle.state.proofs.entries.entries_right.Statement.{statement}
 use Rattle.state.proofs.entries.entries_right.Tie as tie
 
@@ -40,8 +41,8 @@ loop-again c =
     let a = c .before .before .before .before .args in
     let more : entriesRight (drop (at .i) (a .t1)) (a .count - at .i) ≡ entriesRight (drop (at .i + 1) (a .t1)) (a .count - (at .i + 1)) =
     ⊎-elim
-    (λ w. stand-more (a .t1) blankEntry (at .i) (a .count) (omega arith) (w .0 .taken) (held (w .1 .ensures) (w .2 .left)))
-    (λ w. blank-more (a .t1) blankEntry (at .i) (a .count) (omega arith) (w .0 .left) (held (w .1 .ensures) (w .2 .left)))
+    (λ w. stand-more (a .t1) blankEntry (at .i) (a .count) (omega arith) (w .0 .taken) (passed (w .1 .ensures) (w .2 .left)))
+    (λ w. blank-more (a .t1) blankEntry (at .i) (a .count) (omega arith) (w .0 .left) (passed (w .1 .ensures) (w .2 .left)))
     (c .if1 .came)
     in
     (omega arith, at .inv .1, at .inv .2 ∙ more)

@@ -26,7 +26,10 @@ returns-2 : tie.Need-returns-2
 returns-2 c = simp (c .is-never .ensures, c .before .before .before .enum-told .given .1, eq-eqb _ 0 (c .before .if1 .left))
 
 returns-3 : tie.Need-returns-3
-returns-3 c = let e = c .before .before .args .entry in sym (ap (λ (t : Bool). t && (eqb (e .former .parameter) 0 && isNever (e .former .kept))) (rest (e .item) (c .match .keys2)))
+returns-3 c =
+    let e = c .before .before .args .entry in
+    let blank = eqb (e .former .parameter) 0 && isNever (e .former .kept) in
+    sym (ap (λ (t : Bool). t && blank) (rest (e .item) (c .match .keys2)))
 
 pub entry-blank-spec : {M : Type 1} → statement M
 entry-blank-spec = tie.close (tie.spec (λ c. search needs) returns (λ c κs. search needs) returns-2 returns-3)

@@ -5,11 +5,11 @@ use mathlib.Core.Bool.{Bool}
 use native.Mathlib.Omega.{arith}
 use borrow.Author.Needs.{needs}
 use lib.ListN.{take, length, length-set}
-use Rattle.state.specs.declared.values.Value.{Value}
-use Rattle.state.specs.declared.values.Kept.the-variants.{Never}
-use Rattle.state.specs.Values.{isPut}
-use Rattle.state.specs.Entries.{valuesN, valueOf, putsOf}
-use Rattle.state.proofs.Ranges.{map-more, map-all}
+use Rattle.instrument.specs.declared.values.Value.{Value}
+use Rattle.instrument.specs.declared.values.Kept.the-variants.{Never}
+use Rattle.instrument.specs.Values.{isPut, valuesN}
+use Rattle.state.specs.Entries.{valueOf, putsOf}
+use Rattle.instrument.proofs.Ranges.{map-more, map-all}
 use Rattle.state.proofs.entries.puts_of.Statement.{statement}
 use Rattle.state.proofs.entries.puts_of.Tie as tie
 
@@ -28,11 +28,12 @@ loop-holds c = (omega arith, search needs, refl, refl)
 
 loop-again : tie.Need-loop-again Inv-loop μ-loop
 loop-again c =
-    let at = c .before .before .before .loop in (
+    let at = c .before .before .before .loop in
+    let l = c .before .before .before .before .args .t1 in (
       omega arith,
       at .inv .1,
       rw length-set (at .inv .2),
-      rw (c .is-put .ensures) (map-more putOf (c .before .before .before .before .args .t1) (at .puts) (valueOf Never) (at .i) (omega arith) (omega arith) (at .inv .3)),
+      rw (c .is-put .ensures) (map-more putOf l (at .puts) (valueOf Never) (at .i) (omega arith) (omega arith) (at .inv .3)),
     )
 
 returns : tie.Need-returns Inv-loop μ-loop

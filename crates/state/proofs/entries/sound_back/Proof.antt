@@ -9,12 +9,13 @@ use denote.Enum.Declared.{tagOf}
 use borrow.Author.Needs.{needs}
 use borrow.Author.Tests.{lt-ltb, le-ltb, not-true, not-false}
 use lib.ListN.{length, length-set, getD}
-use Rattle.state.specs.Entries.{valuesN, entriesN, backRight, putsBack, sound}
-use Rattle.state.specs.declared.values.Kept.{Kept}
+use Rattle.state.specs.Entries.{entriesN, backRight, putsBack, sound}
+use Rattle.instrument.specs.Values.{valuesN}
+use Rattle.instrument.specs.declared.values.Kept.{Kept}
 use Rattle.state.specs.declared.entries.Item.{Item}
 use Rattle.state.specs.declared.entries.Item.the-variants.{Free, Setting, Stored}
 use Rattle.state.proofs.entries.Item.{the-type}
-use Rattle.state.proofs.Ranges.{newest, sound-more, sound-not, sound-none}
+use Rattle.state.proofs.Standing.{newest, sound-more, sound-not, sound-none}
 use Rattle.state.proofs.entries.sound_back.Statement.{statement}
 use Rattle.state.proofs.entries.sound_back.Tie as tie
 
@@ -52,8 +53,9 @@ returns-2 c =
     let at = turn .before .loop in
     let start = turn .before .before in
     let u = start .before .args .t2 in
+    let unput = not-true (getD (at .puts) (named .place-of .result) false) (c .if2 .taken) in
     let wrong : backRight (at .puts) (newest u (at .n) .item) ≡ false =
-    rw (named .before .before .item .given .1, lt-ltb _ valuesN (rw is at (c .before .if1 .left))) (rw is at (not-true (getD (at .puts) (named .place-of .result) false) (c .if2 .taken)))
+    rw (named .before .before .item .given .1, lt-ltb _ valuesN (rw is at (c .before .if1 .left))) (rw is at unput)
     in
     sym (rw (start .puts-of .ensures) at (at .inv .2 ∙ sound-not (at .n) (at .puts) u (turn .loop-test .taken) wrong))
 
@@ -65,8 +67,9 @@ loop-again c =
     let turn = named .before .before .before .before .before .before in
     let at = turn .before .loop in
     let u = turn .before .before .before .args .t2 in
+    let put = not-false (getD (at .puts) (named .place-of .result) false) (c .before .if2 .left) in
     let right : backRight (at .puts) (newest u (at .n) .item) ≡ true =
-    rw (item, lt-ltb _ valuesN (rw is at (c .before .before .if1 .left))) (rw is at (not-false (getD (at .puts) (named .place-of .result) false) (c .before .if2 .left)))
+    rw (item, lt-ltb _ valuesN (rw is at (c .before .before .if1 .left))) (rw is at put)
     in (
       omega arith,
       rw length-set (at .inv .1),
@@ -80,7 +83,8 @@ loop-again-2 c =
     let u = turn .before .before .before .args .t2 in
     let e = newest u (at .n) in
     let other = rest (e .item) (c .match .keys2) (at .puts) (e .former .kept) in
-    (omega arith, at .inv .1, at .inv .2 ∙ sound-more (at .n) (at .puts) u (turn .loop-test .taken) (other .0) ∙ ap (λ (p : List Bool). sound (at .n - 1) p u) (other .1))
+    let more = sound-more (at .n) (at .puts) u (turn .loop-test .taken) (other .0) in
+    (omega arith, at .inv .1, at .inv .2 ∙ more ∙ ap (λ (p : List Bool). sound (at .n - 1) p u) (other .1))
 
 returns-3 : tie.Need-returns-3 Inv-loop μ-loop
 returns-3 c =

@@ -4,9 +4,11 @@ use mathlib.Core.Path.{_≡_, refl, sym, _∙_}
 use native.Mathlib.Omega.{arith}
 use borrow.Author.Needs.{needs}
 use lib.ListN.{drop, length}
-use Rattle.state.specs.declared.values.Kept.the-variants.{Never}
-use Rattle.state.specs.Entries.{valuesN, valueOf, valuesRight}
-use Rattle.state.proofs.Ranges.{held, failed, values-more, values-not, values-all}
+use Rattle.instrument.specs.declared.values.Kept.the-variants.{Never}
+use Rattle.state.specs.Entries.{valueOf, valuesRight}
+use Rattle.instrument.specs.Values.{valuesN}
+use Rattle.state.proofs.Standing.{values-more, values-not, values-all}
+use Rattle.figures.proofs.Tests.{passed, failed}
 use Rattle.state.proofs.entries.values_right.Statement.{statement}
 use Rattle.state.proofs.entries.values_right.Tie as tie
 
@@ -33,7 +35,7 @@ loop-again c =
     let told = c .before .kept-right in (
       omega arith,
       at .inv .1,
-      at .inv .2 ∙ values-more vs (valueOf Never) (at .i) (omega arith) (held (told .ensures) (c .if1 .left)),
+      at .inv .2 ∙ values-more vs (valueOf Never) (at .i) (omega arith) (passed (told .ensures) (c .if1 .left)),
     )
 
 returns-2 : tie.Need-returns-2 Inv-loop μ-loop

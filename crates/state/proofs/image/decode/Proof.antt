@@ -11,7 +11,7 @@ use Rattle.figures.specs.Bytes.{sameBytes}
 use Rattle.state.specs.Entries.{isState}
 use Rattle.state.specs.Image.{imageN, imageOf, stateIn, isImage}
 use Rattle.state.specs.declared.entries.State.{State}
-use Rattle.state.proofs.Ranges.{held, failed}
+use Rattle.figures.proofs.Tests.{passed, failed}
 use Rattle.state.proofs.Images.{refused, accepted}
 use Rattle.state.proofs.image.decode.Statement.{statement}
 use Rattle.state.proofs.image.decode.Tie as tie
@@ -68,12 +68,14 @@ same-requires c κs = search needs
 
 returns-2 : tie.Need-returns-2
 returns-2 c =
-    let same = c .before .same in
-    let again = c .before .before .before .before .encode in
-    let s = c .before .before .before .before .before .before .state-in in
-    let b = c .before .before .before .before .before .before .before .before .blank-state in
-    let l = c .before .before .before .before .before .before .before .before .before .before .args .image .now in
-    let differs = failed (same .ensures) (c .if2 .taken) in
+    let encoded = c .before .before .before .before in
+    let found = encoded .before .before in
+    let blank = found .before .before in
+    let again = encoded .encode in
+    let s = found .state-in in
+    let b = blank .blank-state in
+    let l = blank .before .before .args .image .now in
+    let differs = failed (c .before .same .ensures) (c .if2 .taken) in
     refused l (b .result) (b .ensures) (not-same l (again .last .1 .0) (s .result) (again .ensures) (s .ensures) differs)
 
 is-state-requires : tie.Need-is-state-requires
@@ -81,24 +83,27 @@ is-state-requires c κs = search needs
 
 returns-3 : tie.Need-returns-3
 returns-3 c =
-    let is = c .before .is-state in
-    let again = c .before .before .before .before .before .before .encode in
-    let s = c .before .before .before .before .before .before .before .before .state-in in
-    let b = c .before .before .before .before .before .before .before .before .before .before .blank-state in
-    let l = c .before .before .before .before .before .before .before .before .before .before .before .before .args .image .now in
-    let none = failed (is .ensures) (c .if3 .taken) in
+    let encoded = c .before .before .before .before .before .before in
+    let found = encoded .before .before in
+    let blank = found .before .before in
+    let again = encoded .encode in
+    let s = found .state-in in
+    let b = blank .blank-state in
+    let l = blank .before .before .args .image .now in
+    let none = failed (c .before .is-state .ensures) (c .if3 .taken) in
     refused l (b .result) (b .ensures) (not-state l (again .last .1 .0) (s .result) (again .ensures) (s .ensures) none)
 
 returns-4 : tie.Need-returns-4
 returns-4 c =
-    let is = c .before .is-state in
-    let same = c .before .before .before .same in
-    let again = c .before .before .before .before .before .before .encode in
-    let s = c .before .before .before .before .before .before .before .before .state-in in
-    let l = c .before .before .before .before .before .before .before .before .before .before .before .before .args .image .now in
-    let equal = held (same .ensures) (c .before .before .if2 .left) in
-    let one = held (is .ensures) (c .if3 .left) in
-    let all = is-image l (again .last .1 .0) (s .result) (again .ensures) (s .ensures) (c .before .before .before .before .before .before .before .before .before .if1 .left) equal one in
+    let compared = c .before .before .before in
+    let encoded = compared .before .before .before in
+    let found = encoded .before .before in
+    let again = encoded .encode in
+    let s = found .state-in in
+    let l = found .before .before .before .before .args .image .now in
+    let equal = passed (compared .same .ensures) (c .before .before .if2 .left) in
+    let one = passed (c .before .is-state .ensures) (c .if3 .left) in
+    let all = is-image l (again .last .1 .0) (s .result) (again .ensures) (s .ensures) (found .before .if1 .left) equal one in
     accepted l (s .result) (s .ensures) all
 
 pub decode-spec : {M : Type 1} → statement M

@@ -7,10 +7,12 @@ use borrow.Author.Needs.{needs}
 use borrow.Author.Tests.{eq-eqb, ne-eqb}
 use borrow.Rule.Slice.PartMut.{putMid, midOf, same-len-mid}
 use lib.ListN.{length, set, length-set, length-append}
-use Rattle.figures.proofs.Bytes.{fill-on, length-mid}
-use Rattle.state.specs.Entries.{settingsN, valuesN, entriesN}
+use Rattle.figures.proofs.Bytes.{fill-on, length-mid, store-on}
+use Rattle.state.specs.Entries.{entriesN}
+use Rattle.instrument.specs.Values.{valuesN}
+use Rattle.instrument.specs.Settings.{settingsN}
 use Rattle.state.specs.Image.{valuesAt, countAt, entriesAt, imageN, imageOf}
-use Rattle.state.proofs.Laying.{laid-whole, store-on, filled}
+use Rattle.state.proofs.Laying.{laid-whole, filled}
 use Rattle.state.proofs.image.encode.Statement.{statement}
 use Rattle.state.proofs.image.encode.Tie as tie
 
@@ -57,6 +59,43 @@ parts x g v e h l hx hg hv he =
     let e6 = fill-on d5 x (in-4 x g v h l) e entriesAt (entriesN * 14) (sym l5) e5 le in
     filled (d5 ++ e) x (l6 ∙ sym hx) e6 ∙ ap (λ (t : List ℕ). 1 ∷ t) (simp append-assoc)
 
+-- each call by the one before it, the first by the test
+abbrev by-values : tie.After-put-entries → tie.After-put-values
+by-values c = c .before .before .before .before .before .before
+
+abbrev by-lay : tie.After-put-values → tie.After-lay
+by-lay c = c .before .before .before .before
+
+abbrev by-size : tie.After-lay → tie.Else1
+by-size c = c .before .before .before .before .before .before
+
+settings-long : (c : tie.Start) → length (c .args .s .settings) ≡ settingsN
+settings-long c = search needs
+
+-- the room that is lent
+abbrev lent : tie.After-lay → List ℕ
+lent c = by-size c .before .before .args .image .now
+
+-- it is as long with the settings, with the values, with the count
+laid-long : (c : tie.After-lay) → length (in-2 (lent c) (c .lay .last .1 .0)) ≡ length (lent c)
+laid-long c = long-2 (lent c) (c .lay .last .1 .0) (c .lay .kept .1 .0)
+
+valued-long : (c : tie.After-put-values) →
+    let at = by-lay c in
+    length (in-3 (lent at) (at .lay .last .1 .0) (c .put-values .last .1 .0)) ≡ length (lent at)
+valued-long c =
+    let v = c .put-values in
+    let g = by-lay c .lay in
+    long-3 (lent (by-lay c)) (g .last .1 .0) (v .last .1 .0) (g .kept .1 .0) (v .kept .1 .0)
+
+counted-long : (c : tie.After-put-values) (h l : ℕ) →
+    let at = by-lay c in
+    length (in-4 (lent at) (at .lay .last .1 .0) (c .put-values .last .1 .0) h l) ≡ length (lent at)
+counted-long c h l =
+    let v = c .put-values in
+    let g = by-lay c .lay in
+    long-4 (lent (by-lay c)) (g .last .1 .0) (v .last .1 .0) h l (g .kept .1 .0) (v .kept .1 .0)
+
 returns : tie.Need-returns
 returns c = rw (ne-eqb _ _ (c .if1 .taken))
 
@@ -86,9 +125,8 @@ part-put-values-start c = search needs
 
 part-put-values-end : tie.Need-part-put-values-end
 part-put-values-end c =
-    let g = c .before .before .lay in
-    let fits = c .before .before .before .before .before .before .before .before .if1 .left in
-    omega (arith, fits, long-2 (c .before .before .before .before .before .before .before .before .before .before .args .image .now) (g .last .1 .0) (g .kept .1 .0))
+    let at = c .before .before in
+    omega (arith, by-size at .if1 .left, laid-long at)
 
 put-values-requires : tie.Need-put-values-requires
 put-values-requires c κs = search needs
@@ -98,11 +136,8 @@ cast-image c = search needs
 
 slice-write-image-2 : tie.Need-slice-write-image-2
 slice-write-image-2 c =
-    let v = c .before .before .before .put-values in
-    let g = c .before .before .before .before .before .before .before .lay in
-    let fits = c .before .before .before .before .before .before .before .before .before .before .before .before .before .if1 .left in
-    let a = c .before .before .before .before .before .before .before .before .before .before .before .before .before .before .before .args in
-    omega (arith, fits, long-3 (a .image .now) (g .last .1 .0) (v .last .1 .0) (g .kept .1 .0) (v .kept .1 .0))
+    let at = c .before .before .before in
+    omega (arith, by-size (by-lay at) .if1 .left, valued-long at)
 
 cast-image-2 : tie.Need-cast-image-2
 cast-image-2 c = search needs
@@ -112,11 +147,8 @@ add-image c = search needs
 
 slice-write-image-3 : tie.Need-slice-write-image-3
 slice-write-image-3 c =
-    let v = c .before .before .before .before .put-values in
-    let g = c .before .before .before .before .before .before .before .before .lay in
-    let fits = c .before .before .before .before .before .before .before .before .before .before .before .before .before .before .if1 .left in
-    let a = c .before .before .before .before .before .before .before .before .before .before .before .before .before .before .before .before .args in
-    simp length-set (omega (arith, fits, long-3 (a .image .now) (g .last .1 .0) (v .last .1 .0) (g .kept .1 .0) (v .kept .1 .0)))
+    let at = c .before .before .before .before in
+    simp length-set (omega (arith, by-size (by-lay at) .if1 .left, valued-long at))
 
 sub-put-entries : tie.Need-sub-put-entries
 sub-put-entries c = search needs
@@ -126,40 +158,42 @@ part-put-entries-start c = search needs
 
 part-put-entries-end : tie.Need-part-put-entries-end
 part-put-entries-end c =
-    let v = c .before .before .before .before .put-values in
-    let g = c .before .before .before .before .before .before .before .before .lay in
-    let fits = c .before .before .before .before .before .before .before .before .before .before .before .before .before .before .if1 .left in
-    let a = c .before .before .before .before .before .before .before .before .before .before .before .before .before .before .before .before .args in
-    let n = a .s .count in
-    omega (arith, fits, long-4 (a .image .now) (g .last .1 .0) (v .last .1 .0) (n / 256 % 256) (n % 256) (g .kept .1 .0) (v .kept .1 .0))
+    let at = c .before .before .before .before in
+    let size = by-size (by-lay at) in
+    let n = size .before .before .args .s .count in
+    omega (arith, size .if1 .left, counted-long at (n / 256 % 256) (n % 256))
 
 put-entries-requires : tie.Need-put-entries-requires
 put-entries-requires c κs = search needs
 
 same-length : tie.Need-same-length
 same-length c =
+    let at = by-values (c .before .before) in
     let e = c .before .before .put-entries in
-    let v = c .before .before .before .before .before .before .before .before .put-values in
-    let g = c .before .before .before .before .before .before .before .before .before .before .before .before .lay in
-    let a = c .before .before .before .before .before .before .before .before .before .before .before .before .before .before .before .before .before .before .before .before .args in
-    let h = a .s .count / 256 % 256 in
-    let l = a .s .count % 256 in
-    same-len-mid entriesAt (entriesN * 14) (in-4 (a .image .now) (g .last .1 .0) (v .last .1 .0) h l) (e .last .1 .0) (e .kept .1 .0)
-    ∙ long-4 (a .image .now) (g .last .1 .0) (v .last .1 .0) h l (g .kept .1 .0) (v .kept .1 .0)
+    let v = at .put-values in
+    let g = by-lay at .lay in
+    let n = by-size (by-lay at) .before .before .args .s .count in
+    let h = n / 256 % 256 in
+    let l = n % 256 in
+    same-len-mid entriesAt (entriesN * 14) (in-4 (lent (by-lay at)) (g .last .1 .0) (v .last .1 .0) h l) (e .last .1 .0) (e .kept .1 .0)
+    ∙ counted-long at h l
 
 returns-2 : tie.Need-returns-2
 unfolding imageOf
 returns-2 c =
+    let values = c .before .before .before .before .before .before .before .before in
+    let settings = values .before .before .before .before in
+    let size = settings .before .before .before .before .before .before in
     let e = c .before .before .put-entries in
-    let v = c .before .before .before .before .before .before .before .before .put-values in
-    let g = c .before .before .before .before .before .before .before .before .before .before .before .before .lay in
-    let hx = c .before .before .before .before .before .before .before .before .before .before .before .before .before .before .before .before .before .before .if1 .left in
-    let a = c .before .before .before .before .before .before .before .before .before .before .before .before .before .before .before .before .before .before .before .before .args in
-    let x = a .image .now in
-    let s = a .s in
-    let hs : length (s .settings) ≡ settingsN = search needs in
+    let v = values .put-values in
+    let g = settings .lay in
+    let hx = size .if1 .left in
+    let x = size .before .before .args .image .now in
+    let s = size .before .before .args .s in
     let part : length (midOf 1 settingsN (set x 0 1)) ≡ settingsN = length-mid 1 settingsN (set x 0 1) (omega (arith, length-set x 0 1)) in
-    let eg : g .last .1 .0 ≡ s .settings = g .ensures ∙ laid-whole (s .settings) (midOf 1 settingsN (set x 0 1)) (hs ∙ sym part) in
+    let eg : g .last .1 .0 ≡ s .settings =
+    g .ensures ∙ laid-whole (s .settings) (midOf 1 settingsN (set x 0 1)) (settings-long (size .before .before) ∙ sym part)
+    in
     let h = s .count / 256 % 256 in
     let l = s .count % 256 in
     let all = parts x (g .last .1 .0) (v .last .1 .0) (e .last .1 .0) h l hx (g .kept .1 .0) (v .kept .1 .0) (e .kept .1 .0) in

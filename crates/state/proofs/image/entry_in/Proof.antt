@@ -36,11 +36,13 @@ shared-slice-read-t19 c = search needs
 
 returns-2 : tie.Need-returns-2
 returns-2 c =
-    rw (ne-eqb _ 1 (c .before .before .before .if1 .left), eq-eqb _ 2 (c .before .if2 .taken), c .before .before .before .before .before .before .kept-in .ensures)
+    let at = c .before .before .before in
+    rw (ne-eqb _ 1 (at .if1 .left), eq-eqb _ 2 (c .before .if2 .taken), at .before .before .before .kept-in .ensures)
 
 returns-3 : tie.Need-returns-3
 returns-3 c =
-    rw (ne-eqb _ 1 (c .before .before .if1 .left), ne-eqb _ 2 (c .if2 .left), c .before .before .before .before .before .kept-in .ensures)
+    let at = c .before .before in
+    rw (ne-eqb _ 1 (at .if1 .left), ne-eqb _ 2 (c .if2 .left), at .before .before .before .kept-in .ensures)
 
 pub entry-in-spec : {M : Type 1} → statement M
 entry-in-spec =

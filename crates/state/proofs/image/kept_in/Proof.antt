@@ -6,11 +6,13 @@ use borrow.Author.Needs.{needs}
 use borrow.Author.Tests.{eq-eqb, ne-eqb}
 use lib.ListN.{getD, drop}
 use lib.Seq.{getD-drop}
-use Rattle.state.specs.Values.{eightOf}
+use Rattle.instrument.specs.Values.{eightOf}
 use Rattle.state.proofs.image.kept_in.Statement.{statement}
 use Rattle.state.proofs.image.kept_in.Tie as tie
 
-eight-in : (l : List ℕ) → eightOf (drop 3 l) ≡ record { 0 = getD l 3 0; 1 = getD l 4 0; 2 = getD l 5 0; 3 = getD l 6 0; 4 = getD l 7 0; 5 = getD l 8 0; 6 = getD l 9 0; 7 = getD l 10 0 }
+eight-in : (l : List ℕ) →
+    let at : ℕ → ℕ = λ i. getD l i 0 in
+    eightOf (drop 3 l) ≡ record { 0 = at 3; 1 = at 4; 2 = at 5; 3 = at 6; 4 = at 7; 5 = at 8; 6 = at 9; 7 = at 10 }
 eight-in l = simp getD-drop
 
 shared-slice-read-if1 : tie.Need-shared-slice-read-if1
@@ -48,8 +50,8 @@ shared-slice-read-t21-2 c = search needs
 
 returns : tie.Need-returns
 returns c =
-    let s = c .before .before .before .before .before .before .before .before .before .before .before .before .args .s .now in
-    rw (eq-eqb _ 1 (c .before .before .before .before .before .before .before .before .before .before .if1 .taken), eight-in s)
+    let at = c .before .before .before .before .before .before .before .before .before .before in
+    rw (eq-eqb _ 1 (at .if1 .taken), eight-in (at .before .before .args .s .now))
 
 returns-2 : tie.Need-returns-2
 returns-2 c = rw (ne-eqb _ 1 (c .if1 .left))

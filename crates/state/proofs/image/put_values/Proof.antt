@@ -5,9 +5,10 @@ use native.Mathlib.Omega.{arith}
 use borrow.Author.Needs.{needs}
 use lib.ListN.{length, take}
 use lib.Seq.{take-all}
-use Rattle.state.specs.Entries.{valuesN, valueOf}
+use Rattle.state.specs.Entries.{valueOf}
+use Rattle.instrument.specs.Values.{valuesN}
 use Rattle.state.specs.Image.{flat}
-use Rattle.state.specs.declared.values.Kept.the-variants.{Never}
+use Rattle.instrument.specs.declared.values.Kept.the-variants.{Never}
 use Rattle.state.proofs.Laying.{rows-more, flat-none, valueBytes}
 use Rattle.state.proofs.image.put_values.Statement.{statement}
 use Rattle.state.proofs.image.put_values.Tie as tie

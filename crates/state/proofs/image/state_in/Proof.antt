@@ -7,9 +7,11 @@ use borrow.Author.Needs.{needs}
 use borrow.Rule.Slice.PartMut.{midOf}
 use lib.ListN.{getD, replicate}
 use Rattle.figures.proofs.Bytes.{length-mid}
-use Rattle.state.specs.Entries.{settingsN, valuesN, entriesN}
+use Rattle.state.specs.Entries.{entriesN}
+use Rattle.instrument.specs.Values.{valuesN}
+use Rattle.instrument.specs.Settings.{settingsN}
 use Rattle.state.specs.Image.{valuesAt, countAt, entriesAt, valuesIn, entriesIn, stateIn}
-use Rattle.state.specs.declared.values.Value.{Value}
+use Rattle.instrument.specs.declared.values.Value.{Value}
 use Rattle.state.specs.declared.entries.Entry.{Entry}
 use Rattle.state.proofs.Laying.{laid-whole}
 use Rattle.state.proofs.image.state_in.Statement.{statement}

@@ -5,7 +5,8 @@ use native.Mathlib.Omega.{arith}
 use borrow.Author.Needs.{needs}
 use lib.ListN.{length, take, length-set}
 use lib.Seq.{take-all}
-use Rattle.state.specs.Entries.{valuesN, valueOf}
+use Rattle.state.specs.Entries.{valueOf}
+use Rattle.instrument.specs.Values.{valuesN}
 use Rattle.state.specs.Image.{rowsIn}
 use Rattle.state.proofs.Laying.{rows-none, read-more, row-long, valueIn}
 use Rattle.state.proofs.image.values_in.Statement.{statement}

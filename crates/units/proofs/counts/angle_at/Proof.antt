@@ -14,7 +14,9 @@ returns-3 : tie.Need-returns-3
 returns-3 c = rw (c .before .match .keys3) (c .tenth-at .ensures)
 
 returns-4 : tie.Need-returns-4
-returns-4 c = rw (ne-eqb _ _ (c .before .match .rest .0 .0 .1), ne-eqb _ _ (c .before .match .rest .0 .1), ne-eqb _ _ (c .before .match .rest .1)) (c .mil-at .ensures)
+returns-4 c =
+    let rest = c .before .match .rest in
+    rw (ne-eqb _ _ (rest .0 .0 .1), ne-eqb _ _ (rest .0 .1), ne-eqb _ _ (rest .1)) (c .mil-at .ensures)
 
 pub angle-at-spec : {M : Type 1} → statement M
 angle-at-spec =

@@ -24,7 +24,9 @@ returns-3 c = along kindOf 31 35 refl (c .before .if8 .left) (c .if9 .taken)
 
 returns-4 : tie.Need-returns-4
 unfolding among
-returns-4 c = along-but kindOf 41 50 41 refl (c .if10 .left) (c .before .before .before .before .before .if1 .taken) (λ is. c .before .before .before .before .before .before .match .rest .0 .0 .0 .1 (inr is))
+returns-4 c =
+    let low = c .before .before .before .before .before in
+    along-but kindOf 41 50 41 refl (c .if10 .left) (low .if1 .taken) (λ is. low .before .match .rest .0 .0 .0 .1 (inr is))
 
 returns-5 : tie.Need-returns-5
 unfolding among

@@ -10,9 +10,10 @@ use lib.Dec.{eqb}
 use lib.ListN.{length, getD}
 use Rattle.units.specs.Information.{infoRight}
 use Rattle.words.specs.Records.{width}
-use Rattle.words.specs.Reading.{wordSize, pos, kindAt, dataIn, isCounted, textOf, recordIn, rightWord}
+use Rattle.words.specs.Reading.{wordSize, pos, kindAt, dataIn, isCounted, textField, recordIn, rightWord}
 use Rattle.words.proofs.Checks.{index-not, informed-not, sign-not, spelled-not, parted-not, width-bounds, data-part}
-use Rattle.words.proofs.reading.read_word.Proof.Passed.{by-index, by-info, by-sign, by-data, by-blank, by-value, bytes, wide, long, sized, indexed, informs, informed, signs, signed, spells, spelt, parts, parted, values, valued}
+use Rattle.words.proofs.reading.read_word.Proof.Passed.{by-index, by-info, by-sign, by-data, by-blank, by-value, bytes, wide, long}
+use Rattle.words.proofs.reading.read_word.Proof.Passed.{sized, indexed, informs, informed, signs, signed, spells, spelt, parts, parted, values, valued}
 use Rattle.words.proofs.reading.read_word.Statement.{statement}
 use Rattle.words.proofs.reading.read_word.Tie as tie
 
@@ -84,7 +85,8 @@ returns-3 : tie.Need-returns-3
 returns-3 c =
     let index = c .before .before .before .before .before .before .before .before in
     let s = bytes (by-index index) in
-    let bad : infoRight (kindAt s) (pos 3 s) (pos 4 s) (pos 5 s) (pos 6 s) ≡ false = informed-not (informs (c .before .before .before)) (c .before .enum-told3 .given .1) in
+    let bad : infoRight (kindAt s) (pos 3 s) (pos 4 s) (pos 5 s) (pos 6 s) ≡ false =
+    informed-not (informs (c .before .before .before)) (c .before .enum-told3 .given .1) in
     rw (sized (by-index index), indexed index .0, bad) (c .wrong3 .ensures)
 
 shared-slice-read-sign-at : tie.Need-shared-slice-read-sign-at
@@ -197,23 +199,27 @@ sub-text-of c = search needs
 part-text-of-start : tie.Need-part-text-of-start
 part-text-of-start c = search needs
 
+-- where the first check is passed, the word's size
+abbrev sizes : tie.After-known-told4 → tie.Else1
+sizes c = by-index (by-info (by-sign (by-data (by-blank (by-value c)))))
+
 part-text-of-end : tie.Need-part-text-of-end
-part-text-of-end c = omega (arith, by-index (by-info (by-sign (by-data (by-blank (by-value c))))) .if1 .left)
+part-text-of-end c = omega (arith, sizes c .if1 .left)
 
 text-of-requires : tie.Need-text-of-requires
 text-of-requires c κs = search needs
 
 shared-slice-read-t27 : tie.Need-shared-slice-read-t27
-shared-slice-read-t27 c = omega (arith, by-index (by-info (by-sign (by-data (by-blank (by-value (c .before .before .before)))))) .if1 .left)
+shared-slice-read-t27 c = omega (arith, sizes (c .before .before .before) .if1 .left)
 
 shared-slice-read-t17 : tie.Need-shared-slice-read-t17
-shared-slice-read-t17 c = omega (arith, by-index (by-info (by-sign (by-data (by-blank (by-value (c .before .before .before .before)))))) .if1 .left)
+shared-slice-read-t17 c = omega (arith, sizes (c .before .before .before .before) .if1 .left)
 
 shared-slice-read-t25 : tie.Need-shared-slice-read-t25
-shared-slice-read-t25 c = omega (arith, by-index (by-info (by-sign (by-data (by-blank (by-value (c .before .before .before .before .before)))))) .if1 .left)
+shared-slice-read-t25 c = omega (arith, sizes (c .before .before .before .before .before) .if1 .left)
 
 shared-slice-read-t19 : tie.Need-shared-slice-read-t19
-shared-slice-read-t19 c = omega (arith, by-index (by-info (by-sign (by-data (by-blank (by-value (c .before .before .before .before .before .before)))))) .if1 .left)
+shared-slice-read-t19 c = omega (arith, sizes (c .before .before .before .before .before .before) .if1 .left)
 
 record-of-requires : tie.Need-record-of-requires
 record-of-requires c κs = search needs
@@ -229,7 +235,7 @@ returns-8 c =
     let at = by-index index in
     let text = c .before .before .before .before .before .text-of in
     let part = data-part (wide at) (bytes at) (at .before .width-of .result) (at .before .width-of .ensures) in
-    let says : text .result ≡ textOf (kindAt (bytes at)) (dataIn (wide at) (bytes at)) = rw (← indexed index .2, ← part) (text .ensures) in
+    let says : text .result ≡ textField (kindAt (bytes at)) (dataIn (wide at) (bytes at)) = rw (← indexed index .2, ← part) (text .ensures) in
     let word : c .record-of .result ≡ recordIn (wide at) (bytes at) = rw (← says, valued value .1, ← indexed index .1) (c .record-of .ensures) in
     rw (sized at, indexed index .0, informed info, signed sign .0, spelt figures .0, parted blank, valued value .0) (ap rightWord word)
 

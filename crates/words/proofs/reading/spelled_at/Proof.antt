@@ -9,12 +9,12 @@ use borrow.Author.Needs.{needs}
 use denote.Enum.Declared.{tagOf}
 use Rattle.figures.specs.Bytes.{every}
 use Rattle.words.specs.Records.{isGraphic}
-use Rattle.words.specs.Reading.{spelledAt}
+use Rattle.words.specs.Keeping.{spelledAt}
 use Rattle.units.specs.declared.kinds.Kind.{Kind}
 use Rattle.units.specs.declared.kinds.Kind.the-variants as kind
 use Rattle.units.specs.declared.counts.Figures.the-variants as figures
 use Rattle.words.specs.declared.reading.Spelled.the-variants as spelled
-use Rattle.words.proofs.Checks.{failed, passed}
+use Rattle.figures.proofs.Tests.{failed, passed}
 use Rattle.units.proofs.kinds.Kind.{the-type}
 use Rattle.words.proofs.reading.spelled_at.Statement.{statement}
 use Rattle.words.proofs.reading.spelled_at.Tie as tie
@@ -50,7 +50,8 @@ all-within-requires : tie.Need-all-within-requires
 all-within-requires c κs = search needs
 
 -- the kinds of the last arm are those that hold text
-texts : (k : Kind) (d : List ℕ) → (tagOf the-type k ≡ 1) ⊎ (tagOf the-type k ≡ 2) → spelledAt k d ≡ cond (every isGraphic d) (spelled.Says figures.Text) spelled.Not
+texts : (k : Kind) (d : List ℕ) → (tagOf the-type k ≡ 1) ⊎ (tagOf the-type k ≡ 2)
+    → spelledAt k d ≡ cond (every isGraphic d) (spelled.Says figures.Text) spelled.Not
 texts kind.Missing d h = absurd (⊎-elim (λ e. omega arith) (λ e. omega arith) h)
 texts kind.Numbered d h = refl
 texts kind.Text d h = refl

@@ -20,7 +20,8 @@ count-of-requires-2 c κs = search needs
 
 returns-2 : tie.Need-returns-2
 returns-2 c =
-    rw (← c .before .before .before .before .right .ensures, c .before .before .before .if1 .left, ← c .before .before .right2 .ensures, c .before .if2 .taken) (c .count-of2 .ensures)
+    rw (← c .before .before .before .before .right .ensures, c .before .before .before .if1 .left, ← c .before .before .right2 .ensures, c .before .if2 .taken)
+    (c .count-of2 .ensures)
 
 returns-3 : tie.Need-returns-3
 returns-3 c =

@@ -1,6 +1,6 @@
 -- `count_right` meets its contract: each arm is the clause of `countRight` for its count.
 use borrow.Author.Needs.{needs}
-use Rattle.words.proofs.Checks.{failed, passed}
+use Rattle.figures.proofs.Tests.{failed, passed}
 use Rattle.words.proofs.records.count_right.Statement.{statement}
 use Rattle.words.proofs.records.count_right.Tie as tie
 
@@ -108,7 +108,8 @@ returns-10 c = rw (c .before .before .before .count7 .given .1, ← c .before .t
 returns-11 : tie.Need-returns-11
 returns-11 c =
     let size = c .before .before .before .ten-to4 in
-    rw (c .before .before .before .before .before .count8 .given .1, ← size .ensures, passed (c .before .before .whole-right8 .ensures) (c .before .if1 .left)) (c .whole-right9 .ensures)
+    let first = passed (c .before .before .whole-right8 .ensures) (c .before .if1 .left) in
+    rw (c .before .before .before .before .before .count8 .given .1, ← size .ensures, first) (c .whole-right9 .ensures)
 
 pub count-right-spec : {M : Type 1} → statement M
 count-right-spec =

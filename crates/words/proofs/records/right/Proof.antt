@@ -10,7 +10,8 @@ use Rattle.units.specs.Information.{infoRight}
 use Rattle.units.specs.declared.information.Informed.the-variants.{Not, Right}
 use Rattle.words.specs.Records.{kindIn, unitIn, countOf, countRight, sameWhole}
 use Rattle.units.specs.Counts.{firstOf, secondOf}
-use Rattle.words.proofs.Checks.{failed, passed, informed-not, informed-right}
+use Rattle.words.proofs.Checks.{informed-not, informed-right}
+use Rattle.figures.proofs.Tests.{failed, passed}
 use Rattle.words.proofs.records.right.Statement.{statement}
 use Rattle.words.proofs.records.right.Tie as tie
 
@@ -138,7 +139,9 @@ returns-5 c =
     let first = c .before .before .before .before in
     let count = by-first first in
     let info = by-count count in
-    rw (long (by-info info), informed info, counted count, same-first first, passed (seconds (c .before .before)) (c .before .if3 .left), ← info .before .before .before .before .before .kind-of .ensures)
+    let second = passed (seconds (c .before .before)) (c .before .if3 .left) in
+    let kind = info .before .before .before .before .before .kind-of in
+    rw (long (by-info info), informed info, counted count, same-first first, second, ← kind .ensures)
     (c .text-right .ensures)
 
 pub right-spec : {M : Type 1} → statement M

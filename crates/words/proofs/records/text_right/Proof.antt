@@ -1,7 +1,8 @@
 -- `text_right` meets its contract. Of a wide text all 16 bytes are data; of a narrow one the part from 8 on is all that is left.
 use mathlib.Core.Path.{sym, _∙_}
 use borrow.Author.Needs.{needs}
-use Rattle.words.proofs.Checks.{failed, passed, text-wide, text-narrow}
+use Rattle.words.proofs.Checks.{text-wide, text-narrow}
+use Rattle.figures.proofs.Tests.{failed, passed}
 use Rattle.words.proofs.records.text_right.Statement.{statement}
 use Rattle.words.proofs.records.text_right.Tie as tie
 
@@ -61,10 +62,12 @@ all-within-requires-4 c κs = search needs
 
 returns-4 : tie.Need-returns-4
 returns-4 c =
-    let a = c .before .before .before .before .before .before .before .before .before .before .args in
-    let text = passed (c .before .before .before .before .before .before .before .before .before .textual .ensures) (c .before .before .before .before .before .before .before .before .if1 .left) in
-    rw (c .before .before .before .before .before .before .before .if2 .left)
-    (sym (text-narrow (a .kind) (a .t2) text (search needs) ∙ rw (passed (c .before .before .before .before .all-within3 .ensures) (c .before .before .before .if3 .left), c .all-within4 .ensures)))
+    let first = c .before .before .before in
+    let narrow = first .before .before .before .before in
+    let a = narrow .before .before .before .args in
+    let text = passed (narrow .before .before .textual .ensures) (narrow .before .if1 .left) in
+    let data-right = passed (first .before .all-within3 .ensures) (first .if3 .left) in
+    rw (narrow .if2 .left) (sym (text-narrow (a .kind) (a .t2) text (search needs) ∙ rw (data-right, c .all-within4 .ensures)))
 
 pub text-right-spec : {M : Type 1} → statement M
 text-right-spec =

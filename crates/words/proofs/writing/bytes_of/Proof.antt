@@ -80,7 +80,9 @@ info-length c = search needs
 
 -- the room before the data are written: as long as it was, and so with room for them
 abbrev room : tie.After-sign-byte → List ℕ
-room c = headedIn (replicate 24 0) (c .before .before .before .before .before .before .put-number .last .1 .0) (c .before .before .lay .last .1 .0) (c .sign-byte .result)
+room c =
+    let index = c .before .before .before .before .before .before .put-number in
+    headedIn (replicate 24 0) (index .last .1 .0) (c .before .before .lay .last .1 .0) (c .sign-byte .result)
 
 room-length : (c : tie.After-sign-byte) → length (room c) ≡ 24
 room-length c =
@@ -117,9 +119,14 @@ returns c =
     let says = width .before .figures-of in
     let figures = c .before .put-figures in
     let fits = data-room (room at) n (omega (arith, room-length at)) in
-    let is : figures .last .1 .1 .0 ≡ dataOf n (figuresOf (countOf w)) (w .text) = figures .ensures ∙ rw (fits, says .ensures, width .before .before .count-of .ensures) in
-    word-on (replicate 24 0) (index .last .1 .0) (info .last .1 .0) (w .info) (figures .last .1 .1 .0) (number .result) (at .sign-byte .result) n (omega arith) (info-length start) (index .ensures) (info .ensures) (figures .kept .1 .1 .0 ∙ fits)
-    ∙ word-is (start .args .wide) w (number .result) (at .sign-byte .result) n (figures .last .1 .1 .0) (number .ensures) (at .sign-byte .ensures) (width .width-of .ensures) is
+    let is : figures .last .1 .1 .0 ≡ dataOf n (figuresOf (countOf w)) (w .text) =
+    figures .ensures ∙ rw (fits, says .ensures, width .before .before .count-of .ensures) in
+    let i = number .result in
+    let sign = at .sign-byte .result in
+    let put = figures .last .1 .1 .0 in
+    word-on (replicate 24 0) (index .last .1 .0) (info .last .1 .0) (w .info) put i sign n (omega arith) (info-length start)
+    (index .ensures) (info .ensures) (figures .kept .1 .1 .0 ∙ fits)
+    ∙ word-is (start .args .wide) w i sign n put (number .ensures) (at .sign-byte .ensures) (width .width-of .ensures) is
 
 pub bytes-of-spec : {M : Type 1} → statement M
 bytes-of-spec =

@@ -105,7 +105,8 @@ returns-3 c =
     let ppm = c .before .before .before .before .before .before .before .put-number2 in
     let sign = c .before .before .before .before .sign-byte in
     let mm = c .before .before .put-number3 in
-    rw (says .given .1, ← sign .ensures) (pair-on (a .args .out .now) (ppm .last .1 .0) (mm .last .1 .0) _ (sign .result) _ (a .pre .0) (ppm .ensures) (mm .ensures))
+    rw (says .given .1, ← sign .ensures)
+    (pair-on (a .args .out .now) (ppm .last .1 .0) (mm .last .1 .0) _ (sign .result) _ (a .pre .0) (ppm .ensures) (mm .ensures))
 
 pub put-figures-spec : {M : Type 1} → statement M
 put-figures-spec =

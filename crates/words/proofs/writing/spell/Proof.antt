@@ -1,6 +1,6 @@
 -- `spell` meets its contract. The size of a record that is right has no more than 16 digits, as `bytes_of` requires.
 use borrow.Author.Needs.{needs}
-use Rattle.words.proofs.Checks.{failed, passed}
+use Rattle.figures.proofs.Tests.{failed, passed}
 use Rattle.words.proofs.Writes.{right-size}
 use Rattle.words.proofs.writing.spell.Statement.{statement}
 use Rattle.words.proofs.writing.spell.Tie as tie

@@ -10,7 +10,8 @@ use lib.ListN.{length, getD}
 use Rattle.units.specs.Kinds.{indexRight}
 use Rattle.units.specs.Information.{infoRight, informedOf, signRight, signOf, signAt}
 use Rattle.words.specs.Records.{width}
-use Rattle.words.specs.Reading.{wordSize, pos, indexIn, kindAt, dataIn, dataRight, figuresIn, spelledAt, partedAt, valueIn, isCounted, countOr}
+use Rattle.words.specs.Reading.{wordSize, pos, indexIn, kindAt, dataIn, dataRight, figuresIn, valueIn, isCounted, countOr}
+use Rattle.words.specs.Keeping.{spelledAt, partedAt}
 use Rattle.words.proofs.Checks.{index-is, informed-right, sign-is, spelled-says, parted-blank, data-part}
 use Rattle.words.proofs.reading.read_word.Tie as tie
 
@@ -86,7 +87,9 @@ spells c =
 
 pub spelt : (c : tie.After-known-told3) →
     let at = by-index (by-info (by-sign (by-data c))) in
-    (dataRight (kindAt (bytes at)) (dataIn (wide at) (bytes at)) ≡ true) × (c .before .says .given .0 .0 ≡ figuresIn (kindAt (bytes at)) (dataIn (wide at) (bytes at)))
+    let k = kindAt (bytes at) in
+    let d = dataIn (wide at) (bytes at) in
+    (dataRight k d ≡ true) × (c .before .says .given .0 .0 ≡ figuresIn k d)
 spelt c =
     let at = by-index (by-info (by-sign (by-data c))) in
     spelled-says (kindAt (bytes at)) (wide at) (bytes at) (long at) (spells (c .before .before .before)) (c .before .says .given .1)

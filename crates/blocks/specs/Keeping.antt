@@ -1,0 +1,79 @@
+-- How the code keeps what the other files define: records by value, a step of the walk through a block, and a block as it is composed.
+use Prim.Native.Nat.{ℕ}
+use mathlib.Core.Bool.{Bool, cond}
+use mathlib.Core.List.{List, _++_}
+use lib.Dec.{leb, ltb, eqb}
+use lib.ListN.{length, replicate, take}
+use Rattle.words.specs.Records.{blank}
+use Rattle.words.specs.Reading.{wordSize, wordOf}
+use Rattle.words.specs.declared.records.Word.{Word}
+use Rattle.words.specs.declared.reading.Fault.the-variants.{Short}
+use Rattle.words.specs.declared.reading.Judged as one
+use Rattle.words.specs.declared.reading.OneWord.{OneWord}
+use Rattle.blocks.specs.declared.answers.Refusal.{Refusal}
+use Rattle.blocks.specs.declared.answers.Refusal.the-variants.{Wrong, NoEnd, NoPlace, Count, Record}
+use Rattle.blocks.specs.declared.judging.Block.{Block}
+use Rattle.blocks.specs.declared.judging.JudgedBlock.{JudgedBlock}
+use Rattle.blocks.specs.declared.judging.Next.the-variants.{Ends, Stops, Goes}
+use Rattle.blocks.specs.declared.judging.Stepped.{Stepped}
+use Rattle.blocks.specs.Judging.{Judgement, isAt, filled}
+use Rattle.figures.specs.Bytes.{laid}
+use Rattle.blocks.specs.declared.answers.Wrote.the-variants.{Refused, Written}
+use Rattle.blocks.specs.declared.composing.Composed.{Composed}
+use Rattle.blocks.specs.Composing.{starBytes, wordsBytes, blockBytes, unlessWrong}
+
+-- 32 records, blank past the count
+abbrev pub noBlock : Block
+noBlock = record { words = replicate 32 blank; n = 0 }
+
+abbrev pub blockOf : List Word → Block
+blockOf ws = record { words = filled ws (replicate 32 blank); n = length ws }
+
+abbrev pub keptOf : Judgement → JudgedBlock
+keptOf j = record { answer = j .answer; block = blockOf (j .words) }
+
+-- what one step of the walk through a block finds
+abbrev pub stopsBy : Refusal → Stepped
+stopsBy r = record { next = Stops r; word = blank }
+
+abbrev pub stepOf : ℕ → OneWord → one.Judged → Stepped
+stepOf at o one.Judged.Right = record { next = Goes; word = o .word }
+stepOf at o (one.Judged.Wrong fault) = stopsBy (Wrong fault at)
+
+-- `block-walk`, in proofs/Steps.antt, shows that this is the order of `blockFrom`
+abbrev pub nextOf : Bool → ℕ → ℕ → ℕ → List ℕ → Stepped
+nextOf wide places n at rest =
+    cond (isAt 13 rest) (record { next = Ends; word = blank })
+    (cond (leb 32 n) (stopsBy (NoEnd at))
+    (cond (ltb (length rest) (wordSize wide)) (stopsBy (Wrong Short at))
+    (cond (leb places n) (stopsBy (NoPlace at))
+    (stepOf at (wordOf wide rest) (wordOf wide rest .answer)))))
+
+-- a block's bytes from the start of 771
+abbrev pub refusedList : Refusal → Composed
+refusedList r = record { answer = Refused r; bytes = replicate 771 0 }
+
+abbrev pub wroteList : List ℕ → Composed
+wroteList bytes = record { answer = Written (length bytes); bytes = laid bytes (replicate 771 0) }
+
+abbrev pub opened : Bool → List ℕ
+opened wide = laid (starBytes wide) (replicate 771 0)
+
+abbrev pub wordsPut : Bool → List Word → Composed
+wordsPut wide ws = unlessWrong wide 0 ws (λ i. refusedList (Record i)) (wroteList (starBytes wide ++ wordsBytes wide ws))
+
+-- `composed-as`, in proofs/Composes.antt, shows that this, put in the room, is what is `written`
+abbrev pub composedOf : Bool → Bool → List Word → Composed
+composedOf wide crlf ws =
+    cond (eqb (length ws) 0) (refusedList Count) (unlessWrong wide 0 ws (λ i. refusedList (Record i)) (wroteList (blockBytes wide crlf ws)))
+
+-- the list that a block holds; a count past 32 is a list that is too long, whatever it held
+abbrev pub listOf : Block → List Word
+listOf b = cond (leb (b .n) 32) (take (b .n) (b .words)) (replicate 33 blank)
+
+-- the block that gathering starts from, and the one that it ends in
+abbrev pub begunOf : ℕ → Block
+begunOf n = cond (ltb 32 n) noBlock (record { words = noBlock .words; n = n })
+
+abbrev pub gathered : List Word → Block
+gathered l = cond (ltb 32 (length l)) noBlock (blockOf l)

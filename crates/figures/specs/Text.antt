@@ -1,0 +1,15 @@
+-- Text as bytes, so that a definition can be read: `codes "SET/"` is the four bytes of it.
+use Prim.Native.Nat.{ℕ}
+use Prim.Native.Char.{code}
+use Prim.Native.String.{String}
+use Prim.Native.String as text
+use mathlib.Core.Bool.{Bool, cond}
+use mathlib.Core.List.{List, [], _∷_}
+
+abbrev pub codes : String → List ℕ
+codes text.[] = []
+codes (text._∷_ c s) = code c ∷ codes s
+
+-- CR LF or CR
+abbrev pub endBytes : Bool → List ℕ
+endBytes crlf = cond crlf (codes "\r\n") (codes "\r")

@@ -1,0 +1,52 @@
+-- The promises of this crate's public functions determine what comes out.
+use mathlib.Core.Path.{_≡_}
+use mathlib.Core.Bool.{Bool}
+use mathlib.Core.List.{List}
+use Prim.Native.Nat.{ℕ}
+use Rattle.figures.specs.Promises.{Determined}
+use Rattle.figures.proofs.Determined.{by-equation}
+use Rattle.instrument.specs.Settings.{rowAt, settingPlace, parameterOf, factorySettings, inRange, rows, inRanges}
+use Rattle.instrument.specs.Values.{storedAt, valuePlace, isPut, putRight, putKept, keptRight, getWord}
+use Rattle.instrument.specs.declared.settings.Row.{Row}
+use Rattle.instrument.specs.declared.settings.Found.{Found}
+use Rattle.instrument.specs.declared.values.Stored.{Stored}
+use Rattle.instrument.specs.declared.values.Kept.{Kept}
+
+pub row-at-determined : Determined ℕ Row (λ i r. r ≡ rowAt i)
+row-at-determined = by-equation ℕ Row rowAt
+
+pub setting-at-determined : Determined ℕ Found (λ i r. r ≡ settingPlace i)
+setting-at-determined = by-equation ℕ Found settingPlace
+
+pub parameter-of-determined : Determined (List ℕ × ℕ) ℕ (λ i r. r ≡ parameterOf (i .0) (i .1))
+parameter-of-determined = by-equation (List ℕ × ℕ) ℕ (λ i. parameterOf (i .0) (i .1))
+
+pub in-range-determined : Determined (Row × ℕ) Bool (λ i r. r ≡ inRange (i .0) (i .1))
+in-range-determined = by-equation (Row × ℕ) Bool (λ i. inRange (i .0) (i .1))
+
+pub factory-settings-determined : Determined (Unit {0}) (List ℕ) (λ i r. r ≡ factorySettings)
+factory-settings-determined = by-equation (Unit {0}) (List ℕ) (λ i. factorySettings)
+
+pub in-ranges-determined : Determined (List ℕ) Bool (λ i r. r ≡ inRanges rows i)
+in-ranges-determined = by-equation (List ℕ) Bool (inRanges rows)
+
+pub stored-at-determined : Determined ℕ Stored (λ i r. r ≡ storedAt i)
+stored-at-determined = by-equation ℕ Stored storedAt
+
+pub value-at-determined : Determined ℕ Found (λ i r. r ≡ valuePlace i)
+value-at-determined = by-equation ℕ Found valuePlace
+
+pub is-put-determined : Determined Kept Bool (λ i r. r ≡ isPut i)
+is-put-determined = by-equation Kept Bool isPut
+
+pub put-right-determined : Determined (ℕ × List ℕ) Bool (λ i r. r ≡ putRight (i .0) (i .1))
+put-right-determined = by-equation (ℕ × List ℕ) Bool (λ i. putRight (i .0) (i .1))
+
+pub put-kept-determined : Determined (List ℕ) Kept (λ i r. r ≡ putKept i)
+put-kept-determined = by-equation (List ℕ) Kept putKept
+
+pub kept-right-determined : Determined (ℕ × Kept) Bool (λ i r. r ≡ keptRight (i .0) (i .1))
+kept-right-determined = by-equation (ℕ × Kept) Bool (λ i. keptRight (i .0) (i .1))
+
+pub get-word-determined : Determined (ℕ × Kept) (List ℕ) (λ i r. r ≡ getWord (i .0) (i .1))
+get-word-determined = by-equation (ℕ × Kept) (List ℕ) (λ i. getWord (i .0) (i .1))

@@ -1,0 +1,261 @@
+-- Laws of what is stored: the rules for a value's word are rules for its parts, what a PUT leaves is right for its place, and the factory's
+-- state is a state.
+use Prim.Native.Nat.{ℕ, zero, suc, _+_, _/_, _%_, _≤_}
+use mathlib.Core.Path.{_≡_, refl, sym, ap, _∙_}
+use mathlib.Core.Bool.{Bool, true, false, cond, not, _&&_, _||_, false≢true, and-true, and-false, and-eq-true-iff}
+use mathlib.Core.List.{List, [], _∷_}
+use native.Mathlib.Omega.{arith}
+use borrow.Author.Tests.{eqb-true, eq-eqb, le-leb}
+use lib.Dec.{eqb, leb}
+use lib.ListN.{length, getD, drop, drop-of-length-le}
+use lib.Seq.{drop-cons, getD-drop}
+use Rattle.figures.specs.Bytes.{within, among, every}
+use Rattle.figures.specs.Decimal.{isDigit, numberOf}
+use Rattle.figures.proofs.Bytes.{within-bounds, bounds-within}
+use Rattle.figures.proofs.Tests.{by-test, Even, along}
+use Rattle.units.specs.Kinds.{kindOf, isListed, isTextual, indexOf, indexRight}
+use Rattle.units.specs.Information.{isDot, infoRight, signByte, signOf, signRight}
+use Rattle.units.specs.Counts.{minusZero, valueAt}
+use Rattle.units.proofs.Positions.{tensOf, onesOf, index-on, tens-digit, ones-digit, sign-on, sign-right}
+use Rattle.words.specs.Records.{isGraphic}
+use Rattle.words.specs.Reading.{pos, wordOf, kindAt, dataIn, dataRight, figuresIn, countOr, isCounted, valueIn, recordIn, unless, rightWord, wordSize}
+use Rattle.words.proofs.Places.{Places, spread, rules, recordBy, word-spread}
+use Rattle.units.specs.declared.kinds.Kind.{Kind}
+use Rattle.units.specs.declared.kinds.Kind.the-variants as kind
+use Rattle.units.specs.declared.counts.Figures.the-variants.{Number}
+use Rattle.words.specs.declared.reading.Fault.the-variants.{Short}
+use Rattle.words.specs.declared.reading.OneWord.{OneWord}
+use Rattle.words.specs.declared.records.Word.{Word}
+use Rattle.instrument.specs.Settings.{rows}
+use Rattle.instrument.specs.Values.{unitsOf, stored, noStored, storedAt, isRightWord, putRight, putKept, valueWord, keptRight, eightOf, eightBytes}
+use Rattle.instrument.specs.declared.values.Stored.{Stored}
+use Rattle.instrument.specs.declared.values.Eight.{Eight}
+use Rattle.instrument.specs.declared.values.Kept.{Kept}
+use Rattle.instrument.specs.declared.values.Kept.the-variants.{Put}
+
+kept-put : (place : ℕ) (k : Kept) (u m : ℕ) (d : Eight) → k ≡ Put u m d → m ≤ 1 → keptRight place k ≡ putRight place (valueWord 46 place u m d)
+kept-put place k u m d e h = rw e (ap (λ (t : Bool). t && putRight place (valueWord 46 place u m d)) (le-leb m 1 h))
+
+-- the n elements from i on
+elements : ℕ → ℕ → List ℕ → List ℕ
+elements zero i b = []
+elements (suc n) i b = getD b i 0 ∷ elements n (suc i) b
+
+elements-are : (n i : ℕ) (b : List ℕ) → length b ≡ i + n → drop i b ≡ elements n i b
+unfolding elements
+elements-are zero i b h = drop-of-length-le b {i = i} (omega arith)
+elements-are (suc n) i b h = rw (drop-cons b i 0 (omega arith), elements-are n (suc i) b (omega arith))
+
+-- what a word that is read has at 7 and 16
+read-parts : (long index info sign chars blank counted : Bool) (w : Word)
+    → isRightWord (unless long Short (rules index info sign chars blank counted (rightWord w)) .answer) ≡ true
+    → (sign ≡ true) × (blank ≡ true)
+read-parts false index info sign chars blank counted w e = absurd (false≢true e)
+read-parts true false info sign chars blank counted w e = absurd (false≢true e)
+read-parts true true false sign chars blank counted w e = absurd (false≢true e)
+read-parts true true true false chars blank counted w e = absurd (false≢true e)
+read-parts true true true true false blank counted w e = absurd (false≢true e)
+read-parts true true true true true false counted w e = absurd (false≢true e)
+read-parts true true true true true true counted w e = (refl, refl)
+
+sign-byte : (k : Kind) (b : ℕ) → signRight k b ≡ true → signByte (signOf b) ≡ b
+sign-byte k b e = go (eqb b 43) (eqb b 45) (not (isTextual k)) refl refl e
+  where
+    go : (p q t : Bool) → eqb b 43 ≡ p → eqb b 45 ≡ q → p || (q && t) ≡ true → signByte (signOf b) ≡ b
+    go true q t ep eq h = rw ep (sym (eqb-true b 43 ep))
+    go false true t ep eq h = rw ep (sym (eqb-true b 45 eq))
+    go false false t ep eq h = absurd (false≢true h)
+
+sign-below : (b : ℕ) → signOf b ≤ 1
+sign-below b = go (eqb b 43)
+  where
+    go : (p : Bool) → cond p 0 1 ≤ 1
+    go true = omega arith
+    go false = omega arith
+
+-- a word with dots at 3-5 and a unit of the place: what is left is whether it is read
+pub put-read : (place : ℕ) (b : List ℕ) → pos 3 b ≡ 46 → pos 4 b ≡ 46 → pos 5 b ≡ 46 → storedAt place .1 ≤ pos 6 b → pos 6 b ≤ storedAt place .2
+    → putRight place b ≡ isRightWord (wordOf false b .answer)
+put-read place b p q r low high =
+    let unit = bounds-within (storedAt place .1) (storedAt place .2) (pos 6 b) low high in
+    rw (eq-eqb (pos 3 b) 46 p, eq-eqb (pos 4 b) 46 q, eq-eqb (pos 5 b) 46 r, unit)
+
+-- the rules that are left for a value of that row after its unit: text, or digits that count
+abbrev pub heldBy : Stored → ℕ → ℕ → List ℕ → Bool
+heldBy r u m l =
+    cond (eqb (r .1) 46) (eqb m 0 && every isGraphic l) (every isDigit l && isCounted (valueAt (kindOf (r .0)) (r .0) u m (Number (numberOf l))))
+
+-- the same by the kind, as a word is read
+abbrev partsRight : Kind → ℕ → ℕ → ℕ → List ℕ → Bool
+partsRight k i u m l = signRight k (signByte m) && (dataRight k l && isCounted (valueAt k i u m (figuresIn k l)))
+
+-- a word whose index, information and blank are right
+rules-read : (info sign letters value : Bool) (w : Word) → info ≡ true
+    → isRightWord (rules true info sign letters true value (rightWord w) .answer) ≡ sign && (letters && value)
+rules-read false sign letters value w e = absurd (false≢true e)
+rules-read true false letters value w e = refl
+rules-read true true false value w e = refl
+rules-read true true true false w e = refl
+rules-read true true true true w e = refl
+
+text-held : (k : Kind) (i u m : ℕ) (l : List ℕ) → isTextual k ≡ true → partsRight k i u m l ≡ eqb m 0 && every isGraphic l
+text-held kind.Missing i u m l e = absurd (false≢true e)
+text-held kind.Numbered i u m l e = by-test (eqb m 0) (λ q. rw (q, and-true)) (λ q. rw q)
+text-held kind.Text i u m l e = by-test (eqb m 0) (λ q. rw (q, and-true)) (λ q. rw q)
+text-held kind.Angle i u m l e = absurd (false≢true e)
+text-held kind.Length i u m l e = absurd (false≢true e)
+text-held kind.Constant i u m l e = absurd (false≢true e)
+text-held kind.Pair i u m l e = absurd (false≢true e)
+
+-- nothing counts at an index that is missing
+none-held : (u m n : ℕ) (b : Bool) → b && isCounted (valueAt kind.Missing 0 u m (Number n)) ≡ false
+none-held u m n b = by-test (minusZero m n) (λ q. rw (q, and-false)) (λ q. rw (q, and-false))
+
+module _ (u m : ℕ) (d : Eight) (small : m ≤ 1) where
+  abbrev places : ℕ → Places
+  places i = record {
+    tens = tensOf i;
+    ones = onesOf i;
+    first = 46;
+    second = 46;
+    mode = 46;
+    unit = u;
+    sign = signByte m;
+    letters = eightBytes d;
+    end = 32;
+  }
+
+  -- each unit of a row is right after three dots
+  abbrev Units : Stored → Type 0
+  Units r = Even (infoRight (kindOf (r .0)) 46 46 46) true (r .1) (suc (r .2))
+
+  -- the word of a value with a unit of the row is read where its parts hold
+  abbrev Judged : Stored → Type 0
+  Judged r = r .1 ≤ u → u ≤ r .2 → isRightWord (wordOf false (spread (places (r .0)) []) .answer) ≡ heldBy r u m (eightBytes d)
+
+  row-read : (r : Stored) → isListed (kindOf (r .0)) ≡ true → Units r → r .1 ≤ u → u ≤ r .2
+      → isRightWord (wordOf false (spread (places (r .0)) []) .answer) ≡ partsRight (kindOf (r .0)) (r .0) u m (eightBytes d)
+  row-read r listed units low high =
+      let i = r .0 in
+      let k = kindOf i in
+      let p = places i in
+      let l = eightBytes d in
+      let value = valueAt k i u m (figuresIn k l) in
+      let word = recordBy i p (countOr value) in
+      let info = sym (along (infoRight k 46 46 46) (r .1) (suc (r .2)) units low (omega arith)) in
+      ap (λ (w : OneWord). isRightWord (w .answer)) (word-spread false p refl [])
+      ∙ rw (index-on i listed, tens-digit i, ones-digit i, listed, sign-on m small)
+      (rules-read (infoRight k 46 46 46 u) (signRight k (signByte m)) (dataRight k l) (isCounted value) word info)
+
+  by-text : (r : Stored) → isListed (kindOf (r .0)) ≡ true → Units r → isTextual (kindOf (r .0)) ≡ true → eqb (r .1) 46 ≡ true → Judged r
+  by-text r listed units text dot low high =
+      row-read r listed units low high ∙ text-held (kindOf (r .0)) (r .0) u m (eightBytes d) text ∙ rw dot
+
+  number-held : (k : Kind) (i : ℕ) (l : List ℕ) → isTextual k ≡ false → dataRight k l ≡ every isDigit l → figuresIn k l ≡ Number (numberOf l)
+      → partsRight k i u m l ≡ every isDigit l && isCounted (valueAt k i u m (Number (numberOf l)))
+  number-held k i l plain digits says =
+      rw (sign-right k m (record { small = small; plus = λ t. absurd (false≢true (sym plain ∙ t)) }), digits, says)
+
+  by-number : (r : Stored) → isListed (kindOf (r .0)) ≡ true → Units r → isTextual (kindOf (r .0)) ≡ false
+      → dataRight (kindOf (r .0)) (eightBytes d) ≡ every isDigit (eightBytes d)
+      → figuresIn (kindOf (r .0)) (eightBytes d) ≡ Number (numberOf (eightBytes d))
+      → eqb (r .1) 46 ≡ false → Judged r
+  by-number r listed units plain digits says dot low high =
+      row-read r listed units low high ∙ number-held (kindOf (r .0)) (r .0) (eightBytes d) plain digits says ∙ rw dot
+
+  abbrev Each : List Stored → Type 0
+  Each [] = Judged noStored
+  Each (r ∷ rows) = Judged r × Each rows
+
+  each-at : (rows : List Stored) → Each rows → (place : ℕ) → Judged (getD rows place noStored)
+  each-at [] h zero = h
+  each-at [] h (suc place) = h
+  each-at (r ∷ rows) h zero = h .0
+  each-at (r ∷ rows) h (suc place) = each-at rows (h .1) place
+
+  each : Each stored
+  unfolding stored among
+  each =
+      let text : (i : ℕ) → isListed (kindOf i) ≡ true → Units (unitsOf i "." ".") → isTextual (kindOf i) ≡ true → Judged (unitsOf i "." ".") =
+      λ i listed units text. by-text (unitsOf i "." ".") listed units text refl in
+      let length : (i : ℕ) → kindOf i ≡ kind.Length → Judged (unitsOf i "0" "1") =
+      λ i is. by-number (unitsOf i "0" "1") (rw is) (rw is) (rw is) (rw is) (rw is) refl in
+      let angle : (i : ℕ) → kindOf i ≡ kind.Angle → Judged (unitsOf i "2" "4") =
+      λ i is. by-number (unitsOf i "2" "4") (rw is) (rw is) (rw is) (rw is) (rw is) refl in
+      let none : Judged noStored = λ low high. sym (none-held u m (numberOf (eightBytes d)) (every isDigit (eightBytes d))) in
+      let last : Each (drop 8 stored) = (length 86 refl, (length 87 refl, (length 88 refl, none))) in
+      let lengths : Each (drop 4 stored) = (length 34 refl, (length 83 refl, (length 84 refl, (length 85 refl, last)))) in
+      (text 11 refl refl refl, (text 16 refl refl refl, (angle 21 refl, (angle 24 refl, lengths))))
+
+  pub kept-outside : (place : ℕ) (k : Kept) → k ≡ Put u m d → within (storedAt place .1) (storedAt place .2) u ≡ false → keptRight place k ≡ false
+  kept-outside place k e out =
+      kept-put place k u m d e small ∙ ap (λ (t : Bool). t && isRightWord (wordOf false (valueWord 46 place u m d) .answer)) out
+
+  -- a unit of the place: what is left is the sign and the characters
+  pub kept-held : (place : ℕ) (k : Kept) → k ≡ Put u m d → storedAt place .1 ≤ u → u ≤ storedAt place .2
+      → keptRight place k ≡ heldBy (storedAt place) u m (eightBytes d)
+  kept-held place k e low high =
+      kept-put place k u m d e small
+      ∙ put-read place (valueWord 46 place u m d) refl refl refl low high
+      ∙ each-at stored each place low high
+
+-- a word that may be put there
+pub record PutRight (place : ℕ) (b : List ℕ) : Type 0 where
+  pub dot3 : pos 3 b ≡ 46
+  pub dot4 : pos 4 b ≡ 46
+  pub dot5 : pos 5 b ≡ 46
+  pub unit : within (storedAt place .1) (storedAt place .2) (pos 6 b) ≡ true
+  pub read : isRightWord (wordOf false b .answer) ≡ true
+
+pub put-parts : (place : ℕ) (b : List ℕ) → putRight place b ≡ true → PutRight place b
+put-parts place b e =
+    let p = isDot (pos 3 b) in
+    let q = isDot (pos 4 b) in
+    let r = isDot (pos 5 b) in
+    let u = within (storedAt place .1) (storedAt place .2) (pos 6 b) in
+    let t = isRightWord (wordOf false b .answer) in
+    let all = and-eq-true-iff (p && (q && r)) (u && t) .0 e in
+    let dots = and-eq-true-iff p (q && r) .0 (all .0) in
+    let last = and-eq-true-iff q r .0 (dots .1) in
+    let rest = and-eq-true-iff u t .0 (all .1) in
+    record {
+      dot3 = eqb-true (pos 3 b) 46 (dots .0);
+      dot4 = eqb-true (pos 4 b) 46 (last .0);
+      dot5 = eqb-true (pos 5 b) 46 (last .1);
+      unit = rest .0;
+      read = rest .1;
+    }
+
+module _ (place : ℕ) (b : List ℕ) (long : length b ≡ 16) (named : storedAt place .0 ≡ indexOf (pos 1 b) (pos 2 b))
+    (first : isDigit (pos 1 b) ≡ true) (second : isDigit (pos 2 b) ≡ true) (right : putRight place b ≡ true) where
+  -- the word of what is stored is the one that was put
+  pub word-back : valueWord 46 place (pos 6 b) (signOf (pos 7 b)) (eightOf (drop 7 b)) ≡ b
+  unfolding elements
+  word-back =
+      let p = put-parts place b right in
+      let d1 = within-bounds 48 57 (pos 1 b) first in
+      let d2 = within-bounds 48 57 (pos 2 b) second in
+      let i = indexOf (pos 1 b) (pos 2 b) in
+      let tens : 48 + i / 10 % 10 ≡ pos 1 b = omega arith in
+      let ones : 48 + i % 10 ≡ pos 2 b = omega arith in
+      let k = kindAt b in
+      let ends =
+      read-parts (leb (wordSize false) (length b)) (indexRight (pos 1 b) (pos 2 b))
+      (infoRight k (pos 3 b) (pos 4 b) (pos 5 b) (pos 6 b))
+      (signRight k (pos 7 b))
+      (dataRight k (dataIn false b))
+      (eqb (getD b 15 0) 32)
+      (isCounted (valueIn false b))
+      (recordIn false b)
+      (p .read)
+      in
+      let sign = sign-byte k (pos 7 b) (ends .0) in
+      let blank = eqb-true (getD b 15 0) 32 (ends .1) in
+      let is : valueWord 46 place (pos 6 b) (signOf (pos 7 b)) (eightOf (drop 7 b)) ≡ elements 16 0 b =
+      simp (named, tens, ones, p .dot3, p .dot4, p .dot5, sign, blank, getD-drop)
+      in
+      is ∙ sym (elements-are 16 0 b long)
+
+  pub put-kept-right : keptRight place (putKept b) ≡ true
+  put-kept-right =
+      kept-put place (putKept b) (pos 6 b) (signOf (pos 7 b)) (eightOf (drop 7 b)) refl (sign-below (pos 7 b)) ∙ ap (putRight place) word-back ∙ right

@@ -1,0 +1,4 @@
+pub mod Seek
+pub mod Ranges
+pub mod Kept
+pub mod Determined

@@ -1,0 +1,3 @@
+// What the instrument has: its settings and its stored values, a constant row for each.
+pub mod settings;
+pub mod values;

@@ -1,0 +1,254 @@
+// The stored values: constant rows of index and units, what a PUT leaves, and the word that GET answers.
+ghost use mathlib.Core.Path.{_≡_};
+ghost use mathlib.Core.Bool.{_&&_};
+ghost use Prim.Native.Nat.{_+_, _%_};
+ghost use Rattle.figures.specs.Bytes.{every};
+ghost use Rattle.figures.specs.Decimal.{isDigit, numberOf};
+ghost use Rattle.units.specs.Kinds.{kindOf};
+ghost use Rattle.units.specs.Counts as counts;
+ghost use Rattle.units.specs.declared.counts.Figures.the-variants.{Number};
+ghost use Rattle.words.specs.Reading.{isCounted};
+ghost use Rattle.instrument.specs.Values.{storedAt, valuePlace, putRight, putKept, valueWord, keptRight, getWord, isPut};
+use crate::settings::Found;
+use units::counts::Figures;
+use units::counts::Valued;
+use units::information::sign_byte;
+use units::kinds::kind_of;
+use words::reading::Judged;
+use words::reading::read_word;
+
+pub const VALUES: usize = 11;
+
+// Index, first and last unit as they stand at position 6, and the key on a sheet, from the start of five bytes.
+pub struct Stored(pub u16, pub u8, pub u8, pub [u8; 5]);
+
+// A value's eight characters.
+pub struct Eight(
+    pub u8,
+    pub u8,
+    pub u8,
+    pub u8,
+    pub u8,
+    pub u8,
+    pub u8,
+    pub u8,
+);
+
+// What is stored: nothing ever, or unit, sign (0 or 1) and characters.
+pub enum Kept {
+    Never,
+    Put(u8, u8, Eight),
+}
+
+pub struct Value {
+    pub kept: Kept,
+}
+
+// Text, angles of unit 2-4, lengths of unit 0 or 1.
+const V11: Stored = Stored(11, b'.', b'.', *b"v11=\0");
+
+const V16: Stored = Stored(16, b'.', b'.', *b"v16=\0");
+
+const V21: Stored = Stored(21, b'2', b'4', *b"v21=\0");
+
+const V24: Stored = Stored(24, b'2', b'4', *b"v24=\0");
+
+const V34: Stored = Stored(34, b'0', b'1', *b"v34=\0");
+
+const V83: Stored = Stored(83, b'0', b'1', *b"v83=\0");
+
+const V84: Stored = Stored(84, b'0', b'1', *b"v84=\0");
+
+const V85: Stored = Stored(85, b'0', b'1', *b"v85=\0");
+
+const V86: Stored = Stored(86, b'0', b'1', *b"v86=\0");
+
+const V87: Stored = Stored(87, b'0', b'1', *b"v87=\0");
+
+const V88: Stored = Stored(88, b'0', b'1', *b"v88=\0");
+
+// The row at a place; one of noughts past the last.
+pub fn stored_at(place: usize) -> Stored
+    ensures { λ r. ⌜ r ≡ storedAt place ⌝ }
+{
+    match place {
+        0 => V11,
+        1 => V16,
+        2 => V21,
+        3 => V24,
+        4 => V34,
+        5 => V83,
+        6 => V84,
+        7 => V85,
+        8 => V86,
+        9 => V87,
+        10 => V88,
+        _ => Stored(0, 0, 0, *b"v0=\0\0"),
+    }
+}
+
+// The place of the stored value of that index.
+pub fn value_at(index: u16) -> Found
+    ensures { λ r. ⌜ r ≡ valuePlace index ⌝ }
+{
+    let mut i = 0;
+    while i < VALUES {
+        let row = stored_at(i);
+        if row.0 == index {
+            return Found::At(i);
+        }
+        i += 1;
+    }
+    Found::Nothing
+}
+
+pub fn is_put(kept: Kept) -> bool
+    ensures { λ r. ⌜ r ≡ isPut kept ⌝ }
+{
+    match kept {
+        Kept::Never => false,
+        _ => true,
+    }
+}
+
+// Whether the word may be put there: dots at 3-5, a unit of the place, and otherwise the block rules.
+pub fn put_right(place: usize, word: [u8; 16]) -> bool
+    ensures { λ r. ⌜ r ≡ putRight place word ⌝ }
+{
+    let row = stored_at(place);
+    if word[2] != b'.' {
+        return false;
+    }
+    if word[3] != b'.' {
+        return false;
+    }
+    if word[4] != b'.' {
+        return false;
+    }
+    if word[5] < row.1 {
+        return false;
+    }
+    if row.2 < word[5] {
+        return false;
+    }
+    let one = read_word(&word, false);
+    let answer = one.answer;
+    match answer {
+        Judged::Right => true,
+        _ => false,
+    }
+}
+
+// What the word leaves when it is put.
+pub fn put_kept(word: [u8; 16]) -> Kept
+    ensures { λ r. ⌜ r ≡ putKept word ⌝ }
+{
+    let eight = Eight(
+        word[7],
+        word[8],
+        word[9],
+        word[10],
+        word[11],
+        word[12],
+        word[13],
+        word[14],
+    );
+    if word[6] == b'+' {
+        return Kept::Put(word[5], 0, eight);
+    }
+    Kept::Put(word[5], 1, eight)
+}
+
+fn figure(n: u16) -> u8
+    ensures { λ r. ⌜ r ≡ 48 + n % 10 ⌝ }
+{
+    b'0' + (n % 10) as u8
+}
+
+// The word of a value that was put, with that byte at position 5.
+fn value_word(mark: u8, place: usize, unit: u8, minus: u8, d: Eight) -> [u8; 16]
+    ensures { λ r. ⌜ r ≡ valueWord mark place unit minus d ⌝ }
+{
+    let row = stored_at(place);
+    let tens = figure(row.0 / 10);
+    let ones = figure(row.0);
+    let sign = sign_byte(minus);
+    [
+        tens,
+        ones,
+        b'.',
+        b'.',
+        mark,
+        unit,
+        sign,
+        d.0,
+        d.1,
+        d.2,
+        d.3,
+        d.4,
+        d.5,
+        d.6,
+        d.7,
+        b' ',
+    ]
+}
+
+// Whether the characters are digits that count at the index, after that unit and sign.
+fn number_right(index: u16, unit: u8, minus: u8, digits: [u8; 8]) -> bool
+    ensures { λ r. ⌜ r ≡ (every isDigit digits && isCounted (counts.valueAt (kindOf index) index unit minus (Number (numberOf digits)))) ⌝ }
+{
+    let figures::Said::Number(n) = figures::number(&digits) else {
+        return false;
+    };
+    let says = Figures::Number(n);
+    let value = units::counts::value_at(kind_of(index), index, unit, minus, says);
+    match value {
+        Valued::Not => false,
+        _ => true,
+    }
+}
+
+// Whether the place may hold it: never put, or as a PUT can leave it. An image asks it of each value and entry, so no word is made of the parts.
+pub fn kept_right(place: usize, kept: Kept) -> bool
+    ensures { λ r. ⌜ r ≡ keptRight place kept ⌝ }
+{
+    match kept {
+        Kept::Never => true,
+        Kept::Put(unit, minus, d) => {
+            if 1 < minus {
+                return false;
+            }
+            let row = stored_at(place);
+            if unit < row.1 {
+                return false;
+            }
+            if row.2 < unit {
+                return false;
+            }
+            let characters = [d.0, d.1, d.2, d.3, d.4, d.5, d.6, d.7];
+            if row.1 != b'.' {
+                return number_right(row.0, unit, minus, characters);
+            }
+            if minus != 0 {
+                return false;
+            }
+            figures::all_within(&characters, 33, 126)
+        }
+    }
+}
+
+// The word that GET answers; blanks where nothing was ever put.
+pub fn get_word(place: usize, kept: Kept) -> [u8; 16]
+    ensures { λ r. ⌜ r ≡ getWord place kept ⌝ }
+{
+    match kept {
+        Kept::Never => [b' '; 16],
+        Kept::Put(unit, minus, d) => {
+            let row = stored_at(place);
+            if row.1 == b'.' {
+                return value_word(b'.', place, unit, minus, d);
+            }
+            value_word(b'1', place, unit, minus, d)
+        }
+    }
+}

@@ -1,0 +1,32 @@
+-- `reading::turns::close` meets its contract: the last line is put after the report.
+use borrow.Author.Needs.{needs}
+use Rattle.reading.proofs.Turning.{finish-fits, closes-so}
+use Rattle.reading.proofs.turns.close.Statement.{statement}
+use Rattle.reading.proofs.turns.close.Tie as tie
+
+sub-tally : tie.Need-sub-tally
+sub-tally c =
+    let f = c .before .before .before in
+    let a = f .before .before .before .before .args in
+    finish-fits (a .room .now) (a .progress) (a .text .now) (f .finish .result) (f .finish .last .1 .1 .0) (f .finish .ensures .0) (f .finish .kept .1 .1 .0)
+
+returns : tie.Need-returns
+returns c =
+    let f = c .before .before .before .before .before .before .before in
+    let a = f .before .before .before .before .args in
+    let is = f .finish .ensures in
+    closes-so (a .room .now) (a .progress) (a .text .now) (f .finish .result) (f .finish .last .1 .1 .0) (is .0) _ _ (is .1) (f .finish .kept .1 .1 .0)
+    (c .before .before .tally .ensures)
+
+pub close-spec : {M : Type 1} → statement M
+close-spec =
+    tie.close
+    (tie.spec
+    (λ c κs. search needs)
+    sub-tally
+    sub-tally
+    (λ c. search needs)
+    (λ c κs. search needs)
+    (λ c. search needs)
+    (λ c. search needs)
+    returns)

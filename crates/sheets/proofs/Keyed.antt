@@ -1,0 +1,102 @@
+-- Laws of the keys that the rows of the tables hold, by one computed test of every row.
+use Prim.Native.Nat.{ℕ, zero, suc, _-_, _≤_}
+use mathlib.Core.Path.{_≡_, refl, sym, ap}
+use mathlib.Core.Bool.{Bool, true, false, cond, _&&_, and-eq-true-iff}
+use mathlib.Core.List.{List, [], _∷_}
+use native.Mathlib.Nat.{sub-zero}
+use native.Mathlib.Omega.{arith}
+use borrow.Author.Tests.{eqb-true, leb-true}
+use borrow.Rule.Slice.PartMut.{midOf}
+use lib.Dec.{eqb, leb}
+use lib.ListN.{length, getD, take}
+use Rattle.figures.specs.Bytes.{startsWith, sameBytes}
+use Rattle.figures.specs.Decimal.{digitsOf, placesBy}
+use Rattle.figures.specs.Rooms.{Puts}
+use Rattle.figures.proofs.Bytes.{same-true}
+use Rattle.figures.proofs.Putting.{puts-as}
+use Rattle.instrument.specs.Settings.{noRow, rows, rowAt}
+use Rattle.instrument.specs.Values.{noStored, stored, storedAt, indexNumber}
+use Rattle.instrument.specs.Rows.{keyOf}
+use Rattle.instrument.specs.declared.settings.Row.{Row}
+use Rattle.instrument.specs.declared.values.Stored.{Stored}
+use Rattle.sheets.specs.Sheet.{settingKey, valueKey}
+use Rattle.sheets.specs.Keeping.{keyLength}
+
+-- a test of every row of a table, whatever a row is
+unfoldable pub eachRow : {A : Type 0} → (A → Bool) → List A → Bool
+eachRow test [] = true
+eachRow test (r ∷ rs) = test r && eachRow test rs
+
+-- so it holds of the row at a place, past the last too
+pub row-tested : {A : Type 0} (test : A → Bool) (rs : List A) (d : A) → test d ≡ true → eachRow test rs ≡ true → (i : ℕ) → test (getD rs i d) ≡ true
+unfolding eachRow
+row-tested test [] d h e i = h
+row-tested test (r ∷ rs) d h e zero = and-eq-true-iff (test r) (eachRow test rs) .0 e .0
+row-tested test (r ∷ rs) d h e (suc i) = row-tested test rs d h (and-eq-true-iff (test r) (eachRow test rs) .0 e .1) i
+
+-- a key of so many bytes at most, as a row holds it
+pub record Keyed (held key : List ℕ) (most : ℕ) : Type 0 where
+  pub is : take (keyLength held) held ≡ key
+  pub long : keyLength held ≡ length key
+  pub few : length key ≤ most
+
+abbrev isKeyed : List ℕ → List ℕ → ℕ → Bool
+isKeyed held key most = sameBytes (take (keyLength held) held) key && (eqb (keyLength held) (length key) && leb (length key) most)
+
+keyed : (held key : List ℕ) (most : ℕ) → isKeyed held key most ≡ true → Keyed held key most
+keyed held key most e =
+    let first = and-eq-true-iff (sameBytes (take (keyLength held) held) key) (eqb (keyLength held) (length key) && leb (length key) most) .0 e in
+    let rest = and-eq-true-iff (eqb (keyLength held) (length key)) (leb (length key) most) .0 (first .1) in
+    record {
+      is = same-true (take (keyLength held) held) key (first .0);
+      long = eqb-true (keyLength held) (length key) (rest .0);
+      few = leb-true (length key) most (rest .1);
+    }
+
+-- whatever a row holds, no key is taken for longer than five bytes
+pub key-most : (held : List ℕ) → keyLength held ≤ 5
+key-most held = by (eqb (getD held 4 0) 0) (eqb (getD held 3 0) 0)
+  where
+    by : (last fourth : Bool) → cond last (cond fourth 3 4) 5 ≤ 5
+    by true true = omega arith
+    by true false = omega arith
+    by false fourth = omega arith
+
+-- the part of what a row holds that is put is its key
+key-put : {held key : List ℕ} {most : ℕ} → Keyed held key most → (room : List ℕ) (at : ℕ) {own one : List ℕ} {n m : ℕ} → own ≡ held → n ≡ keyLength own
+    → Puts room at (midOf 0 (n - 0) own) m one → Puts room at key m one
+key-put {held} {key} k room at {own} {n = n} e en p =
+    let cut : midOf 0 (n - 0) own ≡ key = rw (en, e, sub-zero) (k .is) in
+    puts-as room at (midOf 0 (n - 0) own) key (sym cut) refl refl p
+
+-- the settings' rows
+
+abbrev settingKeyed : Row → Bool
+settingKeyed r = isKeyed (r .4) (settingKey r) 5
+
+settings-keyed : (settingKeyed noRow ≡ true) × (eachRow settingKeyed rows ≡ true)
+unfolding eachRow rows digitsOf placesBy startsWith
+settings-keyed = (refl, refl)
+
+pub setting-keyed : (i : ℕ) → Keyed (rowAt i .4) (settingKey (rowAt i)) 5
+setting-keyed i = keyed (rowAt i .4) (settingKey (rowAt i)) 5 (row-tested settingKeyed rows noRow (settings-keyed .0) (settings-keyed .1) i)
+
+pub setting-key-put : (i n : ℕ) (r : Row) (room : List ℕ) (at : ℕ) {one : List ℕ} {m : ℕ} → r ≡ rowAt i → n ≡ keyLength (r .4)
+    → Puts room at (midOf 0 (n - 0) (r .4)) m one → Puts room at (settingKey (rowAt i)) m one
+setting-key-put i n r room at e en p = key-put (setting-keyed i) room at (ap (λ (x : Row). x .4) e) en p
+
+-- the values' rows
+
+abbrev valueKeyed : Stored → Bool
+valueKeyed r = isKeyed (r .3) (keyOf "v" (indexNumber r)) 4
+
+values-keyed : (valueKeyed noStored ≡ true) × (eachRow valueKeyed stored ≡ true)
+unfolding eachRow stored digitsOf placesBy startsWith
+values-keyed = (refl, refl)
+
+pub value-keyed : (i : ℕ) → Keyed (storedAt i .3) (valueKey i) 4
+value-keyed i = keyed (storedAt i .3) (valueKey i) 4 (row-tested valueKeyed stored noStored (values-keyed .0) (values-keyed .1) i)
+
+pub value-key-put : (i n : ℕ) (r : Stored) (room : List ℕ) (at : ℕ) {one : List ℕ} {m : ℕ} → r ≡ storedAt i → n ≡ keyLength (r .3)
+    → Puts room at (midOf 0 (n - 0) (r .3)) m one → Puts room at (valueKey i) m one
+value-key-put i n r room at e en p = key-put (value-keyed i) room at (ap (λ (x : Stored). x .3) e) en p
