@@ -1,7 +1,8 @@
 /* bench.c: what the library (gsi_*) costs beside the second implementation in plain C (tests/reference.c), as ratios of
    processor time. Both are held to the same answers first; then they take turns in one process, in small batches.
    Usage: bench ROUNDS, which run.sh makes tables of; or bench CASE SIDE PASSES (SIDE is library or C), which plays a case
-   so often and looks at no clock, for counters and profilers. */
+   so often and looks at no clock, for counters and profilers. Compiled with BEFORE, an earlier build of the library
+   (before_gsi_*) stands in the place of the C; it has no level's functions. */
 #include "../tests/reference.h"
 
 int printf(const char *, ...);
@@ -20,24 +21,40 @@ int clock_gettime(int, struct timespec *);
 
 uint64_t gsi_read(const uint8_t *block, size_t n, ref_word *list, size_t places);
 uint64_t gsi_write(const ref_word *list, size_t words, uint64_t wide, uint64_t crlf, uint8_t *block, size_t room);
+uint64_t gsi_read_level(const uint8_t *block, size_t n, ref_word *list, size_t places);
+uint64_t gsi_write_level(const ref_word *list, size_t words, uint64_t wide, uint64_t crlf, uint8_t *block, size_t room);
 uint64_t gsi_line(uint8_t *image, size_t n, const uint8_t *line, size_t m, uint8_t *reply, size_t room);
 uint64_t gsi_sheet_write(const uint8_t *image, size_t n, uint8_t *sheet, size_t room);
 uint64_t gsi_sheet_load(uint8_t *image, size_t n, const uint8_t *sheet, size_t m);
+
+#ifdef BEFORE
+uint64_t before_gsi_read(const uint8_t *block, size_t n, ref_word *list, size_t places);
+uint64_t before_gsi_write(const ref_word *list, size_t words, uint64_t wide, uint64_t crlf, uint8_t *block, size_t room);
+uint64_t before_gsi_line(uint8_t *image, size_t n, const uint8_t *line, size_t m, uint8_t *reply, size_t room);
+uint64_t before_gsi_sheet_write(const uint8_t *image, size_t n, uint8_t *sheet, size_t room);
+uint64_t before_gsi_sheet_load(uint8_t *image, size_t n, const uint8_t *sheet, size_t m);
+#endif
 
 enum { IMAGE = 1039, AT_VALUES = 20, VALUE_BYTES = 11, AT_COUNT = 141, BLOCK_MOST = 771, REPLY_MOST = 306, SHEET_MOST = 352 };
 
 #define COUNT_OF(array) (sizeof(array) / sizeof *(array))
 
-/* The two sides, called alike. */
+enum { STATION, LEVEL };
+
+/* The two sides, called alike; reading and writing by the family. */
 static const struct side {
-    uint64_t (*read)(const uint8_t *, size_t, ref_word *, size_t);
-    uint64_t (*write)(const ref_word *, size_t, uint64_t, uint64_t, uint8_t *, size_t);
+    uint64_t (*read[2])(const uint8_t *, size_t, ref_word *, size_t);
+    uint64_t (*write[2])(const ref_word *, size_t, uint64_t, uint64_t, uint8_t *, size_t);
     uint64_t (*line)(uint8_t *, size_t, const uint8_t *, size_t, uint8_t *, size_t);
     uint64_t (*sheet_write)(const uint8_t *, size_t, uint8_t *, size_t);
     uint64_t (*sheet_load)(uint8_t *, size_t, const uint8_t *, size_t);
 } sides[2] = {
-    {gsi_read, gsi_write, gsi_line, gsi_sheet_write, gsi_sheet_load},
-    {ref_read, ref_write, ref_line, ref_sheet_write, ref_sheet_load},
+    {{gsi_read, gsi_read_level}, {gsi_write, gsi_write_level}, gsi_line, gsi_sheet_write, gsi_sheet_load},
+#ifdef BEFORE
+    {{before_gsi_read, ref_read_level}, {before_gsi_write, ref_write_level}, before_gsi_line, before_gsi_sheet_write, before_gsi_sheet_load},
+#else
+    {{ref_read, ref_read_level}, {ref_write, ref_write_level}, ref_line, ref_sheet_write, ref_sheet_load},
+#endif
 };
 
 static void stop(const char *what, unsigned at)
@@ -69,6 +86,9 @@ static unsigned below(unsigned n)
 /* What one target gives: point number, Hz, V, slope distance, ppm and mm, the point, reflector and instrument height. */
 static const uint8_t measured[] = {11, 21, 22, 31, 51, 81, 82, 83, 87, 88};
 
+/* What a line of levels gives: point number, distance to the rod, back and fore, the differences, the ground height, an intermediate sight. */
+static const uint16_t levelled[] = {11, 32, 331, 332, 573, 574, 83, 333};
+
 static ref_word make_word(unsigned index, unsigned number, int wide, int degrees)
 {
     ref_word w = {.index = (uint16_t)index, .info = {'.', '.', '0', '0'}};
@@ -91,7 +111,20 @@ static ref_word make_word(unsigned index, unsigned number, int wide, int degrees
         w.info[3] = degrees ? '4' : '2';
         w.size = index == 21 ? below(degrees ? 12960000 : 40000000) : degrees ? 3240000 - 200000 + below(400000) : 9000000 + below(2000000);
         break;
+    case 331:
+    case 332:
+    case 333:
+        w.info[1] = '1';
+        w.info[3] = '6';
+        w.size = 1 + below(40000);
+        break;
+    case 573:
+        w.minus = (uint8_t)below(2);
+        w.size = 1 + below(90000);
+        break;
     case 31:
+    case 32:
+    case 574:
         w.size = 1000 + below(900000);
         break;
     case 51:
@@ -111,14 +144,16 @@ static ref_word make_word(unsigned index, unsigned number, int wide, int degrees
         w.size = 1 + (wide ? next64() % 9000000000u : below(90000000));
         w.minus = (uint8_t)below(2);
     }
+    if (index > 99)
+        w.info[0] = 0;
     return w;
 }
 
 enum { BLOCKS_MOST = 512 };
 
-/* A file of blocks: the bytes one after the other, and the records likewise. */
+/* A file of blocks of one family: the bytes one after the other, and the records likewise. */
 struct file {
-    unsigned blocks;
+    unsigned family, blocks;
     size_t bytes, words;
     struct { uint8_t words, wide, crlf; } shape[BLOCKS_MOST];
     uint8_t text[BLOCKS_MOST * BLOCK_MOST];
@@ -131,11 +166,12 @@ static void add_block(struct file *f, unsigned words, int wide, int crlf)
     uint64_t got;
 
     for (unsigned i = 0; i < words; i++)
-        list[i] = make_word(i == 0 ? 11 : measured[1 + (i - 1) % (COUNT_OF(measured) - 1)], f->blocks + 1, wide, (int)(f->blocks / 8 % 4 == 3));
+        list[i] = make_word(i == 0 ? 11 : f->family == LEVEL ? levelled[1 + (i - 1) % (COUNT_OF(levelled) - 1)] : measured[1 + (i - 1) % (COUNT_OF(measured) - 1)],
+                            f->blocks + 1, wide, (int)(f->blocks / 8 % 4 == 3));
     f->shape[f->blocks].words = (uint8_t)words;
     f->shape[f->blocks].wide = (uint8_t)wide;
     f->shape[f->blocks].crlf = (uint8_t)crlf;
-    got = ref_write(list, words, (uint64_t)wide, (uint64_t)crlf, f->text + f->bytes, BLOCK_MOST);
+    got = (f->family == LEVEL ? ref_write_level : ref_write)(list, words, (uint64_t)wide, (uint64_t)crlf, f->text + f->bytes, BLOCK_MOST);
     if (got >> 32 != 0)
         stop("a block made", f->blocks);
     f->blocks++;
@@ -143,20 +179,23 @@ static void add_block(struct file *f, unsigned words, int wide, int crlf)
     f->words += words;
 }
 
-/* The file of all lengths, and one file for each of these lengths. */
-static struct file mixed;
+/* The file of all lengths, and one file for each of these lengths, of each family. */
+static struct file mixed[2];
 static const unsigned lengths[] = {1, 2, 4, 8, 16, 32};
 enum { LENGTHS = COUNT_OF(lengths), ALIKE = 32 };
-static struct file alike[LENGTHS];
+static struct file alike[2][LENGTHS];
 
-static void make_files(void)
+static void make_files(unsigned family)
 {
+    mixed[family].family = family;
     /* every length equally often with either width and either terminator, in an order that jumps about */
     for (unsigned i = 0; i < BLOCKS_MOST; i++)
-        add_block(&mixed, 1 + i / 4 * 13 % 32, (int)(i % 2), (int)(i / 2 % 2));
-    for (unsigned k = 0; k < LENGTHS; k++)
+        add_block(&mixed[family], 1 + i / 4 * 13 % 32, (int)(i % 2), (int)(i / 2 % 2));
+    for (unsigned k = 0; k < LENGTHS; k++) {
+        alike[family][k].family = family;
         for (unsigned i = 0; i < ALIKE; i++)
-            add_block(&alike[k], lengths[k], (int)(i % 2), (int)(i / 2 % 2));
+            add_block(&alike[family][k], lengths[k], (int)(i % 2), (int)(i / 2 % 2));
+    }
 }
 
 static ref_word list[32];
@@ -170,7 +209,7 @@ static void read_file(const struct side *s, const struct file *f)
     uint64_t all = 0;
 
     while (at < f->bytes) {
-        uint64_t got = s->read(f->text + at, f->bytes - at, list, 32);
+        uint64_t got = s->read[f->family](f->text + at, f->bytes - at, list, 32);
         at += got & 0xffff;
         all += got;
     }
@@ -183,7 +222,7 @@ static void write_file(const struct side *s, const struct file *f)
     uint64_t all = 0;
 
     for (unsigned i = 0; i < f->blocks; i++) {
-        all += s->write(from, f->shape[i].words, f->shape[i].wide, f->shape[i].crlf, room, sizeof room);
+        all += s->write[f->family](from, f->shape[i].words, f->shape[i].wide, f->shape[i].crlf, room, sizeof room);
         from += f->shape[i].words;
     }
     sum += all;
@@ -199,9 +238,9 @@ static void check_file(const struct file *f)
             unsigned words = f->shape[i].words;
             size_t used = (f->shape[i].wide ? 1 : 0) + words * (f->shape[i].wide ? 24u : 16u) + 1 + f->shape[i].crlf;
             uint64_t told = used | words << 16 | (uint64_t)f->shape[i].wide << 24 | (uint64_t)f->shape[i].crlf << 25;
-            if (sides[k].read(f->text + at, f->bytes - at, list, 32) != told || memcmp(list, records, words * sizeof *list) != 0)
+            if (sides[k].read[f->family](f->text + at, f->bytes - at, list, 32) != told || memcmp(list, records, words * sizeof *list) != 0)
                 stop("a block read", i);
-            if (sides[k].write(records, words, f->shape[i].wide, f->shape[i].crlf, room, sizeof room) != used || memcmp(room, f->text + at, used) != 0)
+            if (sides[k].write[f->family](records, words, f->shape[i].wide, f->shape[i].crlf, room, sizeof room) != used || memcmp(room, f->text + at, used) != 0)
                 stop("a block written", i);
             at += used;
             records += words;
@@ -433,6 +472,8 @@ struct timed {
 static const struct timed wholes[] = {
     {"blocks read", READ, 0, 1},
     {"blocks written", WRITE, 0, 1},
+    {"a level's read", READ, LEVEL, 1},
+    {"a level's written", WRITE, LEVEL, 1},
     {"lines played", PLAY, 0, 1},
     {"sheets written", SHEET_WRITE, 0, 1},
     {"sheets loaded", SHEET_LOAD, 0, 1},
@@ -452,10 +493,10 @@ static void play(const struct timed *t, const struct side *s)
     for (unsigned i = 0; i < t->passes; i++)
         switch (t->kind) {
         case READ:
-            read_file(s, &mixed);
+            read_file(s, &mixed[t->which]);
             break;
         case WRITE:
-            write_file(s, &mixed);
+            write_file(s, &mixed[t->which]);
             break;
         case PLAY:
             play_script(s);
@@ -467,10 +508,10 @@ static void play(const struct timed *t, const struct side *s)
             load_sheets(s);
             break;
         case READ_ALIKE:
-            read_file(s, &alike[t->which]);
+            read_file(s, &alike[t->which / LENGTHS][t->which % LENGTHS]);
             break;
         case WRITE_ALIKE:
-            write_file(s, &alike[t->which]);
+            write_file(s, &alike[t->which / LENGTHS][t->which % LENGTHS]);
             break;
         case PLAY_DEPTH:
             sum += play_depth(s, t->which);
@@ -487,7 +528,7 @@ static double now(void)
     return (double)t.seconds * 1e9 + (double)t.nanoseconds;
 }
 
-enum { ROUNDS_MOST = 999, CASES_MOST = 8 };
+enum { ROUNDS_MOST = 999, CASES_MOST = 2 * LENGTHS };
 static double times[CASES_MOST][2][ROUNDS_MOST];
 static unsigned rounds;
 
@@ -538,11 +579,27 @@ static void grow(const char *table, enum kind kind, const unsigned *sizes, unsig
     }
 }
 
+/* A level's block beside a total station's of as many words. */
+static void beside(const char *table, enum kind kind)
+{
+    struct timed t[CASES_MOST];
+
+    for (unsigned c = 0; c < 2 * LENGTHS; c++)
+        t[c] = (struct timed){table, kind, c, 32 * 4 / lengths[c % LENGTHS]};
+    measure(t, 2 * LENGTHS);
+    for (unsigned c = 0; c < LENGTHS; c++) {
+        print_row(table, "library / C", lengths[c], times[LENGTHS + c][0], times[LENGTHS + c][1]);
+        print_row(table, "library / library at the station's", lengths[c], times[LENGTHS + c][0], times[c][0]);
+        print_row(table, "C / C at the station's", lengths[c], times[LENGTHS + c][1], times[c][1]);
+    }
+}
+
 int main(int words, char **word)
 {
-    make_files();
+    make_files(STATION);
     make_script();
     make_depths();
+    make_files(LEVEL);
 
     if (words == 4) {
         for (unsigned c = 0; c < COUNT_OF(wholes); c++)
@@ -558,12 +615,14 @@ int main(int words, char **word)
         return 0;
     }
 
-    check_file(&mixed);
-    for (unsigned k = 0; k < LENGTHS; k++)
-        check_file(&alike[k]);
+    for (unsigned family = 0; family < 2; family++) {
+        check_file(&mixed[family]);
+        for (unsigned k = 0; k < LENGTHS; k++)
+            check_file(&alike[family][k]);
+    }
     check_script();
-    printf("Both sides gave the same answers on %u blocks of %u words, %u lines (%u accepted, %u undo entries standing at the average line) and %u sheets.\n",
-           mixed.blocks, (unsigned)mixed.words, LINES, accepted, standing / LINES, STATES);
+    printf("Both sides gave the same answers on %u blocks of %u words of each family, %u lines (%u accepted, %u undo entries standing at the average line) and %u sheets.\n",
+           mixed[STATION].blocks, (unsigned)mixed[STATION].words, LINES, accepted, standing / LINES, STATES);
 
     rounds = words == 2 ? (unsigned)atoi(word[1]) : 0;
     if (rounds == 0 || rounds > ROUNDS_MOST)
@@ -573,6 +632,7 @@ int main(int words, char **word)
         print_row("whole", wholes[c].name, 0, times[c][0], times[c][1]);
     grow("a block read, by its words", READ_ALIKE, lengths, LENGTHS);
     grow("a block written, by its words", WRITE_ALIKE, lengths, LENGTHS);
+    beside("a level's block read, by its words", READ_ALIKE);
     grow("a line, by the entries in the undo list", PLAY_DEPTH, depths, DEPTHS);
     return 0;
 }

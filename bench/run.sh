@@ -1,5 +1,6 @@
 #!/bin/sh
-# run.sh [ROUNDS]: the library's time beside that of the second implementation in plain C, as ratios (docs/BENCHMARK.md).
+# run.sh [ROUNDS [LIBRARY]]: the library's time beside that of the second implementation in plain C, as ratios (docs/BENCHMARK.md); or beside an
+# earlier build of it, LIBRARY, a libhost.a, whose functions are renamed by an objcopy that knows x86-64.
 # The program is linked four times, a quarter of a page further on each time, and every figure is the median of the four: where the code
 # comes to stand moves a ratio by a tenth, more than the rounds do.
 set -eu
@@ -8,14 +9,27 @@ work=$(mktemp -d)
 trap 'rm -rf "$work"' EXIT
 echo "bench/run.sh: proving and building the library, where that isn't done yet .." >&2
 rt staticlib host >"$work/log" 2>&1 || { tail -n 5 "$work/log" >&2 && exit 1; }
+against=bench/bench.c under=C
+if [ $# -gt 1 ]; then
+    objcopy=$(command -v x86_64-linux-gnu-objcopy || command -v objcopy)
+    "$objcopy" --prefix-symbols=before_ "$2" "$work/before.a"
+    (mkdir "$work/before" && cd "$work/before" && "${objcopy%objcopy}ar" x ../before.a)
+    # what the library calls of the C library keeps its name
+    for object in "$work"/before/*.o; do
+        for name in memcpy memmove memset memcmp bcmp; do "$objcopy" --redefine-sym "before_$name=$name" "$object"; done
+    done
+    printf '#define BEFORE\n#include "%s/bench/bench.c"\n' "$PWD" >"$work/against.c"
+    against="$work/against.c $work/before/*.o" under=before
+fi
 for shift in 16 1040 2064 3088; do
     printf '__asm__(".text\\n.zero %s\\n");\n' "$shift" >"$work/shift.c"
-    sh tests/c.sh "$work/bench" "$work/shift.c" bench/bench.c tests/reference.c
+    # shellcheck disable=SC2086
+    sh tests/c.sh "$work/bench" "$work/shift.c" $against tests/reference.c
     sh tests/c.sh --run "$work/bench" "${1:-15}" >"$work/rows.$shift" || { cat "$work/rows.$shift" && exit 1; }
 done
 head -n 1 "$work/rows.16"
 [ "$(uname -m)" = x86_64 ] || echo "This machine is $(uname -m): x86-64 code ran under the kit's emulator, where calls and jumps by table weigh more than on a processor."
-awk -F '\t' '
+awk -F '\t' -v under="$under" '
     function middle(key,    i, k, v, n) {
         n = count[key]
         for (i = 2; i <= n; i++)
@@ -33,7 +47,7 @@ awk -F '\t' '
         if ($1 != "whole" && !($1 in named)) { named[$1] = 1; names[++grown] = $1 }
     }
     END {
-        printf "\n%-16s %8s   %-16s %s\n", "library / C", "ratio", "four places", "all rounds"
+        printf "\n%-16s %8s   %-16s %s\n", "library / " under, "ratio", "four places", "all rounds"
         for (i = 1; i <= all; i++) {
             split(keys[i], part, FS)
             if (part[1] != "whole") continue
@@ -45,7 +59,9 @@ awk -F '\t' '
             lines = split(substr(tables[names[g]], 2), row, FS)
             sizes = split(columns[names[g]], size, " ")
             for (i = 1; i <= lines; i++) {
-                printf "  %-37s", row[i]
+                name = row[i]
+                if (under != "C") { sub("/ C$", "/ " under, name); sub("C / C", under " / " under, name) }
+                printf "  %-37s", name
                 for (k = 1; k <= sizes; k++) printf " %6.2f", middle(names[g] FS row[i] FS size[k])
                 printf "\n"
             }

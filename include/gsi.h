@@ -20,10 +20,14 @@ extern "C" {
 #define GSI_TOLD(answer) ((uint64_t)((answer) & 0xffffffffu))
 
 /* One word of a block. Signs are 0 for plus and 1 for minus; the value is sign and size, in steps of the unit at info[3]. ppm of a pair is the
-   value, mm stands beside it. Text stands from the start of text, 8 or 16 bytes. What a word doesn't use is 0. */
+   value, mm stands beside it. Text stands from the start of text, 8 or 16 bytes. What a word doesn't use is 0.
+
+   A digital level's numbers (32, 83, 330-336, 374, 571-574) count, by the unit at info[3]: '0' 1 mm, '1' 1/1000 ft, '6' 1/10 mm, '7' 1/10,000 ft,
+   '8' 1/100 mm, '9' 1/2000 inch (0.0005 inch). An index of three digits, 331 say, stands in index, and info[0], which it leaves unused, is 0; info[1]
+   to info[3] are positions 4-6. 521 is text as 52 and 57 are. Of 11 and 41 with a block number (110006) index is 11 or 41 and info the four digits. */
 typedef struct {
-    uint16_t index;    /* the two-digit index */
-    uint8_t info[4];   /* positions 3-6 as they stand */
+    uint16_t index;    /* the index, of two digits or, a level's, of three */
+    uint8_t info[4];   /* positions 3-6 as they stand; info[0] is 0 where position 3 belongs to the index */
     uint8_t minus;     /* the value's sign */
     uint8_t mm_minus;  /* the sign of a pair's mm */
     uint64_t size;     /* the value's size */
@@ -45,16 +49,22 @@ GSI_ASSERT(offsetof(gsi_word, size) == 8 && offsetof(gsi_word, mm) == 16 && offs
 /* The longest block, reply and sheet. */
 enum { GSI_BLOCK_MOST = 771, GSI_REPLY_MOST = 306, GSI_SHEET_MOST = 352 };
 
-/* Reads the block at the start of n bytes into a list of so many places.
+/* Reads the total station's block at the start of n bytes into a list of so many places.
    Read (0): tells GSI_USED, GSI_WORDS, GSI_IS_WIDE and GSI_IS_CRLF; records beyond the words are as before, bytes after the terminator aren't looked at.
    Refused (1 to 11): tells the place; the whole list is as before. */
 uint64_t gsi_read(const uint8_t *block, size_t n, gsi_word *list, size_t places);
 
-/* Writes so many records as one block into the room; wide and crlf: 0 is no, any other number is yes.
+/* Writes so many records as one block of a total station into the room; wide and crlf: 0 is no, any other number is yes.
    Written (0): tells the block's bytes; room beyond them is as before.
    Refused: 12 for no records or over 32 (tells 0), 13 for the first record that no word of the width gives (tells its number, from 0), 14 for
    a room shorter than the block (tells the bytes needed); the whole room is as before. */
 uint64_t gsi_write(const gsi_word *list, size_t words, uint64_t wide, uint64_t crlf, uint8_t *block, size_t room);
+
+/* The same two for a digital level's block (NA2002, NA3003). What a level's word can't be is refused as gsi_read refuses: 5 for an index that a
+   level doesn't have, a third digit included, 6 for positions 3-6 by the level's rules. 13 is a record that no word of a level gives: one whose index a
+   level doesn't have, an index of three digits with info[0] other than 0, one of two digits (but 11 and 41) without the dot at info[0]. */
+uint64_t gsi_read_level(const uint8_t *block, size_t n, gsi_word *list, size_t places);
+uint64_t gsi_write_level(const gsi_word *list, size_t words, uint64_t wide, uint64_t crlf, uint8_t *block, size_t room);
 
 /* The length of an image, the bytes that a state is lent as (docs/IMAGE.md): the number itself. */
 uint64_t gsi_image_size(void);

@@ -1,5 +1,6 @@
-/* driver.c: makes cases by seed and compares the library (gsi_*) with the second implementation (ref_*): the answer and
-   every lent byte. Usage: driver CASES SEED. Status 0 when there is no difference and every number was seen. */
+/* driver.c: sweeps the words and records of both families, makes cases by seed and compares the library (gsi_*) with the
+   second implementation (ref_*): the answer and every lent byte. Usage: driver CASES SEED, the sweeps not counted. Status 0
+   when there is no difference and every number was seen. */
 #include "reference.h"
 
 int printf(const char *, ...);
@@ -12,6 +13,8 @@ size_t strlen(const char *);
 
 uint64_t gsi_read(const uint8_t *block, size_t n, ref_word *list, size_t places);
 uint64_t gsi_write(const ref_word *list, size_t words, uint64_t wide, uint64_t crlf, uint8_t *block, size_t room);
+uint64_t gsi_read_level(const uint8_t *block, size_t n, ref_word *list, size_t places);
+uint64_t gsi_write_level(const ref_word *list, size_t words, uint64_t wide, uint64_t crlf, uint8_t *block, size_t room);
 uint64_t gsi_image_size(void);
 uint64_t gsi_factory(uint8_t *image, size_t n);
 uint64_t gsi_line(uint8_t *image, size_t n, const uint8_t *line, size_t m, uint8_t *reply, size_t room);
@@ -129,12 +132,18 @@ static void lend(struct lent *l, const void *content, size_t len, int how)
 
 /* One comparison */
 
-enum { READ, WRITE, FACTORY, LINE, SHEET_WRITE, SHEET_LOAD, FUNCTIONS };
-static const char *const names[FUNCTIONS] = {"read", "write", "factory", "line", "sheet_write", "sheet_load"};
+/* READ and WRITE have each family's function at its place. */
+enum { STATION, LEVEL, FAMILIES };
+enum { READ, WRITE = READ + FAMILIES, FACTORY = WRITE + FAMILIES, LINE, SHEET_WRITE, SHEET_LOAD, FUNCTIONS };
+static const char *const names[FUNCTIONS] = {"read", "read_level", "write", "write_level", "factory", "line", "sheet_write", "sheet_load"};
 
 static uint64_t wanted, cases, seed, seen[FUNCTIONS][41];
 static const char *kind_name;
 static uint64_t *kind_count;
+static int sweeping;
+
+/* The family that the case at hand is made for. */
+static unsigned family;
 
 /* The case at hand, for the report. */
 static struct {
@@ -201,7 +210,7 @@ static int alike(const struct lent *l)
 
 static void compare(uint64_t theirs, uint64_t ours)
 {
-    cases++;
+    cases += !sweeping;
     ++*kind_count;
     if (theirs != ours)
         report(theirs, ours);
@@ -209,7 +218,7 @@ static void compare(uint64_t theirs, uint64_t ours)
         if (!alike(now.lent[i]))
             report(theirs, ours);
     if (ours >> 32 <= 40)
-        seen[now.function][ours >> 32]++;
+        seen[now.function][ours >> 32] += !sweeping;
     if (cases == wanted)
         finish();
 }
@@ -232,15 +241,22 @@ static void argue(int place, const char *name, uint64_t value)
 static uint8_t src[MOST + GUARD];
 static size_t len;
 
-static void check_read(size_t n, size_t places)
+enum { THEIRS, OURS };
+static uint64_t (*const read_by[FAMILIES][2])(const uint8_t *block, size_t n, ref_word *list, size_t places) = {
+    {gsi_read, ref_read}, {gsi_read_level, ref_read_level}};
+static uint64_t (*const write_by[FAMILIES][2])(const ref_word *list, size_t words, uint64_t wide, uint64_t crlf, uint8_t *block,
+                                               size_t room) = {{gsi_write, ref_write}, {gsi_write_level, ref_write_level}};
+
+/* Reads the lent block into the lent list. */
+static uint64_t read_lent(unsigned of, size_t places)
 {
-    uint64_t theirs;
-    begin(READ, &block, &list);
+    uint64_t theirs, ours;
+    begin(READ + of, &block, &list);
     argue(0, "places", places);
-    lend(&block, src, n, IN);
-    lend(&list, 0, places * sizeof(ref_word), ALIGNED);
-    theirs = gsi_read(block.theirs + block.start, n, (ref_word *)(void *)(list.theirs + list.start), places);
-    compare(theirs, ref_read(block.ours + block.start, n, (ref_word *)(void *)(list.ours + list.start), places));
+    theirs = read_by[of][THEIRS](block.theirs + block.start, block.len, (ref_word *)(void *)(list.theirs + list.start), places);
+    ours = read_by[of][OURS](block.ours + block.start, block.len, (ref_word *)(void *)(list.ours + list.start), places);
+    compare(theirs, ours);
+    return ours;
 }
 
 /* The records of the writer's cases; beyond the 34 there is memory for the guard. */
@@ -253,17 +269,57 @@ static uint64_t yes_or_no(int yes)
     return yes ? PICK(yeses) : 0;
 }
 
-static void check_write(size_t words, int is_wide, int is_crlf, size_t room)
+static uint64_t write_of(unsigned of, size_t words, int is_wide, int is_crlf, size_t room)
 {
-    uint64_t wide = yes_or_no(is_wide), crlf = yes_or_no(is_crlf), theirs;
-    begin(WRITE, &list, &block);
+    uint64_t wide = yes_or_no(is_wide), crlf = yes_or_no(is_crlf), theirs, ours;
+    begin(WRITE + of, &list, &block);
     argue(0, "words", words);
     argue(1, "wide", wide);
     argue(2, "crlf", crlf);
     lend(&list, records, words * sizeof(ref_word), IN | ALIGNED);
     lend(&block, 0, room, 0);
-    theirs = gsi_write((const ref_word *)(void *)(list.theirs + list.start), words, wide, crlf, block.theirs + block.start, room);
-    compare(theirs, ref_write((const ref_word *)(void *)(list.ours + list.start), words, wide, crlf, block.ours + block.start, room));
+    theirs = write_by[of][THEIRS]((const ref_word *)(void *)(list.theirs + list.start), words, wide, crlf, block.theirs + block.start, room);
+    ours = write_by[of][OURS]((const ref_word *)(void *)(list.ours + list.start), words, wide, crlf, block.ours + block.start, room);
+    compare(theirs, ours);
+    return ours;
+}
+
+/* Writes the records back that the library read from src: the same bytes. */
+static void write_back(unsigned of, uint64_t read)
+{
+    size_t bytes = read & 0xFFFF, words = read >> 16 & 255;
+    uint64_t wrote;
+    memcpy(records, list.theirs + list.start, words * sizeof(ref_word));
+    wrote = write_of(of, words, read >> 24 & 1, read >> 25 & 1, bytes);
+    if (wrote != bytes || memcmp(block.theirs + block.start, src, bytes) != 0) {
+        hex("doesn't write back", src, bytes);
+        report(wrote, wrote);
+    }
+}
+
+static void read_of(unsigned of, size_t n, size_t places)
+{
+    uint64_t read;
+    lend(&block, src, n, IN);
+    lend(&list, 0, places * sizeof(ref_word), ALIGNED);
+    read = read_lent(of, places);
+    if (read >> 32 == 0 && (sweeping || one_in(4)))
+        write_back(of, read);
+}
+
+/* The family's case goes to the other family's function at times. */
+static void check_read(size_t n, size_t places)
+{
+    read_of(family, n, places);
+    if (one_in(8))
+        read_of(!family, n, places);
+}
+
+static void check_write(size_t words, int wide, int crlf, size_t room)
+{
+    write_of(family, words, wide, crlf, room);
+    if (one_in(8))
+        write_of(!family, words, wide, crlf, room);
 }
 
 /* The run's image goes on from call to call, one on each side; what stands there is then "before". */
@@ -320,29 +376,49 @@ static void check_sheet_load(struct lent *image, size_t m)
 
 /* Words */
 
-static const uint8_t numbered[] = {11, 41};
-static const uint8_t texts[] = {12, 13, 16, 18, 19, 42, 43, 44, 45, 46, 47, 48, 49, 52, 53, 71, 72, 73, 74, 75, 76, 77, 78, 79};
-static const uint8_t angles[] = {21, 22, 24};
-static const uint8_t lengths[] = {31, 32, 33, 34, 81, 82, 83, 84, 85, 86, 87, 88};
-static const uint8_t constants[] = {58, 59};
+/* The indexes of each family by kind; a level's numbers are m. */
+struct row {
+    char kind;
+    uint8_t count;
+    uint16_t index[24];
+};
+static const struct row rows[FAMILIES][7] = {
+    {{'n', 2, {11, 41}},
+     {'t', 24, {12, 13, 16, 18, 19, 42, 43, 44, 45, 46, 47, 48, 49, 52, 53, 71, 72, 73, 74, 75, 76, 77, 78, 79}},
+     {'a', 3, {21, 22, 24}},
+     {'l', 12, {31, 32, 33, 34, 81, 82, 83, 84, 85, 86, 87, 88}},
+     {'c', 2, {58, 59}},
+     {'p', 1, {51}},
+     {0, 0, {0}}},
+    {{'n', 2, {11, 41}},
+     {'t', 11, {42, 43, 44, 45, 46, 47, 48, 49, 52, 57, 521}},
+     {'m', 14, {32, 83, 330, 331, 332, 333, 334, 335, 336, 374, 571, 572, 573, 574}},
+     {0, 0, {0}}},
+};
 
-/* An index of the table, its kinds about alike in number: n, t, a, l, c or p. */
-static unsigned some_index(char *kind)
+static unsigned index_of_kind(unsigned of, char kind)
 {
-    switch (*kind = one_of("nttaaallcpp")) {
-    case 'n':
-        return PICK(numbered);
-    case 't':
-        return PICK(texts);
-    case 'a':
-        return PICK(angles);
-    case 'l':
-        return PICK(lengths);
-    case 'c':
-        return PICK(constants);
-    default:
-        return 51;
-    }
+    const struct row *row = rows[of];
+    while (row->kind != kind)
+        row++;
+    return row->index[below(row->count)];
+}
+
+/* An index of the family, its kinds about alike in number: n, t, a, l, c, p or m. */
+static unsigned some_index(unsigned of, char *kind)
+{
+    *kind = one_of(of == LEVEL ? "nttmmmm" : "nttaaallcpp");
+    return index_of_kind(of, *kind);
+}
+
+/* The kind of an index of the family, 0 when it has none. */
+static char kind_of(unsigned of, unsigned index)
+{
+    for (const struct row *row = rows[of]; row->kind; row++)
+        for (unsigned i = 0; i < row->count; i++)
+            if (row->index[i] == index)
+                return row->kind;
+    return 0;
 }
 
 static void digits(uint8_t *p, size_t n, uint64_t value)
@@ -458,15 +534,20 @@ static int angle_data(uint8_t *p, unsigned width, uint8_t unit, int edge)
     return v == 0;
 }
 
+static void lay_index(uint8_t *w, unsigned index)
+{
+    digits(w, index < 100 ? 2 : 3, index);
+}
+
 /* A word with its blank: right, or with a right form and data at the edges (some of them wrong). */
 static void word_of(uint8_t *w, unsigned width, char kind, unsigned index, int edge)
 {
     uint8_t *info = w + 2, *data = w + 7;
     int zero = 0;
 
-    digits(w, 2, index);
     memcpy(info, "....", 4);
     info[2] = (uint8_t)one_of(".01234");
+    lay_index(w, index);
     w[6] = '+';
     w[7 + width] = ' ';
     switch (kind) {
@@ -498,7 +579,11 @@ static void word_of(uint8_t *w, unsigned width, char kind, unsigned index, int e
     }
     default: {
         uint64_t v = edge && one_in(3) ? 0 : some_size(power_of_ten(width));
-        info[3] = kind == 'l' ? (uint8_t)one_of("01678") : '6';
+        info[3] = (uint8_t)one_of(kind == 'l' ? "01678" : kind == 'm' ? "016789" : "6");
+        if (kind == 'm') {
+            info[1] = (uint8_t)one_of(".1");
+            info[2] = (uint8_t)one_of(".0124567");
+        }
         digits(data, width, v);
         zero = v == 0;
         break;
@@ -526,7 +611,7 @@ static void make_block(unsigned words, unsigned edges)
         src[0] = '*';
     for (unsigned i = 0; i < words; i++) {
         char kind;
-        unsigned index = some_index(&kind);
+        unsigned index = some_index(family, &kind);
         word_of(src + word_start(i), block_wide ? 16 : 8, kind, index, edge && one_in(4));
     }
     len = word_start(words);
@@ -609,20 +694,27 @@ static void read_each_value(void)
 /* Positions 3-6 from their own alphabet, for any index. */
 static void read_info(void)
 {
-    unsigned at, width;
+    unsigned at, width, index;
     char kind;
     make_block(1 + below(3), 0);
     at = below(block_words);
     width = block_wide ? 16 : 8;
     at = (unsigned)word_start(at);
-    switch (below(4)) {
-    case 0: /* any two digits over right information */
-        digits(src + at, 2, below(100));
+    switch (below(6)) {
+    case 0: /* any two or three digits over right information */
+        lay_index(src + at, below(one_in(2) ? 100 : 1000));
         break;
-    case 1: /* another index of the table over it */
-        digits(src + at, 2, some_index(&kind));
+    case 1: /* another index of either family over it */
+        lay_index(src + at, some_index(below(FAMILIES), &kind));
         break;
-    case 2:
+    case 2: /* a neighbour of a level's index */
+        index = some_index(LEVEL, &kind);
+        lay_index(src + at, index + below(3) - 1);
+        break;
+    case 3:
+        change(src + at, 3);
+        break;
+    case 4:
         for (int i = 0; i < 4; i++)
             src[at + 2 + i] = (uint8_t)one_of(one_in(2) ? "." : "0123456789.");
         break;
@@ -663,7 +755,7 @@ static void read_exchanged(void)
     b = word_start(below(block_words));
     switch (below(6)) {
     case 0:
-        swap(src + a, src + b, 2);
+        swap(src + a, src + b, 2 + below(2));
         break;
     case 1:
         swap(src + a + 2, src + b + 2, 4);
@@ -700,15 +792,26 @@ static void read_places(void)
         check_read(len, places);
 }
 
+/* A word of the other family among the family's own. */
+static void read_mixed(void)
+{
+    char kind;
+    unsigned index;
+    make_block(some_words(), 0);
+    index = some_index(!family, &kind);
+    word_of(src + word_start(below(block_words)), block_wide ? 16 : 8, kind, index, 0);
+    check_read(len, some_places());
+}
+
 /* Data at the limits and just beyond, angles most often, with a wrong blank at times to see the order. */
 static void read_edges(void)
 {
     char kind;
-    unsigned index = some_index(&kind);
+    unsigned index = some_index(family, &kind);
     make_block(1 + below(3), 4);
-    if (one_in(2)) {
+    if (family == STATION && one_in(2)) {
         kind = 'a';
-        index = PICK(angles);
+        index = index_of_kind(family, kind);
     }
     word_of(src + word_start(block_words - 1), block_wide ? 16 : 8, kind, index, 1);
     if (one_in(8))
@@ -731,7 +834,7 @@ static unsigned make_records(unsigned words)
 {
     do {
         make_block(words > 32 ? 32 : words, 0);
-    } while (ref_read(src, len, records, 32) >> 32 != 0);
+    } while (read_by[family][OURS](src, len, records, 32) >> 32 != 0);
     for (unsigned i = 32; i < words; i++)
         records[i] = records[i - 32];
     return words;
@@ -776,12 +879,14 @@ static uint64_t extreme(void)
 
 static void damage_record(ref_word *r)
 {
-    static const uint16_t indexes[] = {0, 1, 10, 99, 100, 101, 111, 121, 255, 256, 267, 65535};
+    static const uint16_t indexes[] = {0, 1, 10, 99, 100, 101, 110, 111, 119, 121, 255, 256, 267, 329, 337, 373, 375,
+                                       410, 419, 520, 522, 570, 575, 999, 1000, 65535};
+    static const uint8_t firsts[] = {0, 0, '.', '.', '0', '1', '/', ':', ' ', 255};
     static const uint8_t signs[] = {0, 1, 1, 1, 2, 3, '+', '-', 128, 255};
     char kind;
-    switch (below(13)) {
+    switch (below(17)) {
     case 0:
-        r->index = one_in(2) ? (uint16_t)below(100) : PICK(indexes);
+        r->index = one_in(2) ? (uint16_t)below(1000) : PICK(indexes);
         break;
     case 1:
         r->index = (uint16_t)(r->index + 100 * (1 + below(600)));
@@ -790,7 +895,22 @@ static void damage_record(ref_word *r)
         r->index = (uint16_t)(r->index + 256 * (1 + below(255)));
         break;
     case 2:
-        r->index = (uint16_t)some_index(&kind);
+        r->index = (uint16_t)some_index(below(FAMILIES), &kind);
+        break;
+    case 11: /* three digits for two and two for three, the first byte of the information often following */
+        r->index = (uint16_t)(r->index < 100 ? r->index * 10 + below(10) : r->index / 10);
+        if (one_in(2))
+            r->info[0] = r->index < 100 ? '.' : 0;
+        break;
+    case 12:
+        r->index = (uint16_t)(r->index + below(3) - 1);
+        break;
+    case 13:
+        r->info[0] = PICK(firsts);
+        break;
+    case 14: /* another index of the family with the first byte that suits it */
+        r->index = (uint16_t)some_index(family, &kind);
+        r->info[0] = r->index < 100 ? '.' : 0;
         break;
     case 3:
         change_to(r->info, 4, "0123456789./:");
@@ -855,6 +975,20 @@ static void write_extremes(void)
     write_about(words, one_in(2));
 }
 
+/* A record of the other family among the family's own. */
+static void write_mixed(void)
+{
+    ref_word other;
+    unsigned words;
+    family = !family;
+    make_records(1);
+    other = records[0];
+    family = !family;
+    words = make_records(some_words());
+    records[below(words)] = other;
+    write_about(words, (int)block_wide);
+}
+
 static void write_other_width(void)
 {
     unsigned words = make_records(1 + below(3));
@@ -890,10 +1024,13 @@ static void write_random(void)
         char kind;
         memcpy(r, pool + below(sizeof pool - sizeof *r), sizeof *r);
         if (one_in(2))
-            r->index = (uint16_t)some_index(&kind);
-        if (one_in(2))
+            r->index = (uint16_t)some_index(family, &kind);
+        if (one_in(2)) {
             for (int k = 0; k < 4; k++)
                 r->info[k] = (uint8_t)one_of("...0126");
+            if (r->index >= 100 && one_in(2))
+                r->info[0] = 0;
+        }
         if (one_in(2))
             memset(r->text, 0, 16);
         if (one_in(2))
@@ -904,6 +1041,150 @@ static void write_random(void)
             r->size = extreme();
     }
     write_about(words, one_in(2));
+}
+
+/* Sweeps: every word's beginning and every value of its bytes, the same whatever the seed but for what is lent around them. */
+
+static uint64_t swept[FAMILIES];
+
+/* Information that is right for the kind, wherever position 3 isn't the index's. */
+static const char *info_for(char kind)
+{
+    switch (kind) {
+    case 'n':
+        return "0106";
+    case 't':
+    case 'm':
+        return ".106";
+    case 'a':
+        return ".102";
+    case 'p':
+        return "..0.";
+    default:
+        return "..06";
+    }
+}
+
+/* A block of one word in src that begins with the two digits and the third character, and is right if such a word can be. */
+static void lay_word(unsigned two, char third)
+{
+    unsigned width = block_wide ? 16 : 8;
+    uint8_t *w = src + block_wide;
+    char kind = kind_of(family, third == '.' ? two : two * 10 + (unsigned)(third - '0'));
+    if (!kind)
+        kind = kind_of(family, two);
+    if (block_wide)
+        src[0] = '*';
+    memcpy(w + 2, kind == 'n' && third == '.' ? "...." : info_for(kind), 4);
+    digits(w, 2, two);
+    w[2] = (uint8_t)third;
+    w[6] = '+';
+    digits(w + 7, width, 10198);
+    if (kind == 'p')
+        w[7 + width - 4] = '+';
+    memcpy(w + 7 + width, " \r\n", 3);
+    len = block_wide + width + 10;
+}
+
+/* Each value of one byte of the block in src. What is lent stays from value to value, until a reading alters the list. */
+static void sweep_byte(size_t at)
+{
+    enum { PLACES = 2 };
+    uint8_t old = src[at];
+    int stale = 1;
+    for (unsigned b = 0; b < 256; b++) {
+        uint64_t read;
+        src[at] = (uint8_t)b;
+        if (stale) {
+            lend(&block, src, len, IN);
+            lend(&list, 0, PLACES * sizeof(ref_word), ALIGNED);
+        }
+        block.before[block.start + at] = block.theirs[block.start + at] = block.ours[block.start + at] = (uint8_t)b;
+        read = read_lent(family, PLACES);
+        stale = read >> 32 == 0;
+        if (stale)
+            write_back(family, read);
+    }
+    src[at] = old;
+}
+
+/* Each two digits with each digit or a dot after them: each byte of a right word, positions 4-6 of any other, and position 3
+   once for all that differ in it alone. */
+static void sweep_words(void)
+{
+    kind_name = "sweep of words";
+    for (block_wide = 0; block_wide < 2; block_wide++)
+        for (unsigned two = 0; two < 100; two++)
+            for (const char *third = ".0123456789"; *third; third++) {
+                int right;
+                lay_word(two, *third);
+                right = read_by[family][OURS](src, len, records, 1) >> 32 == 0;
+                for (size_t at = right ? 0 : *third == '.' ? 2 : 3; at < (right ? len - block_wide : 6); at++)
+                    sweep_byte(block_wide + at);
+            }
+}
+
+/* Positions 3-6 each a dot or digit, for the first and the last index of each kind. */
+static void sweep_infos(void)
+{
+    kind_name = "sweep of information";
+    block_wide = 0;
+    for (const struct row *row = rows[family]; row->kind; row++)
+        for (unsigned last = 0; last < 2; last++) {
+            unsigned index = row->index[last ? row->count - 1 : 0];
+            lay_word(index < 100 ? index : index / 10, '.');
+            for (unsigned i = 0; i < 11 * 11 * 11 * 11; i++) {
+                for (unsigned at = 2, rest = i; at < 6; at++, rest /= 11)
+                    src[at] = (uint8_t)".0123456789"[rest % 11];
+                read_of(family, len, 1);
+            }
+        }
+}
+
+/* Each index with several informations, as a number and as text; of a right record each value of the information's bytes. */
+static void sweep_records(void)
+{
+    static const char infos[][5] = {"....", "\0...", "0106", "\000106", ".106", "1106", "/106", ":106", " 106", ".102", "\000102",
+                                    "..06", "\000.06", "..0.", "\000.0.", "...9", "\000..9", ".1.7"};
+    kind_name = "sweep of records";
+    for (unsigned how = 0; how < 4; how++) {
+        int wide = how & 1, is_text = how & 2;
+        ref_word *r = &records[0];
+        memset(r, 0, sizeof *r);
+        r->size = is_text ? 0 : 1019;
+        memset(r->text, '7', is_text ? wide ? 16 : 8 : 0);
+        for (unsigned index = 0; index <= 1100; index++) {
+            int right = 0;
+            r->index = (uint16_t)index;
+            for (size_t i = 0; i < COUNT_OF(infos); i++) {
+                memcpy(r->info, infos[i], 4);
+                right |= write_of(family, 1, wide, 0, 26) >> 32 == 0;
+            }
+            if (!right)
+                continue;
+            for (unsigned at = 0; at < 4; at++)
+                for (unsigned b = 0; b < 256; b++) {
+                    memcpy(r->info, info_for(kind_of(family, index)), 4);
+                    if (index >= 100)
+                        r->info[0] = 0;
+                    r->info[at] = (uint8_t)b;
+                    write_of(family, 1, wide, 0, 26);
+                }
+        }
+    }
+}
+
+static void sweep(void)
+{
+    sweeping = 1;
+    for (family = 0; family < FAMILIES; family++) {
+        kind_count = &swept[family];
+        sweep_words();
+        sweep_infos();
+        sweep_records();
+    }
+    family = STATION;
+    sweeping = 0;
 }
 
 /* States */
@@ -1432,7 +1713,7 @@ static void line_put(void)
         break;
     case 2: {
         char kind;
-        word_of(src + w, 8, 'l', one_in(2) ? below(100) : some_index(&kind), 0);
+        word_of(src + w, 8, 'l', one_in(2) ? below(100) : some_index(STATION, &kind), 0);
         memcpy(src + w + 2, "...", 3);
         break;
     }
@@ -1967,60 +2248,73 @@ static void sheet_random(void)
 
 /* The whole */
 
-static struct { const char *name; void (*make)(void); unsigned weight; uint64_t count; } kinds[] = {
-    {"block right", read_right, 4, 0},
-    {"block with one byte wrong", read_one_wrong, 6, 0},
-    {"block with each value of a byte", read_each_value, 6, 0},
-    {"block information", read_info, 4, 0},
-    {"block cut", read_cut, 4, 0},
-    {"block words exchanged", read_exchanged, 2, 0},
-    {"block of 33 words", read_33, 2, 0},
-    {"list places", read_places, 2, 0},
-    {"block edges", read_edges, 6, 0},
-    {"block random", read_random, 2, 0},
-    {"records right", write_right, 3, 0},
-    {"record with one field wrong", write_one_wrong, 5, 0},
-    {"record extremes", write_extremes, 4, 0},
-    {"records of the other width", write_other_width, 1, 0},
-    {"records 0 to 34", write_counts, 2, 0},
-    {"writer rooms", write_rooms, 2, 0},
-    {"records random", write_random, 1, 0},
-    {"factory", factory, 1, 0},
-    {"image right", image_right, 2, 0},
-    {"image random", image_random, 1, 0},
-    {"image with one byte wrong", image_one_wrong, 4, 0},
-    {"image byte by byte", image_each_byte, 3, 0},
-    {"image length", image_length, 1, 0},
-    {"image count", image_count, 2, 0},
-    {"image undo list", image_undo, 4, 0},
-    {"image values", image_values, 4, 0},
-    {"image settings", image_settings, 1, 0},
-    {"run", run_phase, 16, 0},
-    {"line right", line_right, 4, 0},
-    {"line with one byte wrong", line_one_wrong, 4, 0},
-    {"line with each value of a byte", line_each_value, 5, 0},
-    {"line numbers", line_numbers, 4, 0},
-    {"line PUT", line_put, 5, 0},
-    {"line GET", line_get, 3, 0},
-    {"line ends and lengths", line_ends, 4, 0},
-    {"line rooms", line_rooms, 3, 0},
-    {"line shapes", line_shapes, 2, 0},
-    {"line random", line_random, 1, 0},
-    {"sheet rooms", sheet_rooms, 1, 0},
-    {"sheet written", sheet_written, 2, 0},
-    {"sheet whole", sheet_whole, 2, 0},
-    {"sheet cut", sheet_cut, 3, 0},
-    {"sheet with one byte wrong", sheet_one_wrong, 3, 0},
-    {"sheet with each value of a byte", sheet_each_value, 3, 0},
-    {"sheet lines", sheet_lines, 2, 0},
-    {"sheet odd", sheet_odd, 4, 0},
-    {"sheet random", sheet_random, 1, 0},
+/* The kinds of case, those of blocks and records for each family in the same share. */
+static struct { const char *name; void (*make)(void); unsigned weight, families; uint64_t count[FAMILIES]; } kinds[] = {
+    {"block right", read_right, 4, 2, {0}},
+    {"block with one byte wrong", read_one_wrong, 6, 2, {0}},
+    {"block with each value of a byte", read_each_value, 6, 2, {0}},
+    {"block information", read_info, 4, 2, {0}},
+    {"block cut", read_cut, 4, 2, {0}},
+    {"block words exchanged", read_exchanged, 2, 2, {0}},
+    {"block of 33 words", read_33, 2, 2, {0}},
+    {"list places", read_places, 2, 2, {0}},
+    {"block of both families", read_mixed, 2, 2, {0}},
+    {"block edges", read_edges, 6, 2, {0}},
+    {"block random", read_random, 2, 2, {0}},
+    {"records right", write_right, 3, 2, {0}},
+    {"record with one field wrong", write_one_wrong, 5, 2, {0}},
+    {"record extremes", write_extremes, 4, 2, {0}},
+    {"records of both families", write_mixed, 2, 2, {0}},
+    {"records of the other width", write_other_width, 1, 2, {0}},
+    {"records 0 to 34", write_counts, 2, 2, {0}},
+    {"writer rooms", write_rooms, 2, 2, {0}},
+    {"records random", write_random, 1, 2, {0}},
+    {"factory", factory, 1, 1, {0}},
+    {"image right", image_right, 2, 1, {0}},
+    {"image random", image_random, 1, 1, {0}},
+    {"image with one byte wrong", image_one_wrong, 4, 1, {0}},
+    {"image byte by byte", image_each_byte, 3, 1, {0}},
+    {"image length", image_length, 1, 1, {0}},
+    {"image count", image_count, 2, 1, {0}},
+    {"image undo list", image_undo, 4, 1, {0}},
+    {"image values", image_values, 4, 1, {0}},
+    {"image settings", image_settings, 1, 1, {0}},
+    {"run", run_phase, 16, 1, {0}},
+    {"line right", line_right, 4, 1, {0}},
+    {"line with one byte wrong", line_one_wrong, 4, 1, {0}},
+    {"line with each value of a byte", line_each_value, 5, 1, {0}},
+    {"line numbers", line_numbers, 4, 1, {0}},
+    {"line PUT", line_put, 5, 1, {0}},
+    {"line GET", line_get, 3, 1, {0}},
+    {"line ends and lengths", line_ends, 4, 1, {0}},
+    {"line rooms", line_rooms, 3, 1, {0}},
+    {"line shapes", line_shapes, 2, 1, {0}},
+    {"line random", line_random, 1, 1, {0}},
+    {"sheet rooms", sheet_rooms, 1, 1, {0}},
+    {"sheet written", sheet_written, 2, 1, {0}},
+    {"sheet whole", sheet_whole, 2, 1, {0}},
+    {"sheet cut", sheet_cut, 3, 1, {0}},
+    {"sheet with one byte wrong", sheet_one_wrong, 3, 1, {0}},
+    {"sheet with each value of a byte", sheet_each_value, 3, 1, {0}},
+    {"sheet lines", sheet_lines, 2, 1, {0}},
+    {"sheet odd", sheet_odd, 4, 1, {0}},
+    {"sheet random", sheet_random, 1, 1, {0}},
 };
 
 /* The numbers each function can answer, as bits. */
 #define BITS(from, to) ((((uint64_t)2 << (to)) - 1) & ~(((uint64_t)1 << (from)) - 1))
 static const uint64_t possible[FUNCTIONS] = {
-    BITS(0, 11), 1 | BITS(12, 14), 1 | BITS(31, 31), 1 | BITS(20, 31), 1 | BITS(30, 31), 1 | BITS(31, 31) | BITS(40, 40)};
+    BITS(0, 11), BITS(0, 11), 1 | BITS(12, 14), 1 | BITS(12, 14), 1 | BITS(31, 31), 1 | BITS(20, 31), 1 | BITS(30, 31),
+    1 | BITS(31, 31) | BITS(40, 40)};
+
+/* The cases of a family's reader and writer. */
+static uint64_t seen_of(unsigned of)
+{
+    uint64_t sum = 0;
+    for (unsigned number = 0; number <= 40; number++)
+        sum += seen[READ + of][number] + seen[WRITE + of][number];
+    return sum;
+}
 
 static void finish(void)
 {
@@ -2028,7 +2322,10 @@ static void finish(void)
     printf("%llu cases, 0 differences\n", (unsigned long long)cases);
     printf("by kind:");
     for (size_t i = 0; i < COUNT_OF(kinds); i++)
-        printf("%s %s %llu", i ? "," : "", kinds[i].name, (unsigned long long)kinds[i].count);
+        for (unsigned of = 0; of < kinds[i].families; of++)
+            printf("%s %s%s %llu", i || of ? "," : "", of == LEVEL ? "level " : "", kinds[i].name, (unsigned long long)kinds[i].count[of]);
+    printf("\nby family: station %llu, level %llu", (unsigned long long)seen_of(STATION), (unsigned long long)seen_of(LEVEL));
+    printf("\nsweeps before: station %llu, level %llu", (unsigned long long)swept[STATION], (unsigned long long)swept[LEVEL]);
     printf("\nby number:");
     for (unsigned number = 0; number <= 40; number++) {
         uint64_t sum = 0;
@@ -2080,20 +2377,25 @@ int main(int argc, char **argv)
                (unsigned long long)ref_image_size());
         return 1;
     }
+    sweep();
     kind_name = "run";
     for (size_t i = 0; i < COUNT_OF(kinds); i++)
         if (kinds[i].make == run_phase)
-            kind_count = &kinds[i].count;
+            kind_count = &kinds[i].count[STATION];
     lend(&run, 0, IMAGE, 0);
     check_factory(&run);
     for (;;) {
         /* The kind furthest behind its share comes next, so that long sweeps don't crowd the others out. */
         size_t least = 0;
-        for (size_t i = 1; i < COUNT_OF(kinds); i++)
-            if (kinds[i].count * kinds[least].weight < kinds[least].count * kinds[i].weight)
-                least = i;
+        family = STATION;
+        for (size_t i = 0; i < COUNT_OF(kinds); i++)
+            for (unsigned of = 0; of < kinds[i].families; of++)
+                if (kinds[i].count[of] * kinds[least].weight < kinds[least].count[family] * kinds[i].weight) {
+                    least = i;
+                    family = of;
+                }
         kind_name = kinds[least].name;
-        kind_count = &kinds[least].count;
+        kind_count = &kinds[least].count[family];
         kinds[least].make();
     }
 }

@@ -10,11 +10,20 @@ fail() {
     exit 1
 }
 
-# same FILE WHAT: what the program prints of standard input is the file
+# same FILE WHAT [ARGUMENT]: what the program prints of standard input is the file
 same() {
-    ./gsi reading >"$work/out"
+    ./gsi reading ${3+"$3"} >"$work/out"
     cmp -s "$1" "$work/out" || fail "$2: $(cmp "$1" "$work/out" 2>&1 || :)"
     echo "$2" >>"$work/passed"
+}
+
+# usage WHAT ARGUMENT ..: the program answers the arguments with its usage on standard error, and prints nothing
+usage() {
+    what=$1 && shift
+    ./gsi reading "$@" <examples/level.gsi >"$work/out" 2>"$work/err"
+    [ ! -s "$work/out" ] || fail "$what: something is printed"
+    [ "$(cat "$work/err")" = 'usage: reading [level] < FILE' ] || fail "$what: $(cat "$work/err")"
+    echo "$what" >>"$work/passed"
 }
 
 # the bytes of a file, so many at a time
@@ -35,7 +44,19 @@ same crates/reading/stdout "the example" <"$example"
 slowly "$example" 7 | same crates/reading/stdout "the example, 7 bytes at a time"
 slowly "$example" 800 | same crates/reading/stdout "the example, 800 bytes at a time"
 
+same tests/level.txt "a level's listing" level <examples/level.gsi
+slowly examples/level.gsi 7 | same tests/level.txt "a level's listing, 7 bytes at a time" level
+printf 'block=1 at=0 refused=6 place=32\nblocks=1 accepted=0 refused=1\n' >"$work/station"
+printf '110006+00003000 32..00+00016380 331106+00010198 \r\n' | same "$work/station" "a level's block as a total station's"
+printf 'block=1 at=0 width=8 end=CR words=1 bytes=17\nword=1 index=332 info=.09 count=-101981 step=1/2000in reads=-50.9905in\nblocks=1 accepted=1 refused=0\n' >"$work/inch"
+printf '332.09-00101981 \r' | same "$work/inch" "inches" level
+usage "another word" levels
+usage "a longer word" a-word-that-is-longer-than-any-that-counts
+usage "an empty word" ''
+usage "two words" level level
+
 printf 'blocks=0 accepted=0 refused=0\n' >"$work/none"
+same "$work/none" "empty input of a level" level </dev/null
 same "$work/none" "empty input" </dev/null
 
 printf 'block=1 at=0 width=8 end=CRLF words=1 bytes=18\nword=1 index=11 info=.... text=00000058\nblocks=1 accepted=1 refused=0\n' >"$work/apart"

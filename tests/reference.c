@@ -1,5 +1,6 @@
-/* reference.c: a second implementation of document 01 in plain C: the block, the line machine and the sheet.
-   What stands in quotes is the document's own sentence; the image's bytes are those of IMAGE.md. */
+/* reference.c: a second implementation of document 01 and document 02's request 101 in plain C: the block of either
+   family, the line machine and the sheet. What stands in quotes is the documents' own sentence; the image's bytes are
+   those of IMAGE.md. */
 #include "reference.h"
 
 enum { CR = 13, LF = 10, MOST_WORDS = 32 };
@@ -77,31 +78,84 @@ static void write_digits(uint8_t *p, size_t n, uint64_t value)
 
 /* The table of indexes */
 
-enum { NONE, NUMBERED, TEXT, ANGLE, LENGTH, CONSTANT, PAIR };
+enum { NONE, NUMBERED, TEXT, ANGLE, LENGTH, CONSTANT, PAIR, LEVELLED };
 
-/* "Each index missing from the table is refused": those are NONE here. */
-static const uint8_t kind_of[100] = {
-    [11] = NUMBERED, [41] = NUMBERED,
-    [12] = TEXT, [13] = TEXT, [16] = TEXT, [18] = TEXT, [19] = TEXT,
-    [42] = TEXT, [43] = TEXT, [44] = TEXT, [45] = TEXT, [46] = TEXT, [47] = TEXT, [48] = TEXT, [49] = TEXT,
-    [52] = TEXT, [53] = TEXT,
-    [71] = TEXT, [72] = TEXT, [73] = TEXT, [74] = TEXT, [75] = TEXT, [76] = TEXT, [77] = TEXT, [78] = TEXT, [79] = TEXT,
-    [21] = ANGLE, [22] = ANGLE, [24] = ANGLE,
-    [31] = LENGTH, [32] = LENGTH, [33] = LENGTH, [34] = LENGTH,
-    [81] = LENGTH, [82] = LENGTH, [83] = LENGTH, [84] = LENGTH, [85] = LENGTH, [86] = LENGTH, [87] = LENGTH, [88] = LENGTH,
-    [58] = CONSTANT, [59] = CONSTANT,
-    [51] = PAIR,
+/* 101: "The caller says which family a block is from; total station reading stays." */
+enum { STATION, LEVEL, FAMILIES };
+
+/* "Each index missing from the table is refused": those are NONE here. Each three-digit index of a level is above 99, so
+   the number alone tells it from one of two digits. */
+enum { INDEXES = 1000 };
+static const uint8_t kinds[FAMILIES][INDEXES] = {
+    [STATION] = {
+        [11] = NUMBERED, [41] = NUMBERED,
+        [12] = TEXT, [13] = TEXT, [16] = TEXT, [18] = TEXT, [19] = TEXT,
+        [42] = TEXT, [43] = TEXT, [44] = TEXT, [45] = TEXT, [46] = TEXT, [47] = TEXT, [48] = TEXT, [49] = TEXT,
+        [52] = TEXT, [53] = TEXT,
+        [71] = TEXT, [72] = TEXT, [73] = TEXT, [74] = TEXT, [75] = TEXT, [76] = TEXT, [77] = TEXT, [78] = TEXT, [79] = TEXT,
+        [21] = ANGLE, [22] = ANGLE, [24] = ANGLE,
+        [31] = LENGTH, [32] = LENGTH, [33] = LENGTH, [34] = LENGTH,
+        [81] = LENGTH, [82] = LENGTH, [83] = LENGTH, [84] = LENGTH, [85] = LENGTH, [86] = LENGTH, [87] = LENGTH, [88] = LENGTH,
+        [58] = CONSTANT, [59] = CONSTANT,
+        [51] = PAIR,
+    },
+    /* "330-336, 374, 521, 571-574 with a three-digit index at positions 1-3, then 32, 52, 57 and 83"; "11, 41-49 read as
+       before. 52, 57 and 521 are text" */
+    [LEVEL] = {
+        [11] = NUMBERED, [41] = NUMBERED,
+        [42] = TEXT, [43] = TEXT, [44] = TEXT, [45] = TEXT, [46] = TEXT, [47] = TEXT, [48] = TEXT, [49] = TEXT,
+        [52] = TEXT, [57] = TEXT, [521] = TEXT,
+        [32] = LEVELLED, [83] = LEVELLED,
+        [330] = LEVELLED, [331] = LEVELLED, [332] = LEVELLED, [333] = LEVELLED, [334] = LEVELLED, [335] = LEVELLED, [336] = LEVELLED,
+        [374] = LEVELLED,
+        [571] = LEVELLED, [572] = LEVELLED, [573] = LEVELLED, [574] = LEVELLED,
+    },
 };
+
+static unsigned kind_of(unsigned family, unsigned index)
+{
+    return index < INDEXES ? kinds[family][index] : NONE;
+}
+
+static int has_three_digits(unsigned index)
+{
+    return index >= 100;
+}
+
+/* The index that a word begins with, or INDEXES when it has none. */
+static unsigned index_at(unsigned family, const uint8_t *word)
+{
+    unsigned index;
+
+    if (!is_digit(word[0]) || !is_digit(word[1]))
+        return INDEXES;
+    index = (unsigned)(word[0] - '0') * 10 + (unsigned)(word[1] - '0');
+    if (family == STATION || !is_digit(word[2]))
+        return index;
+    /* "110-119 and 410-419 are index 11 or 41 with a block number" */
+    if (index == 11 || index == 41)
+        return index;
+    /* "any other index, a digit at position 3 included, is 5": `042` isn't 42. */
+    index = index * 10 + (unsigned)(word[2] - '0');
+    return has_three_digits(index) ? index : INDEXES;
+}
 
 static int is_text(unsigned kind)
 {
     return kind == NUMBERED || kind == TEXT;
 }
 
-/* Positions 3-6, as the table's third column has them. */
-static int info_right(unsigned kind, const uint8_t *info)
+static int dot_or_digit(uint8_t b)
+{
+    return b == '.' || is_digit(b);
+}
+
+/* A record's information: positions 3-6, as the table's third column has them. A three-digit index takes position 3, so
+   that the first byte is one "its word doesn't use" and is 0. */
+static int info_right(unsigned kind, unsigned index, const uint8_t *info)
 {
     uint8_t a = info[0], b = info[1], c = info[2], d = info[3];
+    uint8_t first = has_three_digits(index) ? 0 : '.';
     /* "Mode is a dot or 0-4." */
     int mode = c == '.' || (c >= '0' && c <= '4');
 
@@ -110,8 +164,11 @@ static int info_right(unsigned kind, const uint8_t *info)
         if (a == '.')
             return b == '.' && c == '.' && d == '.';
         return is_digit(a) && is_digit(b) && is_digit(c) && is_digit(d);
-    case TEXT: /* "dot, then three of dot or digit" */
-        return a == '.' && (b == '.' || is_digit(b)) && (c == '.' || is_digit(c)) && (d == '.' || is_digit(d));
+    case TEXT: /* "dot, then three of dot or digit"; 101: "the rest of positions 4-6 dots or digits" */
+        return a == first && dot_or_digit(b) && dot_or_digit(c) && dot_or_digit(d);
+    case LEVELLED: /* 101: "position 4 is a dot or 1, 5 a dot, 0-2 or 4-7, 6 a unit: 0, 1 or 6-9" */
+        return a == first && (b == '.' || b == '1') && (c == '.' || (c >= '0' && c <= '7' && c != '3')) &&
+               (d == '0' || d == '1' || (d >= '6' && d <= '9'));
     case ANGLE: /* "dot; dot, 0, 1 or 3; mode; unit 2-5" */
         return a == '.' && (b == '.' || b == '0' || b == '1' || b == '3') && mode && d >= '2' && d <= '5';
     case LENGTH: /* "dot; dot; mode; unit 0, 1, 6, 7 or 8" */
@@ -172,23 +229,23 @@ static uint64_t angle_digits(uint8_t unit, uint64_t size)
 /* The block's reader */
 
 /* Judges one whole word with its blank: "then 5 to 10 in order". Answers that number, or 0 with the record filled. */
-static unsigned read_word(const uint8_t *word, size_t width, ref_word *record)
+static unsigned read_word(unsigned family, const uint8_t *word, size_t width, ref_word *record)
 {
     const uint8_t *data = word + 7;
-    unsigned index, kind;
+    unsigned index = index_at(family, word), kind = kind_of(family, index);
+    uint8_t info[4];
     uint64_t size = 0, mm = 0;
     int minus, mm_minus = 0;
 
     /* 5: "index isn't two digits or isn't in the table" */
-    if (!is_digit(word[0]) || !is_digit(word[1]))
-        return 5;
-    index = (unsigned)(word[0] - '0') * 10 + (unsigned)(word[1] - '0');
-    kind = kind_of[index];
     if (kind == NONE)
         return 5;
 
     /* 6: "information wrong" */
-    if (!info_right(kind, word + 2))
+    copy(info, word + 2, 4);
+    if (has_three_digits(index))
+        info[0] = 0;
+    if (!info_right(kind, index, info))
         return 6;
 
     /* 7: "sign wrong (position 7)"; text has "sign `+` only" */
@@ -224,7 +281,7 @@ static unsigned read_word(const uint8_t *word, size_t width, ref_word *record)
 
     /* "a value, mm or text byte its word doesn't use is 0" */
     record->index = (uint16_t)index;
-    copy(record->info, word + 2, 4);
+    copy(record->info, info, 4);
     record->minus = (uint8_t)minus;
     record->mm_minus = (uint8_t)mm_minus;
     record->size = size;
@@ -235,7 +292,7 @@ static unsigned read_word(const uint8_t *word, size_t width, ref_word *record)
     return 0;
 }
 
-uint64_t ref_read(const uint8_t *block, size_t n, ref_word *list, size_t places)
+static uint64_t read_block(unsigned family, const uint8_t *block, size_t n, ref_word *list, size_t places)
 {
     /* "After a refusal the lent list and output are untouched": the records wait here until the block is right. */
     ref_word records[MOST_WORDS];
@@ -263,7 +320,7 @@ uint64_t ref_read(const uint8_t *block, size_t n, ref_word *list, size_t places)
         /* 11: "the lent list has no place for the word that would start" */
         if (words >= places)
             return answer(11, at);
-        number = read_word(block + at, width, &records[words]);
+        number = read_word(family, block + at, width, &records[words]);
         if (number != 0)
             return answer(number, at);
         words++;
@@ -287,14 +344,24 @@ uint64_t ref_read(const uint8_t *block, size_t n, ref_word *list, size_t places)
     return answer(0, at | words << 16 | (uint64_t)(width == 16) << 24 | (uint64_t)crlf << 25);
 }
 
+uint64_t ref_read(const uint8_t *block, size_t n, ref_word *list, size_t places)
+{
+    return read_block(STATION, block, n, list, places);
+}
+
+uint64_t ref_read_level(const uint8_t *block, size_t n, ref_word *list, size_t places)
+{
+    return read_block(LEVEL, block, n, list, places);
+}
+
 /* The block's writer */
 
-/* Whether some word of the width gives the record (13: "a record no word of the chosen width gives"). */
-static int record_right(const ref_word *r, size_t width)
+/* Whether some word of the family and width gives the record (13: "a record no word of the chosen width gives"). */
+static int record_right(unsigned family, const ref_word *r, size_t width)
 {
-    unsigned kind = r->index < 100 ? kind_of[r->index] : NONE;
+    unsigned kind = kind_of(family, r->index);
 
-    if (kind == NONE || !info_right(kind, r->info))
+    if (kind == NONE || !info_right(kind, r->index, r->info))
         return 0;
 
     if (is_text(kind)) {
@@ -322,13 +389,13 @@ static int record_right(const ref_word *r, size_t width)
     }
 }
 
-static void write_word(uint8_t *word, size_t width, const ref_word *r)
+static void write_word(unsigned family, uint8_t *word, size_t width, const ref_word *r)
 {
-    unsigned kind = kind_of[r->index];
+    unsigned kind = kind_of(family, r->index);
     uint8_t *data = word + 7;
 
-    write_digits(word, 2, r->index);
     copy(word + 2, r->info, 4);
+    write_digits(word, has_three_digits(r->index) ? 3 : 2, r->index);
     word[6] = r->minus ? '-' : '+';
     if (is_text(kind)) {
         copy(data, r->text, width);
@@ -342,7 +409,8 @@ static void write_word(uint8_t *word, size_t width, const ref_word *r)
     data[width] = ' ';
 }
 
-uint64_t ref_write(const ref_word *list, size_t words, uint64_t wide, uint64_t crlf, uint8_t *block, size_t room)
+static uint64_t write_block(unsigned family, const ref_word *list, size_t words, uint64_t wide, uint64_t crlf, uint8_t *block,
+                            size_t room)
 {
     size_t width = wide ? 16 : 8, need;
 
@@ -350,7 +418,7 @@ uint64_t ref_write(const ref_word *list, size_t words, uint64_t wide, uint64_t c
     if (words == 0 || words > MOST_WORDS)
         return answer(12, 0);
     for (size_t i = 0; i < words; i++)
-        if (!record_right(&list[i], width))
+        if (!record_right(family, &list[i], width))
             return answer(13, i);
     need = (wide ? 1 : 0) + words * (width + 8) + (crlf ? 2 : 1);
     if (room < need)
@@ -359,11 +427,21 @@ uint64_t ref_write(const ref_word *list, size_t words, uint64_t wide, uint64_t c
     if (wide)
         *block++ = '*';
     for (size_t i = 0; i < words; i++, block += width + 8)
-        write_word(block, width, &list[i]);
+        write_word(family, block, width, &list[i]);
     block[0] = CR;
     if (crlf)
         block[1] = LF;
     return answer(0, need);
+}
+
+uint64_t ref_write(const ref_word *list, size_t words, uint64_t wide, uint64_t crlf, uint8_t *block, size_t room)
+{
+    return write_block(STATION, list, words, wide, crlf, block, room);
+}
+
+uint64_t ref_write_level(const ref_word *list, size_t words, uint64_t wide, uint64_t crlf, uint8_t *block, size_t room)
+{
+    return write_block(LEVEL, list, words, wide, crlf, block, room);
 }
 
 /* The image of a state */
@@ -568,7 +646,7 @@ static unsigned judge_put(const uint8_t *word, unsigned entries, struct request 
         return 26;
     if (word[5] < values[r->place].unit_from || word[5] > values[r->place].unit_to)
         return 26;
-    if (read_word(word, 8, &record) != 0)
+    if (read_word(STATION, word, 8, &record) != 0)
         return 26;
     if (entries == MOST_ENTRIES)
         return 28;

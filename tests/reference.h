@@ -1,4 +1,4 @@
-/* reference.h: a second implementation of document 01 in plain C, which the library is compared with.
+/* reference.h: a second implementation of document 01 and request 101 in plain C, which the library is compared with.
    The functions and the record are those of the C interface, under the prefix ref_. */
 #ifndef REFERENCE_H
 #define REFERENCE_H
@@ -7,8 +7,8 @@
 #include <stdint.h>
 
 typedef struct {
-    uint16_t index;   /* the two-digit number */
-    uint8_t info[4];  /* positions 3-6 */
+    uint16_t index;   /* the two-digit number, or a level's three-digit one */
+    uint8_t info[4];  /* positions 3-6; the first is 0 where position 3 belongs to the index */
     uint8_t minus;    /* 1 when the value (of a pair: ppm) has a minus */
     uint8_t mm_minus; /* 1 when a pair's mm has a minus */
     uint64_t size;
@@ -18,6 +18,8 @@ typedef struct {
 
 uint64_t ref_read(const uint8_t *block, size_t n, ref_word *list, size_t places);
 uint64_t ref_write(const ref_word *list, size_t words, uint64_t wide, uint64_t crlf, uint8_t *block, size_t room);
+uint64_t ref_read_level(const uint8_t *block, size_t n, ref_word *list, size_t places);
+uint64_t ref_write_level(const ref_word *list, size_t words, uint64_t wide, uint64_t crlf, uint8_t *block, size_t room);
 uint64_t ref_image_size(void);
 uint64_t ref_factory(uint8_t *image, size_t n);
 uint64_t ref_line(uint8_t *image, size_t n, const uint8_t *line, size_t m, uint8_t *reply, size_t room);

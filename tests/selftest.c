@@ -1,5 +1,5 @@
-/* selftest.c: checks the second implementation alone against the worked readings of document 01 and what is easy to
-   slip on. Prints `ok`, or the lines of this file whose reading failed. */
+/* selftest.c: checks the second implementation alone against the worked readings of document 01, the level's listing of
+   003 and what is easy to slip on. Prints `ok`, or the lines of this file whose reading failed. */
 #include "reference.h"
 
 int printf(const char *, ...);
@@ -26,6 +26,12 @@ static int failures;
 
 static ref_word list[34];
 
+/* The family whose reader and writer the checks below use. */
+static const struct family {
+    uint64_t (*read)(const uint8_t *block, size_t n, ref_word *list, size_t places);
+    uint64_t (*write)(const ref_word *list, size_t words, uint64_t wide, uint64_t crlf, uint8_t *block, size_t room);
+} station = {ref_read, ref_write}, level = {ref_read_level, ref_write_level}, *family = &station;
+
 /* Reads with so many places; checks that a refusal leaves the list untouched, and that places beyond the count stay. */
 static uint64_t reading_in(const char *block, size_t n, size_t places)
 {
@@ -34,7 +40,7 @@ static uint64_t reading_in(const char *block, size_t n, size_t places)
     size_t kept;
     memset(list, 0xA5, sizeof list);
     memcpy(before, list, sizeof list);
-    got = ref_read((const uint8_t *)block, n, list, places);
+    got = family->read((const uint8_t *)block, n, list, places);
     kept = got >> 32 ? 0 : (size_t)(got >> 16 & 255);
     CHECK(memcmp(list + kept, before + kept, (34 - kept) * sizeof(ref_word)) == 0);
     return got;
@@ -52,7 +58,7 @@ static void writes_back(const char *block, size_t words, int wide, int crlf)
     size_t n = strlen(block);
     for (size_t short_room = 0; short_room < n; short_room++) {
         memset(room, 0x5A, sizeof room);
-        CHECK(ref_write(list, words, (uint64_t)wide, (uint64_t)crlf, room, short_room) == ANSWER(14, n));
+        CHECK(family->write(list, words, (uint64_t)wide, (uint64_t)crlf, room, short_room) == ANSWER(14, n));
         for (size_t i = 0; i < sizeof room; i++)
             if (room[i] != 0x5A) {
                 CHECK(!"a refused writer leaves the room untouched");
@@ -60,7 +66,7 @@ static void writes_back(const char *block, size_t words, int wide, int crlf)
             }
     }
     memset(room, 0x5A, sizeof room);
-    CHECK(ref_write(list, words, (uint64_t)wide, (uint64_t)crlf, room, n + 1) == ANSWER(0, n));
+    CHECK(family->write(list, words, (uint64_t)wide, (uint64_t)crlf, room, n + 1) == ANSWER(0, n));
     CHECK(memcmp(room, block, n) == 0 && room[n] == 0x5A);
 }
 
@@ -183,38 +189,40 @@ static void check_block_slips(void)
     CHECK(reading("*31..00-9999999999999999 \r") == READ(26, 1, 1, 0) && list[0].size == 9999999999999999);
 }
 
-static void check_writer(void)
-{
-    uint8_t room[800];
-    ref_word right, r;
-    ref_word many[33];
+/* Changes the right record and writes it. */
+static ref_word right, r;
+static uint8_t room[800];
 
 #define REFUSED(wide, change) \
     do { \
         r = right; \
         change; \
-        CHECK(ref_write(&r, 1, wide, 0, room, sizeof room) == ANSWER(13, 0)); \
+        CHECK(family->write(&r, 1, wide, 0, room, sizeof room) == ANSWER(13, 0)); \
     } while (0)
 #define WRITTEN(wide, change) \
     do { \
         r = right; \
         change; \
-        CHECK(ref_write(&r, 1, wide, 0, room, sizeof room) == ANSWER(0, (wide) ? 26 : 17)); \
+        CHECK(family->write(&r, 1, wide, 0, room, sizeof room) == ANSWER(0, (wide) ? 26 : 17)); \
     } while (0)
 
-    CHECK(ref_write(list, 0, 0, 0, room, sizeof room) == ANSWER(12, 0));
-    CHECK(ref_write(list, 33, 0, 0, room, 0) == ANSWER(12, 0));
+static void check_writer(void)
+{
+    ref_word many[33];
+
+    CHECK(family->write(list, 0, 0, 0, room, sizeof room) == ANSWER(12, 0));
+    CHECK(family->write(list, 33, 0, 0, room, 0) == ANSWER(12, 0));
 
     CHECK(reading("31..00+00000001 \r") == READ(17, 1, 0, 0));
     right = list[0];
     for (size_t i = 0; i < 33; i++)
         many[i] = right;
-    CHECK(ref_write(many, 32, 0, 0, room, 512) == ANSWER(14, 513));
-    CHECK(ref_write(many, 32, 1, UINT64_C(1) << 32, room, 0) == ANSWER(14, 771));
+    CHECK(family->write(many, 32, 0, 0, room, 512) == ANSWER(14, 513));
+    CHECK(family->write(many, 32, 1, UINT64_C(1) << 32, room, 0) == ANSWER(14, 771));
     many[31].mm = 1;
-    CHECK(ref_write(many, 32, 0, 0, room, 0) == ANSWER(13, 31));
+    CHECK(family->write(many, 32, 0, 0, room, 0) == ANSWER(13, 31));
     many[3].text[15] = 1;
-    CHECK(ref_write(many, 32, 0, 0, room, 0) == ANSWER(13, 3));
+    CHECK(family->write(many, 32, 0, 0, room, 0) == ANSWER(13, 3));
 
     WRITTEN(0, r.size = 99999999);
     REFUSED(0, r.size = 100000000);
@@ -260,8 +268,202 @@ static void check_writer(void)
     REFUSED(0, r.mm_minus = 1);
     WRITTEN(1, memcpy(r.text, "!~!~!~!~!~!~!~!~", 16));
     REFUSED(0, memcpy(r.text, "!~!~!~!~!~!~!~!~", 16));
-#undef REFUSED
-#undef WRITTEN
+    /* A level's records. */
+    REFUSED(0, r.index = 57);
+    REFUSED(0, r.index = 521);
+    REFUSED(0, r.index = 521; r.info[0] = 0);
+    REFUSED(0, r.info[0] = 0);
+}
+
+/* Digital levels */
+
+/* Reads one word with a CR by both families: the numbers, the station's first. */
+static int numbers(const char *word, unsigned by_station, unsigned by_level)
+{
+    char block[40];
+    size_t n = strlen(word);
+    unsigned number[2];
+    memcpy(block, word, n);
+    block[n] = '\r';
+    for (int i = 0; i < 2; i++) {
+        family = i ? &level : &station;
+        number[i] = (unsigned)(reading_in(block, n + 1, 32) >> 32);
+    }
+    return number[0] == by_station && number[1] == by_level;
+}
+
+/* 003's digital level listing, each line as a block: its words with the last blank, CR LF. */
+static const struct { uint8_t words; const char *block; } listing[] = {
+    {2, "410001+00000020 42....+10842V02 \r\n"},
+    {2, "410002+00000021 42....+00007330 \r\n"},
+    {2, "410003+00000022 42....+00261001 \r\n"},
+    {1, "410004+?......1 \r\n"},
+    {2, "110005+00003000 83..16+00187430 \r\n"},
+    {3, "110006+00003000 32..00+00016380 331106+00010198 \r\n"},
+    {3, "110007+00004000 32..00+00017260 332106+00007177 \r\n"},
+    {4, "110008+00004000 573..0-00000880 574..0+00033650 83..06+00190451 \r\n"},
+    {3, "110009+00004000 32..00+00019390 331106+00007600 \r\n"},
+    {3, "110013+00004001 32..00+00019490 332106+00006824 \r\n"},
+    {4, "110014+00004001 573..0-00000850 574..0+00116940 83..06+00190458 \r\n"},
+    {3, "110015+00004001 32..00+00018220 331106+00006660 \r\n"},
+    {3, "110016+00003000 32..00+00015370 332106+00009686 \r\n"},
+    {4, "110017+00003000 573..0+00002000 574..0+00150530 83..06+00187432 \r\n"},
+};
+
+static void check_levels(void)
+{
+    static const uint16_t three[] = {330, 331, 332, 333, 334, 335, 336, 374, 571, 572, 573, 574};
+    char word[] = "...106+00010198 ";
+
+    /* The listing, block by block. */
+    family = &level;
+    for (size_t i = 0; i < sizeof listing / sizeof *listing; i++) {
+        const char *block = listing[i].block;
+        CHECK(reading(block) == READ(strlen(block), listing[i].words, 0, 1));
+        writes_back(block, listing[i].words, 0, 1);
+    }
+    CHECK(reading(listing[3].block) == READ(18, 1, 0, 1));
+    CHECK(list[0].index == 41 && memcmp(list[0].info, "0004", 4) == 0 && memcmp(list[0].text, "?......1\0\0\0\0\0\0\0\0", 16) == 0);
+    CHECK(reading(listing[5].block) == READ(50, 3, 0, 1));
+    CHECK(list[0].index == 11 && memcmp(list[0].info, "0006", 4) == 0 && memcmp(list[0].text, "00003000", 8) == 0);
+    CHECK(list[1].index == 32 && memcmp(list[1].info, "..00", 4) == 0 && list[1].size == 16380);
+    CHECK(list[2].index == 331 && memcmp(list[2].info, "\000106", 4) == 0 && list[2].size == 10198 && list[2].minus == 0);
+    CHECK(reading(listing[7].block) == READ(66, 4, 0, 1));
+    CHECK(list[1].index == 573 && memcmp(list[1].info, "\0..0", 4) == 0 && list[1].size == 880 && list[1].minus == 1);
+    CHECK(list[2].index == 574 && list[2].size == 33650 && list[3].index == 83 && list[3].size == 190451);
+    CHECK(reading("83..16+00187430 \r") == READ(17, 1, 0, 0) && list[0].size == 187430 && memcmp(list[0].info, "..16", 4) == 0);
+    writes_back("83..16+00187430 \r", 1, 0, 0);
+
+    /* Each three-digit combination: "330-336, 374, 521, 571-574", and 110-119 and 410-419 with a block number. */
+    for (unsigned index = 0; index < 1000; index++) {
+        int known = index == 521 || index / 10 == 11 || index / 10 == 41;
+        for (size_t i = 0; i < sizeof three / sizeof *three; i++)
+            known |= index == three[i];
+        word[0] = (char)('0' + index / 100);
+        word[1] = (char)('0' + index / 10 % 10);
+        word[2] = (char)('0' + index % 10);
+        family = &level;
+        CHECK(reading_in(word, 16, 32) == (known ? ANSWER(2, 16) : ANSWER(5, 0)));
+    }
+    CHECK(numbers("329106+00010198 ", 6, 5) && numbers("330106+00010198 ", 6, 0) && numbers("336106+00010198 ", 6, 0));
+    CHECK(numbers("337106+00010198 ", 6, 5) && numbers("373106+00010198 ", 5, 5) && numbers("374106+00010198 ", 5, 0));
+    CHECK(numbers("375106+00010198 ", 5, 5) && numbers("520...+00010198 ", 6, 5) && numbers("521...+00010198 ", 6, 0));
+    CHECK(numbers("522...+00010198 ", 6, 5) && numbers("570106+00010198 ", 5, 5) && numbers("571106+00010198 ", 5, 0));
+    CHECK(numbers("574106+00010198 ", 5, 0) && numbers("575106+00010198 ", 5, 5) && numbers("331106+00010198 ", 6, 0));
+    CHECK(numbers("420...+00010198 ", 6, 5) && numbers("321106+00010198 ", 6, 5) && numbers("32100.+00010198 ", 6, 5));
+    CHECK(numbers("042...+00010198 ", 5, 5) && numbers("011106+00010198 ", 5, 5) && numbers("000106+00010198 ", 5, 5));
+
+    /* Two digits with no digit after them: position 3 is information, and a dot. */
+    CHECK(numbers("33.106+00010198 ", 6, 5) && numbers("33..06+00010198 ", 0, 5) && numbers("31..06+00010198 ", 0, 5));
+    CHECK(numbers("51..1.+0009+000 ", 0, 5) && numbers("12....+00000001 ", 0, 5) && numbers("21.102+00000001 ", 0, 5));
+    CHECK(numbers("57....+00000001 ", 5, 0) && numbers("52....+00000001 ", 0, 0) && numbers("53....+00000001 ", 0, 5));
+    CHECK(numbers("32x.06+00010198 ", 6, 6) && numbers("33x106+00010198 ", 6, 5) && numbers("52/...+00010198 ", 6, 6));
+    CHECK(numbers("32:.06+00010198 ", 6, 6) && numbers("57:...+00010198 ", 5, 6) && numbers("42 ...+00010198 ", 6, 6));
+    /* Fewer than two digits. */
+    CHECK(numbers("x31106+00010198 ", 5, 5) && numbers("3x1106+00010198 ", 5, 5) && numbers("331x06+00010198 ", 6, 6));
+    CHECK(numbers("3/1106+00010198 ", 5, 5) && numbers(":31106+00010198 ", 5, 5));
+
+    /* "11, 41-49 read as before": four digits or four dots, no mixture. */
+    CHECK(numbers("11....+!~!~!~!~ ", 0, 0) && numbers("110014+00000003 ", 0, 0) && numbers("419999+00000003 ", 0, 0));
+    CHECK(numbers("11.014+00000003 ", 6, 6) && numbers("110.14+00000003 ", 6, 6) && numbers("11x014+00000003 ", 6, 6));
+    CHECK(numbers("11...4+00000003 ", 6, 6) && numbers("419...+00000003 ", 6, 6) && numbers("110014-00000003 ", 7, 7));
+    CHECK(numbers("42.9.0+00000003 ", 0, 0) && numbers("49.999+00000003 ", 0, 0) && numbers("42.x..+00000003 ", 6, 6));
+    /* "52, 57 and 521 are text, the rest of positions 4-6 dots or digits." */
+    CHECK(numbers("521999+ABC~!xyz ", 6, 0) && numbers("521.0.+00000003 ", 6, 0) && numbers("521..x+00000003 ", 6, 6));
+    CHECK(numbers("521/..+00000003 ", 6, 6) && numbers("521...-00000003 ", 6, 7) && numbers("521...+0000 003 ", 6, 8));
+    CHECK(numbers("57.3.9+00000003 ", 5, 0) && numbers("52.999+ABCDEFGH ", 0, 0) && numbers("52..:.+00000003 ", 6, 6));
+
+    /* "position 4 is a dot or 1, 5 a dot, 0-2 or 4-7, 6 a unit: 0, 1 or 6-9" */
+    for (int b = 0; b < 256; b++) {
+        char w[] = "331106+00010198 ";
+        int digit = b >= '0' && b <= '9' ? b - '0' : -1;
+        family = &level;
+        w[3] = (char)b;
+        CHECK(reading_in(w, 16, 32) == (b == '.' || digit == 1 ? ANSWER(2, 16) : ANSWER(6, 0)));
+        w[3] = '1';
+        w[4] = (char)b;
+        CHECK(reading_in(w, 16, 32) == (b == '.' || (digit >= 0 && digit <= 7 && digit != 3) ? ANSWER(2, 16) : ANSWER(6, 0)));
+        w[4] = '0';
+        w[5] = (char)b;
+        CHECK(reading_in(w, 16, 32) == (digit == 0 || digit == 1 || digit >= 6 ? ANSWER(2, 16) : ANSWER(6, 0)));
+    }
+    CHECK(numbers("32..09+00010198 ", 6, 0) && numbers("83..09+00010198 ", 6, 0) && numbers("32.1.8+00010198 ", 6, 0));
+    CHECK(numbers("32..03+00010198 ", 6, 6) && numbers("32..30+00010198 ", 0, 6) && numbers("32..40+00010198 ", 0, 0));
+    CHECK(numbers("32..50+00010198 ", 6, 0) && numbers("83.070+00010198 ", 6, 6) && numbers("83..0.+00010198 ", 6, 6));
+
+    /* The order within a word, and minus zero. */
+    CHECK(numbers("337xxx*xxxxxxxxx", 6, 5) && numbers("331105*xxxxxxxxx", 6, 6) && numbers("331106*xxxxxxxxx", 6, 7));
+    CHECK(numbers("331106-0000000xx", 6, 8) && numbers("331106-00000000x", 6, 9) && numbers("331106-00000000 ", 6, 10));
+    CHECK(numbers("573..0-00000000 ", 5, 10) && numbers("573..0-00000001 ", 5, 0) && numbers("83..06-00000000 ", 10, 10));
+    CHECK(numbers("331106+99999999 ", 6, 0) && numbers("331106+0001+198 ", 6, 8) && numbers("331106+00010198\r", 6, 9));
+
+    /* Wide words, and what a block has in common. */
+    family = &level;
+    CHECK(reading("*331.79-9999999999999999 521...+ABCDEFGHIJKLMNOP 110007+0000000000004000 \r") == READ(74, 3, 1, 0));
+    CHECK(list[0].size == 9999999999999999 && list[0].minus == 1 && memcmp(list[0].info, "\000.79", 4) == 0);
+    CHECK(list[1].index == 521 && memcmp(list[1].info, "\0...", 4) == 0 && memcmp(list[1].text, "ABCDEFGHIJKLMNOP", 16) == 0);
+    writes_back("*331.79-9999999999999999 521...+ABCDEFGHIJKLMNOP 110007+0000000000004000 \r", 3, 1, 0);
+    CHECK(reading("*331.79-0000000000000000 \r") == ANSWER(10, 1));
+    CHECK(reading("331106+00010198 337106+00010198 \r") == ANSWER(5, 16));
+    CHECK(reading("331106+00010198 ") == ANSWER(2, 16) && reading("331106+00010198") == ANSWER(2, 0) && reading("\r") == ANSWER(3, 0));
+    CHECK(reading_in("331106+00010198 331106+00010198 \r", 33, 1) == ANSWER(11, 16) && reading("") == ANSWER(1, 0));
+
+    /* The writer refuses what no word of the family gives. */
+    CHECK(family->write(list, 0, 0, 0, room, 0) == ANSWER(12, 0) && family->write(list, 33, 0, 0, room, 0) == ANSWER(12, 0));
+    CHECK(reading("331106+00010198 \r") == READ(17, 1, 0, 0));
+    writes_back("331106+00010198 \r", 1, 0, 0);
+    right = list[0];
+    for (int b = 1; b < 256; b++)
+        REFUSED(0, r.info[0] = (uint8_t)b);
+    WRITTEN(0, r.minus = 1; r.info[3] = '9');
+    CHECK(memcmp(room, "331109-00010198 \r", 17) == 0);
+    WRITTEN(1, memcpy(r.info + 1, "..0", 3));
+    CHECK(memcmp(room, "*331..0+0000000000010198 \r", 26) == 0);
+    WRITTEN(0, r.size = 99999999);
+    REFUSED(0, r.size = 100000000);
+    REFUSED(1, r.size = 10000000000000000);
+    REFUSED(0, r.minus = 1; r.size = 0);
+    REFUSED(0, r.minus = 2);
+    REFUSED(0, r.mm = 1);
+    REFUSED(0, r.mm_minus = 1);
+    REFUSED(0, r.text[0] = '0');
+    REFUSED(0, r.info[1] = '2');
+    REFUSED(0, r.info[2] = '3');
+    REFUSED(0, r.info[3] = '5');
+    REFUSED(0, r.index = 337);
+    REFUSED(0, r.index = 329);
+    REFUSED(0, r.index = 33);
+    REFUSED(0, r.index = 1331);
+    REFUSED(0, r.index = 331 + 256);
+    REFUSED(0, r.index = 32);
+    WRITTEN(0, r.index = 32; r.info[0] = '.');
+    REFUSED(0, r.index = 521);
+    family = &station;
+    REFUSED(0, (void)0);
+    REFUSED(0, r.info[0] = '.');
+    REFUSED(0, r.index = 33);
+    REFUSED(0, r.index = 33; r.info[0] = '1');
+
+    family = &level;
+    CHECK(reading("110006+00003000 \r") == READ(17, 1, 0, 0));
+    right = list[0];
+    WRITTEN(0, memset(r.info, '.', 4));
+    REFUSED(0, r.info[0] = '.');
+    REFUSED(0, r.info[0] = 0);
+    /* Such a word gives index 11 or 41, never this. */
+    REFUSED(0, r.index = 110);
+    REFUSED(0, r.index = 110; r.info[0] = 0);
+    REFUSED(0, r.index = 419; r.info[0] = 0);
+    REFUSED(0, r.index = 521);
+    WRITTEN(0, r.index = 521; r.info[0] = 0);
+    CHECK(memcmp(room, "521006+00003000 \r", 17) == 0);
+    REFUSED(0, r.index = 42);
+    REFUSED(0, r.index = 42; r.info[0] = 0);
+    WRITTEN(0, r.index = 57; r.info[0] = '.');
+    CHECK(memcmp(room, "57.006+00003000 \r", 17) == 0);
+    REFUSED(0, r.index = 53; r.info[0] = '.');
+    REFUSED(1, (void)0);
+    family = &station;
 }
 
 /* Lines */
@@ -611,6 +813,7 @@ int main(void)
     check_proved_blocks();
     check_block_slips();
     check_writer();
+    check_levels();
     check_proved_lines();
     check_line_slips();
     check_states();

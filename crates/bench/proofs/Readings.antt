@@ -1,4 +1,4 @@
--- The one claim: every reading of the table holds, by computing. Assumes nothing.
+-- The claims: every reading of document 01's table holds, and of the level's two, by computing. Assumes nothing.
 use mathlib.Core.Path.{refl}
 use lib.ListN.{drop}
 use Rattle.figures.specs.Bytes.{among, every, startsWith}
@@ -9,10 +9,36 @@ use Rattle.instrument.specs.Settings.{rows}
 use Rattle.instrument.specs.Values.{stored}
 use Rattle.lines.specs.Shapes.{slashAt, groupsRight}
 use Rattle.lines.specs.Verdicts.{getVerdict}
+use Rattle.units.specs.declared.kinds.Family.the-variants.{Station, Level}
 use Rattle.bench.specs.Readings.{All, table}
+use Rattle.bench.specs.Levels.{listing, levels}
 
-pub readings : All table
+pub readings : All Station table
 unfolding among every startsWith numberFrom digitsOf blockFrom seek rows stored slashAt groupsRight getVerdict
 readings =
-    let later : All (drop 9 table) = ((refl, refl), ((refl, refl), ((refl, refl), ((refl, refl), ((refl, refl), ((refl, refl), ((refl, refl), tt))))))) in
+    let later : All Station (drop 9 table) =
+    ((refl, refl), ((refl, refl), ((refl, refl), ((refl, refl), ((refl, refl), ((refl, refl), ((refl, refl), tt))))))) in
     ((refl, refl), ((refl, refl), ((refl, refl), ((refl, refl), ((refl, refl), ((refl, refl), ((refl, refl), ((refl, refl), ((refl, refl), later)))))))))
+
+pub level-listing : All Level listing
+unfolding among every numberFrom blockFrom
+level-listing =
+    let from7 : All Level (drop 7 listing) =
+    ((refl, refl), ((refl, refl), ((refl, refl), ((refl, refl), ((refl, refl), ((refl, refl), ((refl, refl), tt))))))) in
+    ((refl, refl), ((refl, refl), ((refl, refl), ((refl, refl), ((refl, refl), ((refl, refl), ((refl, refl), from7)))))))
+
+pub level-readings : All Level levels
+unfolding among every numberFrom blockFrom
+level-readings =
+    let from48 : All Level (drop 48 levels) = ((refl, refl), tt) in
+    let from40 : All Level (drop 40 levels) =
+    ((refl, refl), ((refl, refl), ((refl, refl), ((refl, refl), ((refl, refl), ((refl, refl), ((refl, refl), ((refl, refl), from48)))))))) in
+    let from32 : All Level (drop 32 levels) =
+    ((refl, refl), ((refl, refl), ((refl, refl), ((refl, refl), ((refl, refl), ((refl, refl), ((refl, refl), ((refl, refl), from40)))))))) in
+    let from24 : All Level (drop 24 levels) =
+    ((refl, refl), ((refl, refl), ((refl, refl), ((refl, refl), ((refl, refl), ((refl, refl), ((refl, refl), ((refl, refl), from32)))))))) in
+    let from16 : All Level (drop 16 levels) =
+    ((refl, refl), ((refl, refl), ((refl, refl), ((refl, refl), ((refl, refl), ((refl, refl), ((refl, refl), ((refl, refl), from24)))))))) in
+    let from8 : All Level (drop 8 levels) =
+    ((refl, refl), ((refl, refl), ((refl, refl), ((refl, refl), ((refl, refl), ((refl, refl), ((refl, refl), ((refl, refl), from16)))))))) in
+    ((refl, refl), ((refl, refl), ((refl, refl), ((refl, refl), ((refl, refl), ((refl, refl), ((refl, refl), ((refl, refl), from8))))))))

@@ -8,6 +8,7 @@ use mathlib.Core.List.{List, [], _∷_, _++_, map}
 use Rattle.figures.specs.Text.{codes}
 use Rattle.units.specs.Counts.{whole}
 use Rattle.words.specs.Records.{typedOf}
+use Rattle.units.specs.declared.kinds.Family.{Family}
 use Rattle.units.specs.declared.counts.Count.{Count}
 use Rattle.units.specs.declared.counts.Count.the-variants.{Text, Gon, Tenth, Metre, Feet, Pair}
 use Rattle.blocks.specs.Answers.{refusalNumber, refusalTells}
@@ -33,21 +34,21 @@ abbrev pub answerPlace : Answer → ℕ
 answerPlace (Read r) = 0
 answerPlace (Refused r) = refusalTells r
 
-abbrev pub reading : List ℕ → Judgement
-reading s = judged s 32
+abbrev pub reading : Family → List ℕ → Judgement
+reading f s = judged f s 32
 
 abbrev pub reply : List ℕ → Outcome
 reply line = step factoryState line 306
 
-abbrev pub Holds : Reading → Type 0
-Holds (accepted s answer counts) = (reading s .answer ≡ answer) × (map typedOf (reading s .words) ≡ counts)
-Holds (refused s number place) = (answerNumber (reading s .answer) ≡ number) × (answerPlace (reading s .answer) ≡ place)
-Holds (answered line number r) = (verdictNumber (reply line .verdict) ≡ number) × (reply line .reply ≡ r)
+abbrev pub Holds : Family → Reading → Type 0
+Holds f (accepted s answer counts) = (reading f s .answer ≡ answer) × (map (typedOf f) (reading f s .words) ≡ counts)
+Holds f (refused s number place) = (answerNumber (reading f s .answer) ≡ number) × (answerPlace (reading f s .answer) ≡ place)
+Holds f (answered line number r) = (verdictNumber (reply line .verdict) ≡ number) × (reply line .reply ≡ r)
 
--- every reading of the list holds
-abbrev pub All : List Reading → Type 0
-All [] = Unit {0}
-All (r ∷ rs) = Holds r × All rs
+-- every reading of the list holds, of an instrument of the family
+abbrev pub All : Family → List Reading → Type 0
+All f [] = Unit {0}
+All f (r ∷ rs) = Holds f r × All f rs
 
 -- how the rows are written: a word alone, so many words and bytes, counts with a plus, or with a minus; a line and its reply
 
@@ -70,7 +71,10 @@ tenth n = Tenth (record { 0 = whole 0 n })
 abbrev pub feet : ℕ → Count
 feet n = Feet (record { 0 = whole 0 n; 1 = 3 })
 
--- 1 mm below zero
+-- 1 mm, and below zero
+abbrev pub mm : ℕ → Count
+mm n = Metre (record { 0 = whole 0 n; 1 = 3 })
+
 abbrev pub minus-mm : ℕ → Count
 minus-mm n = Metre (record { 0 = whole 1 n; 1 = 3 })
 

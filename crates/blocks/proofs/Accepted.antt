@@ -12,6 +12,7 @@ use lib.Seq.{take-add, drop-drop, length-take-le, take-append-seam, drop-append-
 use Rattle.figures.specs.Bytes.{laid}
 use Rattle.words.specs.Reading.{wordSize, wordOf, rightWord}
 use Rattle.words.specs.Writing.{bytesOf}
+use Rattle.units.specs.declared.kinds.Family.{Family}
 use Rattle.words.specs.declared.records.Word.{Word}
 use Rattle.words.specs.declared.reading.Fault.the-variants.{Short}
 use Rattle.words.specs.declared.reading.Judged as one
@@ -27,12 +28,12 @@ use Rattle.blocks.specs.declared.answers.Wrote.the-variants.{Written}
 use Rattle.blocks.specs.Rules.{rightAll, Lawful, readAs}
 use Rattle.blocks.proofs.Written.{lawful-written}
 
-pub record Accepted (s : List ℕ) (places : ℕ) (r : Reading) (ws : List Word) : Type 0 where
-  pub lawful : Lawful (r .wide) ws
+pub record Accepted (f : Family) (s : List ℕ) (places : ℕ) (r : Reading) (ws : List Word) : Type 0 where
+  pub lawful : Lawful f (r .wide) ws
   pub placed : length ws ≤ places
   pub counted : r .words ≡ length ws
   pub within : r .used ≤ length s
-  pub bytes : blockBytes (r .wide) (r .crlf) ws ≡ take (r .used) s
+  pub bytes : blockBytes f (r .wide) (r .crlf) ws ≡ take (r .used) s
   pub apart : r .crlf ≡ false → isAt 10 (drop (r .used) s) ≡ false
 
 -- a refusal accepts nothing
@@ -76,25 +77,25 @@ end-used true at = refl
 end-used false at = refl
 
 -- what acceptance says of the words that are still to come
-record On (more : ℕ) (wide : Bool) (places at : ℕ) (rest : List ℕ) (done : List Word) (r : Reading) (ws : List Word) : Type 0 where
+record On (f : Family) (more : ℕ) (wide : Bool) (places at : ℕ) (rest : List ℕ) (done : List Word) (r : Reading) (ws : List Word) : Type 0 where
   new : List Word
   size : ℕ
   list : ws ≡ done ++ new
   some : isAt 13 rest ≡ false → 1 ≤ length new
   most : length new ≤ more
   placed : length done ≤ places → length done + length new ≤ places
-  right : rightAll wide new ≡ true
+  right : rightAll f wide new ≡ true
   width : r .wide ≡ wide
   counted : r .words ≡ length ws
   used : r .used ≡ at + size
   within : size ≤ length rest
-  bytes : wordsBytes wide new ++ endBytes (r .crlf) ≡ take size rest
+  bytes : wordsBytes f wide new ++ endBytes (r .crlf) ≡ take size rest
   apart : r .crlf ≡ false → isAt 10 (drop size rest) ≡ false
 
-end-on : (more : ℕ) (wide : Bool) (places at : ℕ) (rest : List ℕ) (done : List Word) (lf : Bool) → isAt 13 rest ≡ true → isAt 10 (drop 1 rest) ≡ lf
-    → On more wide places at rest done (record { wide = wide; crlf = lf; words = length done; used = cond lf (at + 2) (at + 1) }) done
+end-on : (f : Family) (more : ℕ) (wide : Bool) (places at : ℕ) (rest : List ℕ) (done : List Word) (lf : Bool) → isAt 13 rest ≡ true → isAt 10 (drop 1 rest) ≡ lf
+    → On f more wide places at rest done (record { wide = wide; crlf = lf; words = length done; used = cond lf (at + 2) (at + 1) }) done
 unfolding rightAll wordsBytes
-end-on more wide places at rest done lf cr is =
+end-on f more wide places at rest done lf cr is =
     let (after, split, apart) = end-is rest lf cr is in
     let ended = endBytes lf in
     record {
@@ -113,23 +114,23 @@ end-on more wide places at rest done lf cr is =
       apart = λ e. ap (λ t. isAt 10 (drop (length ended) t)) split ∙ ap (isAt 10) (drop-append-seam ended after) ∙ apart e;
     }
 
-ended-on : (more : ℕ) (wide : Bool) (places at : ℕ) (rest : List ℕ) (done : List Word) (r : Reading) (ws : List Word) → isAt 13 rest ≡ true
-    → record { answer = endedAt wide at rest (length done); words = done } ≡ readAs r ws → On more wide places at rest done r ws
-ended-on more wide places at rest done r ws cr e =
+ended-on : (f : Family) (more : ℕ) (wide : Bool) (places at : ℕ) (rest : List ℕ) (done : List Word) (r : Reading) (ws : List Word) → isAt 13 rest ≡ true
+    → record { answer = endedAt wide at rest (length done); words = done } ≡ readAs r ws → On f more wide places at rest done r ws
+ended-on f more wide places at rest done r ws cr e =
     let a : endedAt wide at rest (length done) ≡ Read r = ap (λ (j : Judgement). j .answer) e in
     let is : record { wide = wide; crlf = isAt 10 (drop 1 rest); words = length done; used = cond (isAt 10 (drop 1 rest)) (at + 2) (at + 1) } ≡ r = cc in
-    subst₂ (On more wide places at rest done) is (ap (λ (j : Judgement). j .words) e) (end-on more wide places at rest done (isAt 10 (drop 1 rest)) cr refl)
+    subst₂ (On f more wide places at rest done) is (ap (λ (j : Judgement). j .words) e) (end-on f more wide places at rest done (isAt 10 (drop 1 rest)) cr refl)
 
-step-on : (more : ℕ) (wide : Bool) (places at : ℕ) (rest : List ℕ) (done : List Word) (r : Reading) (ws : List Word) (w : Word)
-    → ltb (length rest) (wordSize wide) ≡ false → leb places (length done) ≡ false → wordOf wide rest ≡ rightWord w
-    → On more wide places (at + wordSize wide) (drop (wordSize wide) rest) (done ++ (w ∷ [])) r ws → On (suc more) wide places at rest done r ws
+step-on : (f : Family) (more : ℕ) (wide : Bool) (places at : ℕ) (rest : List ℕ) (done : List Word) (r : Reading) (ws : List Word) (w : Word)
+    → ltb (length rest) (wordSize wide) ≡ false → leb places (length done) ≡ false → wordOf f wide rest ≡ rightWord w
+    → On f more wide places (at + wordSize wide) (drop (wordSize wide) rest) (done ++ (w ∷ [])) r ws → On f (suc more) wide places at rest done r ws
 unfolding rightAll wordsBytes
-step-on more wide places at rest done r ws w short full e o =
+step-on f more wide places at rest done r ws w short full e o =
     let k = wordSize wide in
     let long = ltb-false (length rest) k short in
     let free = leb-false places (length done) full in
     let one-more = length-append done (w ∷ []) in
-    let (right, bytes) = read-write wide rest w e in
+    let (right, bytes) = read-write f wide rest w e in
     record {
       new = w ∷ o .new;
       size = k + o .size;
@@ -142,22 +143,22 @@ step-on more wide places at rest done r ws w short full e o =
       counted = o .counted;
       used = omega arith;
       within = omega (arith, length-drop k rest);
-      bytes = append-assoc (bytesOf wide w) (wordsBytes wide (o .new)) (endBytes (r .crlf)) ∙ rw (o .bytes, bytes) (sym (take-add k (o .size) rest));
+      bytes = append-assoc (bytesOf f wide w) (wordsBytes f wide (o .new)) (endBytes (r .crlf)) ∙ rw (o .bytes, bytes) (sym (take-add k (o .size) rest));
       apart = λ h. rw drop-drop at (o .apart h);
     }
 
-from-on : (more : ℕ) (wide : Bool) (places at : ℕ) (rest : List ℕ) (done : List Word) (r : Reading) (ws : List Word)
-    → blockFrom more wide places at rest done ≡ readAs r ws → On more wide places at rest done r ws
+from-on : (f : Family) (more : ℕ) (wide : Bool) (places at : ℕ) (rest : List ℕ) (done : List Word) (r : Reading) (ws : List Word)
+    → blockFrom f more wide places at rest done ≡ readAs r ws → On f more wide places at rest done r ws
 unfolding blockFrom
-from-on zero wide places at rest done r ws e =
+from-on f zero wide places at rest done r ws e =
     let h = only (isAt 13 rest) (NoEnd at) (record { answer = endedAt wide at rest (length done); words = done }) r ws e in
-    ended-on zero wide places at rest done r ws (h .0) (h .1)
-from-on (suc more) wide places at rest done r ws e =
-    let o = wordOf wide rest in
-    ⊎-elim (λ h. ended-on (suc more) wide places at rest done r ws (h .0) (h .1))
+    ended-on f zero wide places at rest done r ws (h .0) (h .1)
+from-on f (suc more) wide places at rest done r ws e =
+    let o = wordOf f wide rest in
+    ⊎-elim (λ h. ended-on f (suc more) wide places at rest done r ws (h .0) (h .1))
     (λ h.
-    step-on more wide places at rest done r ws (o .word) (h .1) (h .2) (λ i. record { answer = h .3 i; word = o .word })
-    (from-on more wide places (at + wordSize wide) (drop (wordSize wide) rest) (done ++ (o .word ∷ [])) r ws (h .4)))
+    step-on f more wide places at rest done r ws (o .word) (h .1) (h .2) (λ i. record { answer = h .3 i; word = o .word })
+    (from-on f more wide places (at + wordSize wide) (drop (wordSize wide) rest) (done ++ (o .word ∷ [])) r ws (h .4)))
     (through (isAt 13 rest) (ltb (length rest) (wordSize wide)) (leb places (length done)) (o .answer) at _ _ r ws e)
 
 start-most : (wide : Bool) → firstAt wide ≤ 1
@@ -169,9 +170,9 @@ star-is [] wide e h = absurd (false≢true (sym e))
 star-is (x ∷ s) true e h = ap (λ n. n ∷ []) (sym (eqb-true x 42 h))
 star-is (x ∷ s) false e h = refl
 
-accepted-on : (s : List ℕ) (places : ℕ) (r : Reading) (ws : List Word) (wide : Bool) → eqb (length s) 0 ≡ false → isWide s ≡ wide
-    → isAt 13 (drop (firstAt wide) s) ≡ false → On 32 wide places (firstAt wide) (drop (firstAt wide) s) [] r ws → Accepted s places r ws
-accepted-on s places r ws wide full star first o =
+accepted-on : (f : Family) (s : List ℕ) (places : ℕ) (r : Reading) (ws : List Word) (wide : Bool) → eqb (length s) 0 ≡ false → isWide s ≡ wide
+    → isAt 13 (drop (firstAt wide) s) ≡ false → On f 32 wide places (firstAt wide) (drop (firstAt wide) s) [] r ws → Accepted f s places r ws
+accepted-on f s places r ws wide full star first o =
     let list : ws ≡ o .new = o .list in
     let front = star-is s wide full star in
     let some : 1 ≤ length ws = rw list (o .some first) in
@@ -186,16 +187,17 @@ accepted-on s places r ws wide full star first o =
     }
 
 -- what is read keeps the rules, and writes back to the bytes that were read
-pub accepted : (s : List ℕ) (places : ℕ) (r : Reading) (ws : List Word) → judged s places ≡ readAs r ws → Accepted s places r ws
-accepted s places r ws e =
+pub accepted : (f : Family) (s : List ℕ) (places : ℕ) (r : Reading) (ws : List Word) → judged f s places ≡ readAs r ws → Accepted f s places r ws
+accepted f s places r ws e =
     let wide = isWide s in
     let full = past (eqb (length s) 0) Empty _ r ws e in
     let first = past (isAt 13 (drop (firstAt wide) s)) NoWord _ r ws (full .1) in
-    accepted-on s places r ws wide (full .0) refl (first .0) (from-on 32 wide places (firstAt wide) (drop (firstAt wide) s) [] r ws (first .1))
+    accepted-on f s places r ws wide (full .0) refl (first .0) (from-on f 32 wide places (firstAt wide) (drop (firstAt wide) s) [] r ws (first .1))
 
-pub accepted-written : (s : List ℕ) (places : ℕ) (r : Reading) (ws : List Word) (room : List ℕ) → judged s places ≡ readAs r ws → r .used ≤ length room
-    → written ws (r .wide) (r .crlf) room ≡ record { answer = Written (r .used); room = laid (take (r .used) s) room }
-accepted-written s places r ws room e fits =
-    let a = accepted s places r ws e in
+pub accepted-written : (f : Family) (s : List ℕ) (places : ℕ) (r : Reading) (ws : List Word) (room : List ℕ) → judged f s places ≡ readAs r ws
+    → r .used ≤ length room
+    → written f ws (r .wide) (r .crlf) room ≡ record { answer = Written (r .used); room = laid (take (r .used) s) room }
+accepted-written f s places r ws room e fits =
+    let a = accepted f s places r ws e in
     let size = length-take-le (r .used) s (a .within) in
-    lawful-written ws (r .wide) (r .crlf) room (a .lawful) (omega (arith, ap length (a .bytes))) ∙ rw (a .bytes, size)
+    lawful-written f ws (r .wide) (r .crlf) room (a .lawful) (omega (arith, ap length (a .bytes))) ∙ rw (a .bytes, size)

@@ -10,6 +10,7 @@ use lib.ListN.{length, drop, length-append}
 use lib.Seq.{take-length, take-append-seam}
 use borrow.Author.Tests.{ltb-false, le-leb, leb-false}
 use Rattle.words.specs.Reading.{wordSize, wordOf}
+use Rattle.units.specs.declared.kinds.Family.{Family}
 use Rattle.words.specs.declared.records.Word.{Word}
 use Rattle.words.specs.declared.reading.Judged as one
 use Rattle.words.specs.declared.reading.Fault.the-variants.{Short}
@@ -35,7 +36,7 @@ size-le true = omega arith
 size-le false = omega arith
 
 -- what holds of each refusal that tells no place past the last word's end, and of each block that ends there or before, holds of what is judged
-module _ (places : ℕ) (P : Judgement → Type 0) (refuses : (r : Refusal) → refusalTells r ≤ 769 → P (refusedBy r))
+module _ (f : Family) (places : ℕ) (P : Judgement → Type 0) (refuses : (r : Refusal) → refusalTells r ≤ 769 → P (refusedBy r))
     (ends : (wide : Bool) (at : ℕ) (rest : List ℕ) (ws : List Word) → at ≤ 769 → Few (length ws) places
     → P (record { answer = endedAt wide at rest (length ws); words = ws })) where
   cond-by : (t : Bool) (j k : Judgement) → P j → (t ≡ false → P k) → P (cond t j k)
@@ -47,22 +48,22 @@ module _ (places : ℕ) (P : Judgement → Type 0) (refuses : (r : Refusal) → 
   after-by at (one.Judged.Wrong fault) j h p = refuses (Wrong fault at) h
 
   from-by : (more : ℕ) (wide : Bool) (at : ℕ) (rest : List ℕ) (ws : List Word) → at + more * 24 ≤ 769 → length ws + more ≤ 32 → length ws ≤ places
-      → P (blockFrom more wide places at rest ws)
+      → P (blockFrom f more wide places at rest ws)
   unfolding blockFrom
   from-by zero wide at rest ws a h k = cond-by (isAt 13 rest) _ _ (ends wide at rest ws (omega arith) (omega arith, k)) (λ _. refuses (NoEnd at) (omega arith))
   from-by (suc more) wide at rest ws a h k =
       cond-by (isAt 13 rest) _ _ (ends wide at rest ws (omega arith) (omega arith, k)) (λ _.
       cond-by (ltb (length rest) (wordSize wide)) _ _ (refuses (Wrong Short at) (omega arith)) (λ _.
       cond-by (leb places (length ws)) _ _ (refuses (NoPlace at) (omega arith)) (λ e.
-      let w = wordOf wide rest .word in
+      let w = wordOf f wide rest .word in
       let next = at + wordSize wide in
       let later = drop (wordSize wide) rest in
       let one-more : length (ws ++ (w ∷ [])) ≡ length ws + 1 = length-append ws (w ∷ []) in
       let free = leb-false places (length ws) e in
-      after-by at (wordOf wide rest .answer) (blockFrom more wide places next later (ws ++ (w ∷ []))) (omega arith)
+      after-by at (wordOf f wide rest .answer) (blockFrom f more wide places next later (ws ++ (w ∷ []))) (omega arith)
       (from-by more wide next later (ws ++ (w ∷ [])) (omega (arith, size-le wide)) (omega arith) (omega (arith, free))))))
 
-  pub judged-by : (s : List ℕ) → P (judged s places)
+  pub judged-by : (s : List ℕ) → P (judged f s places)
   judged-by s =
       let wide = isWide s in
       let rest = drop (firstAt wide) s in
@@ -70,8 +71,8 @@ module _ (places : ℕ) (P : Judgement → Type 0) (refuses : (r : Refusal) → 
       cond-by (isAt 13 rest) _ _ (refuses NoWord (omega arith)) (λ _.
       from-by 32 wide (firstAt wide) rest [] (omega (arith, start-small wide)) (omega arith) (omega arith)))
 
-pub judged-few : (places : ℕ) (s : List ℕ) → Few (length (judged s places .words)) places
-judged-few places s = judged-by places (λ j. Few (length (j .words)) places) (λ r h. none-few places) (λ wide at rest ws h few. few) s
+pub judged-few : (f : Family) (places : ℕ) (s : List ℕ) → Few (length (judged f s places .words)) places
+judged-few f places s = judged-by f places (λ j. Few (length (j .words)) places) (λ r h. none-few places) (λ wide at rest ws h few. few) s
 
 -- the list l once a block's records are stored in it
 abbrev pub stored : Block → List Word → List Word
@@ -105,11 +106,11 @@ or-true : (t : Bool) → t || true ≡ true
 or-true true = refl
 or-true false = refl
 
-module _ (l : List Word) (wide crlf : Bool) (room : List ℕ) where
-  written-by : (many : Bool) → ltb 32 (length l) ≡ many → written (listOf (cond many noBlock (blockOf l))) wide crlf room ≡ written l wide crlf room
+module _ (f : Family) (l : List Word) (wide crlf : Bool) (room : List ℕ) where
+  written-by : (many : Bool) → ltb 32 (length l) ≡ many → written f (listOf (cond many noBlock (blockOf l))) wide crlf room ≡ written f l wide crlf room
   written-by true e = rw (e, or-true)
   written-by false e = rw (le-leb (length l) 32 (ltb-false 32 (length l) e), take-append-seam)
 
   -- a list and the block that is gathered from it are written alike
-  pub gathered-written : written (listOf (gathered l)) wide crlf room ≡ written l wide crlf room
+  pub gathered-written : written f (listOf (gathered l)) wide crlf room ≡ written f l wide crlf room
   gathered-written = written-by (ltb 32 (length l)) refl

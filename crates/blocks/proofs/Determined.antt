@@ -6,6 +6,7 @@ use Prim.Native.Nat.{ℕ}
 use lib.ListN.{length}
 use Rattle.figures.specs.Promises.{Determined}
 use Rattle.figures.proofs.Determined.{by-equation, by-two}
+use Rattle.units.specs.declared.kinds.Family.{Family}
 use Rattle.words.specs.declared.records.Word.{Word}
 use Rattle.blocks.specs.Answers.{refusalNumber, refusalTells}
 use Rattle.blocks.specs.Judging.{judged, filled}
@@ -24,21 +25,23 @@ refusal-number-determined = by-equation Refusal ℕ refusalNumber
 pub refusal-tells-determined : Determined Refusal ℕ (λ i r. r ≡ refusalTells i)
 refusal-tells-determined = by-equation Refusal ℕ refusalTells
 
-pub judge-determined : Determined (List ℕ × ℕ) JudgedBlock (λ i r. r ≡ keptOf (judged (i .0) (i .1)))
-judge-determined = by-equation (List ℕ × ℕ) JudgedBlock (λ i. keptOf (judged (i .0) (i .1)))
+pub judge-determined : (f : Family) → Determined (List ℕ × ℕ) JudgedBlock (λ i r. r ≡ keptOf (judged f (i .0) (i .1)))
+judge-determined f = by-equation (List ℕ × ℕ) JudgedBlock (λ i. keptOf (judged f (i .0) (i .1)))
 
-pub emit-determined : Determined (Block × Bool × Bool × List ℕ) (Wrote × List ℕ) (λ i o. Writes (listOf (i .0)) (i .1) (i .2) (i .3) (o .0) (o .1))
-emit-determined =
-    by-two (Block × Bool × Bool × List ℕ) Wrote (List ℕ) (λ i. written (listOf (i .0)) (i .1) (i .2) (i .3) .answer)
-    (λ i. written (listOf (i .0)) (i .1) (i .2) (i .3) .room)
+pub emit-determined : (f : Family)
+    → Determined (Block × Bool × Bool × List ℕ) (Wrote × List ℕ) (λ i o. Writes f (listOf (i .0)) (i .1) (i .2) (i .3) (o .0) (o .1))
+emit-determined f =
+    by-two (Block × Bool × Bool × List ℕ) Wrote (List ℕ) (λ i. written f (listOf (i .0)) (i .1) (i .2) (i .3) .answer)
+    (λ i. written f (listOf (i .0)) (i .1) (i .2) (i .3) .room)
 
 pub gather-determined : Determined (List Word) Block (λ i r. r ≡ gathered i)
 gather-determined = by-equation (List Word) Block gathered
 
-pub read-determined : Determined (List ℕ × List Word) (Answer × List Word) (λ i o. Reads (i .0) (i .1) (o .0) (o .1))
-read-determined =
-    by-two (List ℕ × List Word) Answer (List Word) (λ i. judged (i .0) (length (i .1)) .answer) (λ i. filled (judged (i .0) (length (i .1)) .words) (i .1))
+pub read-determined : (f : Family) → Determined (List ℕ × List Word) (Answer × List Word) (λ i o. Reads f (i .0) (i .1) (o .0) (o .1))
+read-determined f =
+    by-two (List ℕ × List Word) Answer (List Word) (λ i. judged f (i .0) (length (i .1)) .answer) (λ i. filled (judged f (i .0) (length (i .1)) .words) (i .1))
 
-pub write-determined : Determined (List Word × Bool × Bool × List ℕ) (Wrote × List ℕ) (λ i o. Writes (i .0) (i .1) (i .2) (i .3) (o .0) (o .1))
-write-determined =
-    by-two (List Word × Bool × Bool × List ℕ) Wrote (List ℕ) (λ i. written (i .0) (i .1) (i .2) (i .3) .answer) (λ i. written (i .0) (i .1) (i .2) (i .3) .room)
+pub write-determined : (f : Family) → Determined (List Word × Bool × Bool × List ℕ) (Wrote × List ℕ) (λ i o. Writes f (i .0) (i .1) (i .2) (i .3) (o .0) (o .1))
+write-determined f =
+    by-two (List Word × Bool × Bool × List ℕ) Wrote (List ℕ) (λ i. written f (i .0) (i .1) (i .2) (i .3) .answer)
+    (λ i. written f (i .0) (i .1) (i .2) (i .3) .room)

@@ -9,6 +9,7 @@ use lib.Dec.{leb, eqb·suc-zero}
 use lib.ListN.{length, take, drop, length-append, length-drop, take-append-drop}
 use lib.Seq.{drop-append-le, take-all, length-take-le}
 use Rattle.words.specs.Reading.{wordSize}
+use Rattle.units.specs.declared.kinds.Family.{Family}
 use Rattle.words.specs.declared.records.Word.{Word}
 use Rattle.words.proofs.Places.{never-past}
 use Rattle.blocks.specs.Judging.{isAt, isWide, firstAt, endedAt, blockFrom, judged}
@@ -24,11 +25,11 @@ end-past wide at s rest n h =
     rw (drop-append-le 1 s rest (omega arith), at-past 10 (drop 1 s) rest (omega (arith, length-drop 1 s)))
 
 -- so many words of either width, and an end
-from-past : (more : ℕ) (wide : Bool) (places at : ℕ) (s rest : List ℕ) (ws : List Word) → 24 * more + 2 ≤ length s
-    → blockFrom more wide places at (s ++ rest) ws ≡ blockFrom more wide places at s ws
+from-past : (f : Family) (more : ℕ) (wide : Bool) (places at : ℕ) (s rest : List ℕ) (ws : List Word) → 24 * more + 2 ≤ length s
+    → blockFrom f more wide places at (s ++ rest) ws ≡ blockFrom f more wide places at s ws
 unfolding blockFrom
-from-past zero wide places at s rest ws h = rw (at-past 13 s rest (omega arith), end-past wide at s rest (length ws) (omega arith))
-from-past (suc more) wide places at s rest ws h =
+from-past f zero wide places at s rest ws h = rw (at-past 13 s rest (omega arith), end-past wide at s rest (length ws) (omega arith))
+from-past f (suc more) wide places at s rest ws h =
     let small = width-small wide in
     let size = wordSize wide in
     let left : 24 * more + 2 ≤ length (drop size s) = omega (arith, length-drop size s) in
@@ -37,15 +38,15 @@ from-past (suc more) wide places at s rest ws h =
       end-past wide at s rest (length ws) (omega arith),
       le-ltb (length (s ++ rest)) size (omega (arith, length-append s rest)),
       le-ltb (length s) size (omega arith),
-      never-past wide s rest (omega arith),
+      never-past f wide s rest (omega arith),
       drop-append-le size s rest (omega arith),
-      from-past more wide places (at + size) (drop size s) rest _ left,
+      from-past f more wide places (at + size) (drop size s) rest _ left,
     )
 
 -- "an optional `*`, 1 to 32 words, then CR or CR LF"
-pub judged-past : (s rest : List ℕ) (places : ℕ) → 771 ≤ length s → judged (s ++ rest) places ≡ judged s places
-judged-past [] rest places h = absurd (omega arith)
-judged-past (b ∷ s) rest places h =
+pub judged-past : (f : Family) (s rest : List ℕ) (places : ℕ) → 771 ≤ length s → judged f (s ++ rest) places ≡ judged f s places
+judged-past f [] rest places h = absurd (omega arith)
+judged-past f (b ∷ s) rest places h =
     let wide = isWide (b ∷ s) in
     let start = firstAt wide in
     let small = start-small wide in
@@ -56,15 +57,15 @@ judged-past (b ∷ s) rest places h =
       eqb·suc-zero (length s),
       drop-append-le start (b ∷ s) rest (omega arith),
       at-past 13 after rest (omega arith),
-      from-past 32 wide places start after rest [] (omega arith),
+      from-past f 32 wide places start after rest [] (omega arith),
     )
 
-pub judged-enough : (s : List ℕ) → judged (take 800 s) 32 ≡ judged s 32
-judged-enough s = by (leb (length s) 800) refl
+pub judged-enough : (f : Family) (s : List ℕ) → judged f (take 800 s) 32 ≡ judged f s 32
+judged-enough f s = by (leb (length s) 800) refl
   where
-    by : (q : Bool) → leb (length s) 800 ≡ q → judged (take 800 s) 32 ≡ judged s 32
+    by : (q : Bool) → leb (length s) 800 ≡ q → judged f (take 800 s) 32 ≡ judged f s 32
     by true e = rw (take-all 800 s (leb-true (length s) 800 e))
     by false e =
         let long = leb-false (length s) 800 e in
         let size = length-take-le 800 s (omega arith) in
-        sym (judged-past (take 800 s) (drop 800 s) 32 (omega arith)) ∙ ap (λ t. judged t 32) (take-append-drop 800 s)
+        sym (judged-past f (take 800 s) (drop 800 s) 32 (omega arith)) ∙ ap (λ t. judged f t 32) (take-append-drop 800 s)

@@ -17,6 +17,7 @@ use Rattle.words.specs.Records.{isRight}
 use Rattle.words.specs.Reading.{wordSize}
 use Rattle.words.specs.Writing.{bytesOf}
 use Rattle.words.specs.Keeping.{bytesIn, spellingOf}
+use Rattle.units.specs.declared.kinds.Family.{Family}
 use Rattle.words.specs.declared.records.Word.{Word}
 use Rattle.words.specs.declared.writing.Spelt.the-variants as spelt
 use Rattle.words.specs.declared.writing.Spelling.{Spelling}
@@ -37,44 +38,44 @@ listed b vs is h =
 
 -- the first record that no word gives, and what comes by it
 
-abbrev pub firstWrong : Bool → ℕ → List Word → Option ℕ
-firstWrong wide i ws = unlessWrong wide i ws some none
+abbrev pub firstWrong : (f : Family) → Bool → ℕ → List Word → Option ℕ
+firstWrong f wide i ws = unlessWrong f wide i ws some none
 
 abbrev pub byFirst : {A : Type 0} → (ℕ → A) → A → Option ℕ → A
 byFirst wrong next none = next
 byFirst wrong next (some i) = wrong i
 
-pub unless-by : {A : Type 0} (wide : Bool) (i : ℕ) (ws : List Word) (wrong : ℕ → A) (next : A)
-    → unlessWrong wide i ws wrong next ≡ byFirst wrong next (firstWrong wide i ws)
+pub unless-by : (f : Family) {A : Type 0} (wide : Bool) (i : ℕ) (ws : List Word) (wrong : ℕ → A) (next : A)
+    → unlessWrong f wide i ws wrong next ≡ byFirst wrong next (firstWrong f wide i ws)
 unfolding unlessWrong
-unless-by wide i [] wrong next = refl
-unless-by {A} wide i (w ∷ ws) wrong next =
-    both (isRight wide w) (unlessWrong wide (i + 1) ws wrong next) (firstWrong wide (i + 1) ws) (unless-by wide (i + 1) ws wrong next)
+unless-by f wide i [] wrong next = refl
+unless-by f {A} wide i (w ∷ ws) wrong next =
+    both (isRight f wide w) (unlessWrong f wide (i + 1) ws wrong next) (firstWrong f wide (i + 1) ws) (unless-by f wide (i + 1) ws wrong next)
   where
     both : (t : Bool) (a : A) (o : Option ℕ) → a ≡ byFirst wrong next o → cond t a (wrong i) ≡ byFirst wrong next (cond t o (some i))
     both true a o e = e
     both false a o e = refl
 
-module _ {A : Type 0} (wide : Bool) (ws : List Word) (wrong : ℕ → A) (next : A) where
-  pub unless-right : firstWrong wide 0 ws ≡ none → unlessWrong wide 0 ws wrong next ≡ next
-  unless-right e = unless-by wide 0 ws wrong next ∙ rw e
+module _ {A : Type 0} (f : Family) (wide : Bool) (ws : List Word) (wrong : ℕ → A) (next : A) where
+  pub unless-right : firstWrong f wide 0 ws ≡ none → unlessWrong f wide 0 ws wrong next ≡ next
+  unless-right e = unless-by f wide 0 ws wrong next ∙ rw e
 
-  pub unless-wrong : (i : ℕ) → firstWrong wide 0 ws ≡ some i → unlessWrong wide 0 ws wrong next ≡ wrong i
-  unless-wrong i e = unless-by wide 0 ws wrong next ∙ rw e
+  pub unless-wrong : (i : ℕ) → firstWrong f wide 0 ws ≡ some i → unlessWrong f wide 0 ws wrong next ≡ wrong i
+  unless-wrong i e = unless-by f wide 0 ws wrong next ∙ rw e
 
-pub first-more : (wide : Bool) (i : ℕ) (ws : List Word) (d : Word) → i < length ws → isRight wide (getD ws i d) ≡ true
-    → firstWrong wide i (drop i ws) ≡ firstWrong wide (i + 1) (drop (i + 1) ws)
+pub first-more : (f : Family) (wide : Bool) (i : ℕ) (ws : List Word) (d : Word) → i < length ws → isRight f wide (getD ws i d) ≡ true
+    → firstWrong f wide i (drop i ws) ≡ firstWrong f wide (i + 1) (drop (i + 1) ws)
 unfolding unlessWrong
-first-more wide i ws d h e = rw (drop-cons ws i d h, e, add-one i)
+first-more f wide i ws d h e = rw (drop-cons ws i d h, e, add-one i)
 
-pub first-wrong : (wide : Bool) (i : ℕ) (ws : List Word) (d : Word) → i < length ws → isRight wide (getD ws i d) ≡ false
-    → firstWrong wide i (drop i ws) ≡ some i
+pub first-wrong : (f : Family) (wide : Bool) (i : ℕ) (ws : List Word) (d : Word) → i < length ws → isRight f wide (getD ws i d) ≡ false
+    → firstWrong f wide i (drop i ws) ≡ some i
 unfolding unlessWrong
-first-wrong wide i ws d h e = rw (drop-cons ws i d h, e)
+first-wrong f wide i ws d h e = rw (drop-cons ws i d h, e)
 
-pub first-none : (wide : Bool) (i : ℕ) (ws : List Word) → length ws ≤ i → firstWrong wide i (drop i ws) ≡ none
+pub first-none : (f : Family) (wide : Bool) (i : ℕ) (ws : List Word) → length ws ≤ i → firstWrong f wide i (drop i ws) ≡ none
 unfolding unlessWrong
-first-none wide i ws h = rw (drop-of-length-le ws h)
+first-none f wide i ws h = rw (drop-of-length-le ws h)
 
 -- a record's spelling
 
@@ -85,47 +86,49 @@ told-right : (t : Bool) (a b : List ℕ) → speltBy t a b .answer ≡ spelt.Rig
 told-right true a b e = refl
 told-right false a b e = apart cc
 
-told-not : (t : Bool) (a b : List ℕ) → speltBy t a b .answer ≡ spelt.Not → t ≡ false
-told-not true a b e = apart cc
-told-not false a b e = refl
+told-not : (f : Family) (t : Bool) (a b : List ℕ) → speltBy t a b .answer ≡ spelt.Not → t ≡ false
+told-not f true a b e = apart cc
+told-not f false a b e = refl
 
-module _ (wide : Bool) (w : Word) (s : Spelling) (e : s ≡ spellingOf wide w) where
-  pub spelt-right : s .answer ≡ spelt.Right → isRight wide w ≡ true
-  spelt-right r = told-right (isRight wide w) (bytesIn wide w) (replicate 24 0) (sym (ap (λ (s : Spelling). s .answer) e) ∙ r)
+module _ (f : Family) (wide : Bool) (w : Word) (s : Spelling) (e : s ≡ spellingOf f wide w) where
+  pub spelt-right : s .answer ≡ spelt.Right → isRight f wide w ≡ true
+  spelt-right r = told-right (isRight f wide w) (bytesIn f wide w) (replicate 24 0) (sym (ap (λ (s : Spelling). s .answer) e) ∙ r)
 
-  pub spelt-not : s .answer ≡ spelt.Not → isRight wide w ≡ false
-  spelt-not r = told-not (isRight wide w) (bytesIn wide w) (replicate 24 0) (sym (ap (λ (s : Spelling). s .answer) e) ∙ r)
+  pub spelt-not : s .answer ≡ spelt.Not → isRight f wide w ≡ false
+  spelt-not r = told-not f (isRight f wide w) (bytesIn f wide w) (replicate 24 0) (sym (ap (λ (s : Spelling). s .answer) e) ∙ r)
 
-  pub spelt-bytes : (k : ℕ) → k ≡ wordSize wide → isRight wide w ≡ true → take k (s .bytes) ≡ bytesOf wide w
+  pub spelt-bytes : (k : ℕ) → k ≡ wordSize wide → isRight f wide w ≡ true → take k (s .bytes) ≡ bytesOf f wide w
   spelt-bytes k ek r =
-      let is : s ≡ record { answer = spelt.Right; bytes = bytesIn wide w } = e ∙ rw r in
-      rw (is, ek) (take-at (bytesOf wide w) (replicate (24 - wordSize wide) 0) (wordSize wide) (bytes-length wide w r))
+      let is : s ≡ record { answer = spelt.Right; bytes = bytesIn f wide w } = e ∙ rw r in
+      rw (is, ek) (take-at (bytesOf f wide w) (replicate (24 - wordSize wide) 0) (wordSize wide) (bytes-length f wide w r))
 
-  pub spelt-long : isRight wide w ≡ true → wordSize wide ≤ length (s .bytes)
-  spelt-long r = omega (arith, ap length (spelt-bytes (wordSize wide) refl r), length-take (wordSize wide) (s .bytes), bytes-length wide w r)
+  pub spelt-long : isRight f wide w ≡ true → wordSize wide ≤ length (s .bytes)
+  spelt-long r = omega (arith, ap length (spelt-bytes (wordSize wide) refl r), length-take (wordSize wide) (s .bytes), bytes-length f wide w r)
 
 -- the words one after the other
 
-words-snoc : (wide : Bool) (ws : List Word) (w : Word) → wordsBytes wide (ws ++ (w ∷ [])) ≡ wordsBytes wide ws ++ bytesOf wide w
+words-snoc : (f : Family) (wide : Bool) (ws : List Word) (w : Word) → wordsBytes f wide (ws ++ (w ∷ [])) ≡ wordsBytes f wide ws ++ bytesOf f wide w
 unfolding wordsBytes
-words-snoc wide [] w = append-nil (bytesOf wide w)
-words-snoc wide (v ∷ ws) w = rw (words-snoc wide ws w) (sym (append-assoc (bytesOf wide v) (wordsBytes wide ws) (bytesOf wide w)))
+words-snoc f wide [] w = append-nil (bytesOf f wide w)
+words-snoc f wide (v ∷ ws) w = rw (words-snoc f wide ws w) (sym (append-assoc (bytesOf f wide v) (wordsBytes f wide ws) (bytesOf f wide w)))
 
 -- those before the i-th, from the block's start
-abbrev pub putBytes : Bool → List Word → ℕ → List ℕ
-putBytes wide ws i = starBytes wide ++ wordsBytes wide (take i ws)
+abbrev pub putBytes : (f : Family) → Bool → List Word → ℕ → List ℕ
+putBytes f wide ws i = starBytes wide ++ wordsBytes f wide (take i ws)
 
-pub put-next : (wide : Bool) (ws : List Word) (i : ℕ) (d : Word) → i < length ws → putBytes wide ws (i + 1) ≡ putBytes wide ws i ++ bytesOf wide (getD ws i d)
-put-next wide ws i d h =
-    rw (add-one i, take-suc ws i d h, words-snoc wide (take i ws) (getD ws i d))
-    (sym (append-assoc (starBytes wide) (wordsBytes wide (take i ws)) (bytesOf wide (getD ws i d))))
+pub put-next : (f : Family) (wide : Bool) (ws : List Word) (i : ℕ) (d : Word) → i < length ws
+    → putBytes f wide ws (i + 1) ≡ putBytes f wide ws i ++ bytesOf f wide (getD ws i d)
+put-next f wide ws i d h =
+    rw (add-one i, take-suc ws i d h, words-snoc f wide (take i ws) (getD ws i d))
+    (sym (append-assoc (starBytes wide) (wordsBytes f wide (take i ws)) (bytesOf f wide (getD ws i d))))
 
-pub words-fit : (wide : Bool) (i : ℕ) (ws : List Word) → firstWrong wide i ws ≡ none → length (wordsBytes wide ws) ≤ 24 * length ws
+pub words-fit : (f : Family) (wide : Bool) (i : ℕ) (ws : List Word) → firstWrong f wide i ws ≡ none → length (wordsBytes f wide ws) ≤ 24 * length ws
 unfolding unlessWrong wordsBytes
-words-fit wide i [] e = omega arith
-words-fit wide i (w ∷ ws) e =
-    let right = told (isRight wide w) (firstWrong wide (i + 1) ws) e in
-    omega (arith, length-append (bytesOf wide w) (wordsBytes wide ws), bytes-length wide w (right .0), words-fit wide (i + 1) ws (right .1), width-small wide)
+words-fit f wide i [] e = omega arith
+words-fit f wide i (w ∷ ws) e =
+    let right = told (isRight f wide w) (firstWrong f wide (i + 1) ws) e in
+    let rest = words-fit f wide (i + 1) ws (right .1) in
+    omega (arith, length-append (bytesOf f wide w) (wordsBytes f wide ws), bytes-length f wide w (right .0), rest, width-small wide)
   where
     told : (t : Bool) (o : Option ℕ) → cond t o (some i) ≡ none → (t ≡ true) × (o ≡ none)
     told true o e = (refl, e)
@@ -133,20 +136,20 @@ words-fit wide i (w ∷ ws) e =
 
 -- a room that holds what is put from its start
 
-module _ (wide : Bool) (ws : List Word) (i : ℕ) (d : Word) (h : i < length ws) (right : isRight wide (getD ws i d) ≡ true) where
-  pub put-length : length (putBytes wide ws (i + 1)) ≡ length (putBytes wide ws i) + wordSize wide
+module _ (f : Family) (wide : Bool) (ws : List Word) (i : ℕ) (d : Word) (h : i < length ws) (right : isRight f wide (getD ws i d) ≡ true) where
+  pub put-length : length (putBytes f wide ws (i + 1)) ≡ length (putBytes f wide ws i) + wordSize wide
   put-length =
-      ap length (put-next wide ws i d h)
-      ∙ (length-append (putBytes wide ws i) (bytesOf wide (getD ws i d)) ∙ rw (bytes-length wide (getD ws i d) right))
+      ap length (put-next f wide ws i d h)
+      ∙ (length-append (putBytes f wide ws i) (bytesOf f wide (getD ws i d)) ∙ rw (bytes-length f wide (getD ws i d) right))
 
-  pub put-more : (room₀ room last : List ℕ) (at len : ℕ) → at ≡ length (putBytes wide ws i) → at + 24 ≤ length room₀ → len ≡ length room
-      → room ≡ putBytes wide ws i ++ drop (length (putBytes wide ws i)) room₀ → last ≡ laid (bytesOf wide (getD ws i d)) (midOf at (len - at) room)
-      → putMid at (len - at) room last ≡ putBytes wide ws (i + 1) ++ drop (length (putBytes wide ws (i + 1))) room₀
+  pub put-more : (room₀ room last : List ℕ) (at len : ℕ) → at ≡ length (putBytes f wide ws i) → at + 24 ≤ length room₀ → len ≡ length room
+      → room ≡ putBytes f wide ws i ++ drop (length (putBytes f wide ws i)) room₀ → last ≡ laid (bytesOf f wide (getD ws i d)) (midOf at (len - at) room)
+      → putMid at (len - at) room last ≡ putBytes f wide ws (i + 1) ++ drop (length (putBytes f wide ws (i + 1))) room₀
   put-more room₀ room last at len ea fits el e laid-there =
-      let word = bytesOf wide (getD ws i d) in
-      let size = bytes-length wide (getD ws i d) right in
+      let word = bytesOf f wide (getD ws i d) in
+      let size = bytes-length f wide (getD ws i d) right in
       let there : last ≡ laid word (midOf at (length room - at) room) = rw el at laid-there in
-      rw (el, put-next wide ws i d h) (laid-on (putBytes wide ws i) word room₀ room last at ea (omega (arith, width-small wide)) e there)
+      rw (el, put-next f wide ws i d h) (laid-on (putBytes f wide ws i) word room₀ room last at ea (omega (arith, width-small wide)) e there)
 
 pub room-size : length (replicate {A = ℕ} 771 0) ≡ 771
 room-size = length-replicate {A = ℕ} 771 0
@@ -182,9 +185,9 @@ star-small wide = rw (star-length wide) (start-small wide)
 pub star-fits : (wide : Bool) → length (starBytes wide) ≤ length (replicate {A = ℕ} 771 0)
 star-fits wide = omega (arith, star-small wide, room-size)
 
-pub put-none : (wide : Bool) (ws : List Word) → putBytes wide ws 0 ≡ starBytes wide
+pub put-none : (f : Family) (wide : Bool) (ws : List Word) → putBytes f wide ws 0 ≡ starBytes wide
 unfolding wordsBytes
-put-none wide ws = append-nil (starBytes wide)
+put-none f wide ws = append-nil (starBytes wide)
 
 -- a byte more, of what is laid in the room
 pub set-laid : (done room bytes : List ℕ) (a v : ℕ) → a ≡ length done → a < length room → bytes ≡ laid done room → set bytes a v ≡ laid (done ++ (v ∷ [])) room

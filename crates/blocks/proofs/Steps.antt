@@ -12,6 +12,7 @@ use lib.ListN.{length, getD, set, take, drop, length-drop, drop-of-length-le, ta
 use lib.Seq.{getD-drop, drop-drop, drop-set-lt, take-suc-set, length-take-le}
 use Rattle.words.specs.Records.{width, blank}
 use Rattle.words.specs.Reading.{wordSize, wordOf}
+use Rattle.units.specs.declared.kinds.Family.{Family}
 use Rattle.words.specs.declared.records.Word.{Word}
 use Rattle.words.specs.declared.reading.Fault.the-variants.{Short}
 use Rattle.words.specs.declared.reading.Judged as one
@@ -56,21 +57,22 @@ ended-by wide at s n t e = rw (drop-drop 1 at s, e)
 
 -- what a step finds
 
-module _ (wide : Bool) (places n at : ℕ) (rest : List ℕ) where
-  pub next-ends : isAt 13 rest ≡ true → nextOf wide places n at rest ≡ record { next = Ends; word = blank }
+module _ (f : Family) (wide : Bool) (places n at : ℕ) (rest : List ℕ) where
+  pub next-ends : isAt 13 rest ≡ true → nextOf f wide places n at rest ≡ record { next = Ends; word = blank }
   next-ends e = rw e
 
   module _ (e : isAt 13 rest ≡ false) where
-    pub next-full : 32 ≤ n → nextOf wide places n at rest ≡ stopsBy (NoEnd at)
+    pub next-full : 32 ≤ n → nextOf f wide places n at rest ≡ stopsBy (NoEnd at)
     next-full h = rw (e, le-leb 32 n h)
 
-    pub next-short : n < 32 → length rest < wordSize wide → nextOf wide places n at rest ≡ stopsBy (Wrong Short at)
+    pub next-short : n < 32 → length rest < wordSize wide → nextOf f wide places n at rest ≡ stopsBy (Wrong Short at)
     next-short h hl = rw (e, lt-leb 32 n h, lt-ltb (length rest) (wordSize wide) hl)
 
-    pub next-no-place : n < 32 → wordSize wide ≤ length rest → places ≤ n → nextOf wide places n at rest ≡ stopsBy (NoPlace at)
+    pub next-no-place : n < 32 → wordSize wide ≤ length rest → places ≤ n → nextOf f wide places n at rest ≡ stopsBy (NoPlace at)
     next-no-place h hl hp = rw (e, lt-leb 32 n h, le-ltb (length rest) (wordSize wide) hl, le-leb places n hp)
 
-    pub next-word : n < 32 → wordSize wide ≤ length rest → n < places → nextOf wide places n at rest ≡ stepOf at (wordOf wide rest) (wordOf wide rest .answer)
+    pub next-word : n < 32 → wordSize wide ≤ length rest → n < places
+        → nextOf f wide places n at rest ≡ stepOf at (wordOf f wide rest) (wordOf f wide rest .answer)
     next-word h hl hp = rw (e, lt-leb 32 n h, le-ltb (length rest) (wordSize wide) hl, lt-leb places n hp)
 
 -- what the block is after a step
@@ -97,46 +99,46 @@ went-more false false true ended more r s at o a = refl
 went-more false false false ended more r s at o one.Judged.Right = refl
 went-more false false false ended more r s at o (one.Judged.Wrong fault) = refl
 
-module _ (wide : Bool) (places n at : ℕ) (rest : List ℕ) (ws : List Word) (h : n ≤ 32) (hn : length ws ≡ n) where
+module _ (f : Family) (wide : Bool) (places n at : ℕ) (rest : List ℕ) (ws : List Word) (h : n ≤ 32) (hn : length ws ≡ n) where
   abbrev pub done : Judgement
   done = record { answer = endedAt wide at rest n; words = ws }
 
   abbrev pub further : Word → Judgement
-  further w = blockFrom (32 - (n + 1)) wide places (at + wordSize wide) (drop (wordSize wide) rest) (ws ++ (w ∷ []))
+  further w = blockFrom f (32 - (n + 1)) wide places (at + wordSize wide) (drop (wordSize wide) rest) (ws ++ (w ∷ []))
 
   -- the walk's order is the step's
-  pub block-walk : blockFrom (32 - n) wide places at rest ws ≡ went done further (nextOf wide places n at rest)
+  pub block-walk : blockFrom f (32 - n) wide places at rest ws ≡ went done further (nextOf f wide places n at rest)
   unfolding blockFrom
   block-walk = go (32 - n) refl
     where
-      go : (m : ℕ) → 32 - n ≡ m → blockFrom m wide places at rest ws ≡ went done further (nextOf wide places n at rest)
+      go : (m : ℕ) → 32 - n ≡ m → blockFrom f m wide places at rest ws ≡ went done further (nextOf f wide places n at rest)
       go zero e = rw (hn, le-leb 32 n (omega arith)) (went-last (isAt 13 rest) done further (NoEnd at))
       go (suc m) e =
           let left : 32 - (n + 1) ≡ m = omega arith in
           rw (hn, lt-leb 32 n (omega arith), ← left)
           (went-more (isAt 13 rest) (ltb (length rest) (wordSize wide)) (leb places n) done further (Wrong Short at) (NoPlace at) at
-          (wordOf wide rest) (wordOf wide rest .answer))
+          (wordOf f wide rest) (wordOf f wide rest .answer))
 
-  module _ (r : Stepped) (found : r ≡ nextOf wide places n at rest) where
-    walked : blockFrom (32 - n) wide places at rest ws ≡ went done further r
+  module _ (r : Stepped) (found : r ≡ nextOf f wide places n at rest) where
+    walked : blockFrom f (32 - n) wide places at rest ws ≡ went done further r
     walked = block-walk ∙ sym (ap (went done further) found)
 
-    pub walk-ends : r .next ≡ Ends → blockFrom (32 - n) wide places at rest ws ≡ record { answer = endedAt wide at rest n; words = ws }
+    pub walk-ends : r .next ≡ Ends → blockFrom f (32 - n) wide places at rest ws ≡ record { answer = endedAt wide at rest n; words = ws }
     walk-ends e = walked ∙ rw e
 
-    pub walk-stops : (refusal : Refusal) → r .next ≡ Stops refusal → blockFrom (32 - n) wide places at rest ws ≡ refusedBy refusal
+    pub walk-stops : (refusal : Refusal) → r .next ≡ Stops refusal → blockFrom f (32 - n) wide places at rest ws ≡ refusedBy refusal
     walk-stops refusal e = walked ∙ rw e
 
     pub walk-goes : r .next ≡ Goes
-        → blockFrom (32 - n) wide places at rest ws
-        ≡ blockFrom (32 - (n + 1)) wide places (at + wordSize wide) (drop (wordSize wide) rest) (ws ++ (r .word ∷ []))
+        → blockFrom f (32 - n) wide places at rest ws
+        ≡ blockFrom f (32 - (n + 1)) wide places (at + wordSize wide) (drop (wordSize wide) rest) (ws ++ (r .word ∷ []))
     walk-goes e = walked ∙ rw e
 
 -- the same as the walk goes: a list of which n records are kept, and a place that moves by size
-pub walk-on : (m n at size : ℕ) (wide : Bool) (places : ℕ) (s : List ℕ) (words : List Word) (w : Word) → n < length words → size ≡ wordSize wide
-    → blockFrom m wide places (at + wordSize wide) (drop (wordSize wide) (drop at s)) (take n words ++ (w ∷ []))
-    ≡ blockFrom m wide places (at + size) (drop (at + size) s) (take (n + 1) (set words n w))
-walk-on m n at size wide places s words w h e = rw (e, drop-drop (wordSize wide) at s, add-one n, take-suc-set words n w h)
+pub walk-on : (f : Family) (m n at size : ℕ) (wide : Bool) (places : ℕ) (s : List ℕ) (words : List Word) (w : Word) → n < length words → size ≡ wordSize wide
+    → blockFrom f m wide places (at + wordSize wide) (drop (wordSize wide) (drop at s)) (take n words ++ (w ∷ []))
+    ≡ blockFrom f m wide places (at + size) (drop (at + size) s) (take (n + 1) (set words n w))
+walk-on f m n at size wide places s words w h e = rw (e, drop-drop (wordSize wide) at s, add-one n, take-suc-set words n w h)
 
 -- what a step that found the end, or a word, tells of its place
 
@@ -159,19 +161,19 @@ gone-told false true v x at o a e = apart cc
 gone-told false false true x at o a e = apart cc
 gone-told false false false x at o a e = (refl, refl)
 
-module _ (wide : Bool) (places n at : ℕ) (s : List ℕ) (r : Stepped) (found : r ≡ nextOf wide places n at (drop at s)) where
+module _ (f : Family) (wide : Bool) (places n at : ℕ) (s : List ℕ) (r : Stepped) (found : r ≡ nextOf f wide places n at (drop at s)) where
   pub ends-inside : r .next ≡ Ends → at < length s
   ends-inside e =
       let rest = drop at s in
-      let next : nextOf wide places n at rest .next ≡ Ends = rw found at e in
-      let w = wordOf wide rest in
+      let next : nextOf f wide places n at rest .next ≡ Ends = rw found at e in
+      let w = wordOf f wide rest in
       is-inside 13 s at (ended-told (isAt 13 rest) (leb 32 n) (ltb (length rest) (wordSize wide)) (leb places n) at w (w .answer) next)
 
   pub goes-inside : at ≤ length s → r .next ≡ Goes → (n < 32) × (at + wordSize wide ≤ length s)
   goes-inside h e =
       let rest = drop at s in
-      let next : nextOf wide places n at rest .next ≡ Goes = rw found at e in
-      let w = wordOf wide rest in
+      let next : nextOf f wide places n at rest .next ≡ Goes = rw found at e in
+      let w = wordOf f wide rest in
       let told = gone-told (isAt 13 rest) (leb 32 n) (ltb (length rest) (wordSize wide)) (leb places n) at w (w .answer) next in
       (leb-false 32 n (told .0), omega (arith, ltb-false (length rest) (wordSize wide) (told .1), length-drop at s))
 
@@ -199,13 +201,13 @@ pub start-small : (wide : Bool) → firstAt wide ≤ 1
 start-small true = omega arith
 start-small false = omega arith
 
-module _ (s : List ℕ) (places : ℕ) where
-  pub judged-empty : length s ≡ 0 → judged s places ≡ refusedBy Empty
+module _ (f : Family) (s : List ℕ) (places : ℕ) where
+  pub judged-empty : length s ≡ 0 → judged f s places ≡ refusedBy Empty
   judged-empty e = rw (eq-eqb (length s) 0 e)
 
   module _ (start : ℕ) (some : length s ≡ 0 → ⊥) (e : start ≡ firstAt (isWide s)) where
-    pub judged-no-word : isAt 13 (drop start s) ≡ true → judged s places ≡ refusedBy NoWord
+    pub judged-no-word : isAt 13 (drop start s) ≡ true → judged f s places ≡ refusedBy NoWord
     judged-no-word h = rw (ne-eqb (length s) 0 some, ← e, h)
 
-    pub judged-words : isAt 13 (drop start s) ≡ false → judged s places ≡ blockFrom 32 (isWide s) places start (drop start s) []
+    pub judged-words : isAt 13 (drop start s) ≡ false → judged f s places ≡ blockFrom f 32 (isWide s) places start (drop start s) []
     judged-words h = rw (ne-eqb (length s) 0 some, ← e, h)

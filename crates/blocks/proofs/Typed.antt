@@ -11,6 +11,7 @@ use lib.Seq.{drop-at, drop-drop}
 use Rattle.words.specs.Records.{blank, isRight, typedOf}
 use Rattle.words.specs.Reading.{wordSize, valueIn, wordOf, rightWord}
 use Rattle.words.specs.Writing.{bytesOf}
+use Rattle.units.specs.declared.kinds.Family.{Family}
 use Rattle.units.specs.declared.counts.Valued.the-variants.{Counted}
 use Rattle.words.specs.declared.records.Word.{Word}
 use Rattle.words.proofs.RoundTrip.{write-read, bytes-length}
@@ -28,39 +29,39 @@ drop-past : (p q : List ℕ) (n m : ℕ) → length p ≡ n → drop (n + m) (p 
 drop-past p q n m e = rw (← drop-drop m n (p ++ q), drop-at p q n e)
 
 -- the words one after the other: where the k-th starts, it is read
-word-at : (wide : Bool) (ws : List Word) (k : ℕ) (rest : List ℕ) → rightAll wide ws ≡ true → k < length ws
-    → wordOf wide (drop (k * wordSize wide) (wordsBytes wide ws ++ rest)) ≡ rightWord (getD ws k blank)
+word-at : (f : Family) (wide : Bool) (ws : List Word) (k : ℕ) (rest : List ℕ) → rightAll f wide ws ≡ true → k < length ws
+    → wordOf f wide (drop (k * wordSize wide) (wordsBytes f wide ws ++ rest)) ≡ rightWord (getD ws k blank)
 unfolding wordsBytes rightAll
-word-at wide [] k rest right h = absurd (omega arith)
-word-at wide (w ∷ ws) zero rest right h =
-    let later = wordsBytes wide ws ++ rest in
-    let parts = and-eq-true-iff (isRight wide w) (rightAll wide ws) .0 right in
-    let is : drop (0 * wordSize wide) ((bytesOf wide w ++ wordsBytes wide ws) ++ rest) ≡ bytesOf wide w ++ later =
-    rw (zero-mul (wordSize wide), append-assoc (bytesOf wide w) (wordsBytes wide ws) rest) in
-    ap (wordOf wide) is ∙ write-read wide w later (parts .0)
-word-at wide (w ∷ ws) (suc k) rest right h =
+word-at f wide [] k rest right h = absurd (omega arith)
+word-at f wide (w ∷ ws) zero rest right h =
+    let later = wordsBytes f wide ws ++ rest in
+    let parts = and-eq-true-iff (isRight f wide w) (rightAll f wide ws) .0 right in
+    let is : drop (0 * wordSize wide) ((bytesOf f wide w ++ wordsBytes f wide ws) ++ rest) ≡ bytesOf f wide w ++ later =
+    rw (zero-mul (wordSize wide), append-assoc (bytesOf f wide w) (wordsBytes f wide ws) rest) in
+    ap (wordOf f wide) is ∙ write-read f wide w later (parts .0)
+word-at f wide (w ∷ ws) (suc k) rest right h =
     let size = wordSize wide in
-    let later = wordsBytes wide ws ++ rest in
-    let parts = and-eq-true-iff (isRight wide w) (rightAll wide ws) .0 right in
+    let later = wordsBytes f wide ws ++ rest in
+    let parts = and-eq-true-iff (isRight f wide w) (rightAll f wide ws) .0 right in
     let next : suc k * size ≡ size + k * size = omega (arith, suc-mul k size) in
-    let is : drop (suc k * size) ((bytesOf wide w ++ wordsBytes wide ws) ++ rest) ≡ drop (k * size) later =
-    rw (append-assoc (bytesOf wide w) (wordsBytes wide ws) rest, next)
-    (drop-past (bytesOf wide w) later size (k * size) (bytes-length wide w (parts .0))) in
-    ap (wordOf wide) is ∙ word-at wide ws k rest (parts .1) (omega arith)
+    let is : drop (suc k * size) ((bytesOf f wide w ++ wordsBytes f wide ws) ++ rest) ≡ drop (k * size) later =
+    rw (append-assoc (bytesOf f wide w) (wordsBytes f wide ws) rest, next)
+    (drop-past (bytesOf f wide w) later size (k * size) (bytes-length f wide w (parts .0))) in
+    ap (wordOf f wide) is ∙ word-at f wide ws k rest (parts .1) (omega arith)
 
 -- each record is what its word's bytes in the input give
-pub block-words : (s : List ℕ) (places : ℕ) (r : Reading) (ws : List Word) → judged s places ≡ readAs r ws → (k : ℕ) → k < length ws
-    → wordOf (r .wide) (drop (firstAt (r .wide) + k * wordSize (r .wide)) s) ≡ rightWord (getD ws k blank)
-block-words s places r ws e k h =
+pub block-words : (f : Family) (s : List ℕ) (places : ℕ) (r : Reading) (ws : List Word) → judged f s places ≡ readAs r ws → (k : ℕ) → k < length ws
+    → wordOf f (r .wide) (drop (firstAt (r .wide) + k * wordSize (r .wide)) s) ≡ rightWord (getD ws k blank)
+block-words f s places r ws e k h =
     let wide = r .wide in
-    let ruled = read-ruled s places r ws e .0 in
+    let ruled = read-ruled f s places r ws e .0 in
     let rest = endBytes (r .crlf) ++ drop (r .used) s in
-    let is : s ≡ starBytes wide ++ (wordsBytes wide ws ++ rest) = ruled .bytes ∙ simp append-assoc in
-    ap (λ t. wordOf wide (drop (firstAt wide + k * wordSize wide) t)) is
-    ∙ ap (wordOf wide) (drop-past (starBytes wide) (wordsBytes wide ws ++ rest) (firstAt wide) (k * wordSize wide) (star-length wide))
-    ∙ word-at wide ws k rest (ruled .lawful .right) h
+    let is : s ≡ starBytes wide ++ (wordsBytes f wide ws ++ rest) = ruled .bytes ∙ simp append-assoc in
+    ap (λ t. wordOf f wide (drop (firstAt wide + k * wordSize wide) t)) is
+    ∙ ap (wordOf f wide) (drop-past (starBytes wide) (wordsBytes f wide ws ++ rest) (firstAt wide) (k * wordSize wide) (star-length wide))
+    ∙ word-at f wide ws k rest (ruled .lawful .right) h
 
-pub block-typed : (s : List ℕ) (places : ℕ) (r : Reading) (ws : List Word) → judged s places ≡ readAs r ws → (k : ℕ) → k < length ws
-    → valueIn (r .wide) (drop (firstAt (r .wide) + k * wordSize (r .wide)) s) ≡ Counted (typedOf (getD ws k blank))
-block-typed s places r ws e k h =
-    given-typed (r .wide) (drop (firstAt (r .wide) + k * wordSize (r .wide)) s) (getD ws k blank) (block-words s places r ws e k h)
+pub block-typed : (f : Family) (s : List ℕ) (places : ℕ) (r : Reading) (ws : List Word) → judged f s places ≡ readAs r ws → (k : ℕ) → k < length ws
+    → valueIn f (r .wide) (drop (firstAt (r .wide) + k * wordSize (r .wide)) s) ≡ Counted (typedOf f (getD ws k blank))
+block-typed f s places r ws e k h =
+    given-typed f (r .wide) (drop (firstAt (r .wide) + k * wordSize (r .wide)) s) (getD ws k blank) (block-words f s places r ws e k h)

@@ -14,6 +14,7 @@ use Rattle.figures.proofs.Bytes.{within-bounds, laid-fits}
 use Rattle.words.specs.Records.{isRight}
 use Rattle.words.specs.Reading.{wordSize, wordOf, rightWord}
 use Rattle.words.specs.Writing.{bytesOf}
+use Rattle.units.specs.declared.kinds.Family.{Family}
 use Rattle.words.specs.declared.records.Word.{Word}
 use Rattle.words.specs.declared.reading.OneWord.{OneWord}
 use Rattle.words.proofs.RoundTrip.{write-read, bytes-length, first-written}
@@ -42,82 +43,84 @@ no-end : (s : List ℕ) → isDigit (getD s 0 0) ≡ true → isAt 13 s ≡ fals
 no-end s e = rw (lt-ltb 0 (length s) (digit-some s e), digit-not s 13 e (omega arith))
 
 -- a step of the walk through a block, at a word
-goes : (more : ℕ) (wide : Bool) (places at : ℕ) (s rest : List ℕ) (done : List Word) (w : Word) → isAt 13 s ≡ false
-    → wordSize wide ≤ length s → length done < places → wordOf wide s ≡ rightWord w → drop (wordSize wide) s ≡ rest
-    → blockFrom (suc more) wide places at s done ≡ blockFrom more wide places (at + wordSize wide) rest (done ++ (w ∷ []))
+goes : (f : Family) (more : ℕ) (wide : Bool) (places at : ℕ) (s rest : List ℕ) (done : List Word) (w : Word) → isAt 13 s ≡ false
+    → wordSize wide ≤ length s → length done < places → wordOf f wide s ≡ rightWord w → drop (wordSize wide) s ≡ rest
+    → blockFrom f (suc more) wide places at s done ≡ blockFrom f more wide places (at + wordSize wide) rest (done ++ (w ∷ []))
 unfolding blockFrom
-goes more wide places at s rest done w first long free e d =
+goes f more wide places at s rest done w first long free e d =
     let answer = ap (λ (o : OneWord). o .answer) e in
     let word = ap (λ (o : OneWord). o .word) e in
     rw (first, le-ltb (length s) (wordSize wide) long, lt-leb places (length done) free, answer, word, d)
 
 -- and at the end
-ends : (more : ℕ) (wide crlf : Bool) (places at : ℕ) (rest : List ℕ) (done : List Word) → (crlf ≡ false → isAt 10 rest ≡ false)
-    → blockFrom more wide places at (endBytes crlf ++ rest) done
+ends : (f : Family) (more : ℕ) (wide crlf : Bool) (places at : ℕ) (rest : List ℕ) (done : List Word) → (crlf ≡ false → isAt 10 rest ≡ false)
+    → blockFrom f more wide places at (endBytes crlf ++ rest) done
     ≡ readAs (record { wide = wide; crlf = crlf; words = length done; used = at + length (endBytes crlf) }) done
 unfolding blockFrom
-ends zero wide true places at rest done h = rw (at-first 13 (10 ∷ rest), at-first 10 rest)
-ends (suc more) wide true places at rest done h = rw (at-first 13 (10 ∷ rest), at-first 10 rest)
-ends zero wide false places at rest done h = rw (at-first 13 rest, h refl)
-ends (suc more) wide false places at rest done h = rw (at-first 13 rest, h refl)
+ends f zero wide true places at rest done h = rw (at-first 13 (10 ∷ rest), at-first 10 rest)
+ends f (suc more) wide true places at rest done h = rw (at-first 13 (10 ∷ rest), at-first 10 rest)
+ends f zero wide false places at rest done h = rw (at-first 13 rest, h refl)
+ends f (suc more) wide false places at rest done h = rw (at-first 13 rest, h refl)
 
 -- the walk through the bytes of the words that are still to come
-from-written : (more : ℕ) (wide crlf : Bool) (places at : ℕ) (rest : List ℕ) (done ws : List Word) → length ws ≤ more → length done + length ws ≤ places
-    → rightAll wide ws ≡ true → (crlf ≡ false → isAt 10 rest ≡ false)
-    → blockFrom more wide places at (wordsBytes wide ws ++ (endBytes crlf ++ rest)) done
-    ≡ readAs (record { wide = wide; crlf = crlf; words = length (done ++ ws); used = at + length (wordsBytes wide ws ++ endBytes crlf) }) (done ++ ws)
+from-written : (f : Family) (more : ℕ) (wide crlf : Bool) (places at : ℕ) (rest : List ℕ) (done ws : List Word) → length ws ≤ more
+    → length done + length ws ≤ places
+    → rightAll f wide ws ≡ true → (crlf ≡ false → isAt 10 rest ≡ false)
+    → blockFrom f more wide places at (wordsBytes f wide ws ++ (endBytes crlf ++ rest)) done
+    ≡ readAs (record { wide = wide; crlf = crlf; words = length (done ++ ws); used = at + length (wordsBytes f wide ws ++ endBytes crlf) }) (done ++ ws)
 unfolding rightAll wordsBytes
-from-written more wide crlf places at rest done [] most placed right h = rw append-nil (ends more wide crlf places at rest done h)
-from-written zero wide crlf places at rest done (w ∷ ws) most placed right h = absurd (omega arith)
-from-written (suc more) wide crlf places at rest done (w ∷ ws) most placed right h =
+from-written f more wide crlf places at rest done [] most placed right h = rw append-nil (ends f more wide crlf places at rest done h)
+from-written f zero wide crlf places at rest done (w ∷ ws) most placed right h = absurd (omega arith)
+from-written f (suc more) wide crlf places at rest done (w ∷ ws) most placed right h =
     let k = wordSize wide in
-    let parts = and-eq-true-iff (isRight wide w) (rightAll wide ws) .0 right in
-    let size = bytes-length wide w (parts .0) in
-    let word = bytesOf wide w in
-    let words = wordsBytes wide ws in
+    let parts = and-eq-true-iff (isRight f wide w) (rightAll f wide ws) .0 right in
+    let size = bytes-length f wide w (parts .0) in
+    let word = bytesOf f wide w in
+    let words = wordsBytes f wide ws in
     let end = endBytes crlf in
     let tail = words ++ (end ++ rest) in
     let is : (word ++ words) ++ (end ++ rest) ≡ word ++ tail = append-assoc word words (end ++ rest) in
     let whole : at + k + length (words ++ end) ≡ at + length ((word ++ words) ++ end) =
     omega (arith, length-append (word ++ words) end, length-append word words, length-append words end) in
     let list : (done ++ (w ∷ [])) ++ ws ≡ done ++ (w ∷ ws) = append-assoc done (w ∷ []) ws in
-    ap (λ s. blockFrom (suc more) wide places at s done) is
-    ∙ goes more wide places at (word ++ tail) tail done w (no-end (word ++ tail) (first-written wide w tail (parts .0)))
-    (omega (arith, length-append word tail)) (omega arith) (write-read wide w tail (parts .0)) (drop-at word tail k size)
-    ∙ from-written more wide crlf places (at + k) rest (done ++ (w ∷ [])) ws (omega arith) (omega (arith, length-append done (w ∷ []))) (parts .1) h
+    ap (λ s. blockFrom f (suc more) wide places at s done) is
+    ∙ goes f more wide places at (word ++ tail) tail done w (no-end (word ++ tail) (first-written f wide w tail (parts .0)))
+    (omega (arith, length-append word tail)) (omega arith) (write-read f wide w tail (parts .0)) (drop-at word tail k size)
+    ∙ from-written f more wide crlf places (at + k) rest (done ++ (w ∷ [])) ws (omega arith) (omega (arith, length-append done (w ∷ []))) (parts .1) h
     ∙ rw (whole, list)
 
-words-digit : (wide : Bool) (ws : List Word) (rest : List ℕ) → Lawful wide ws → isDigit (getD (wordsBytes wide ws ++ rest) 0 0) ≡ true
+words-digit : (f : Family) (wide : Bool) (ws : List Word) (rest : List ℕ) → Lawful f wide ws → isDigit (getD (wordsBytes f wide ws ++ rest) 0 0) ≡ true
 unfolding wordsBytes rightAll
-words-digit wide [] rest l = absurd (omega arith)
-words-digit wide (w ∷ ws) rest l =
-    rw (append-assoc (bytesOf wide w) (wordsBytes wide ws) rest)
-    (first-written wide w (wordsBytes wide ws ++ rest) (and-eq-true-iff (isRight wide w) (rightAll wide ws) .0 (l .right) .0))
+words-digit f wide [] rest l = absurd (omega arith)
+words-digit f wide (w ∷ ws) rest l =
+    rw (append-assoc (bytesOf f wide w) (wordsBytes f wide ws) rest)
+    (first-written f wide w (wordsBytes f wide ws ++ rest) (and-eq-true-iff (isRight f wide w) (rightAll f wide ws) .0 (l .right) .0))
 
 star-wide : (wide : Bool) (t : List ℕ) → isDigit (getD t 0 0) ≡ true → isWide (starBytes wide ++ t) ≡ wide
 star-wide true t e = refl
 star-wide false t e = digit-not t 42 e (omega arith)
 
 -- past `*`, where the words begin
-opens : (wide : Bool) (t : List ℕ) (places : ℕ) → isDigit (getD t 0 0) ≡ true
-    → judged (starBytes wide ++ t) places ≡ blockFrom 32 wide places (firstAt wide) t []
-opens wide t places e =
+opens : (f : Family) (wide : Bool) (t : List ℕ) (places : ℕ) → isDigit (getD t 0 0) ≡ true
+    → judged f (starBytes wide ++ t) places ≡ blockFrom f 32 wide places (firstAt wide) t []
+opens f wide t places e =
     let s = starBytes wide ++ t in
     let some : eqb (length s) 0 ≡ false = ne-eqb (length s) 0 (λ q. omega (arith, length-append (starBytes wide) t, digit-some t e)) in
     let from : drop (firstAt wide) s ≡ t = drop-at (starBytes wide) t (firstAt wide) (star-length wide) in
     rw (some, star-wide wide t e, from, no-end t e)
 
 -- a block reads back to its records, whatever comes after it; but an LF after a lone CR would be the block's own
-pub block-read : (wide crlf : Bool) (ws : List Word) (rest : List ℕ) (places : ℕ) → Lawful wide ws → length ws ≤ places → (crlf ≡ false → isAt 10 rest ≡ false)
-    → judged (blockBytes wide crlf ws ++ rest) places ≡ readAs (readingOf wide crlf ws) ws
-block-read wide crlf ws rest places l placed h =
-    let t = wordsBytes wide ws ++ (endBytes crlf ++ rest) in
-    let is : blockBytes wide crlf ws ++ rest ≡ starBytes wide ++ t = simp append-assoc in
-    let used : firstAt wide + length (wordsBytes wide ws ++ endBytes crlf) ≡ length (blockBytes wide crlf ws) =
-    omega (arith, star-length wide, length-append (starBytes wide) (wordsBytes wide ws ++ endBytes crlf)) in
-    ap (λ s. judged s places) is
-    ∙ opens wide t places (words-digit wide ws (endBytes crlf ++ rest) l)
-    ∙ from-written 32 wide crlf places (firstAt wide) rest [] ws (l .most) (omega arith) (l .right) h
+pub block-read : (f : Family) (wide crlf : Bool) (ws : List Word) (rest : List ℕ) (places : ℕ) → Lawful f wide ws → length ws ≤ places
+    → (crlf ≡ false → isAt 10 rest ≡ false)
+    → judged f (blockBytes f wide crlf ws ++ rest) places ≡ readAs (readingOf f wide crlf ws) ws
+block-read f wide crlf ws rest places l placed h =
+    let t = wordsBytes f wide ws ++ (endBytes crlf ++ rest) in
+    let is : blockBytes f wide crlf ws ++ rest ≡ starBytes wide ++ t = simp append-assoc in
+    let used : firstAt wide + length (wordsBytes f wide ws ++ endBytes crlf) ≡ length (blockBytes f wide crlf ws) =
+    omega (arith, star-length wide, length-append (starBytes wide) (wordsBytes f wide ws ++ endBytes crlf)) in
+    ap (λ s. judged f s places) is
+    ∙ opens f wide t places (words-digit f wide ws (endBytes crlf ++ rest) l)
+    ∙ from-written f 32 wide crlf places (firstAt wide) rest [] ws (l .most) (omega arith) (l .right) h
     ∙ rw used
 
 -- what the writer takes
@@ -136,44 +139,44 @@ take-written : (b : Bool) (f : Refusal) (n : ℕ) (v : Written·room) (room room
 take-written true f n v room room′ e = absurd (not-written f n room room′ e)
 take-written false f n v room room′ e = (refl, e)
 
-right-written : {A : Type 0} (wide : Bool) (i : ℕ) (ws : List Word) (wrong : ℕ → A) (next v : A) → ((j : ℕ) → wrong j ≡ v → ⊥)
-    → unlessWrong wide i ws wrong next ≡ v → (rightAll wide ws ≡ true) × (next ≡ v)
+right-written : (f : Family) {A : Type 0} (wide : Bool) (i : ℕ) (ws : List Word) (wrong : ℕ → A) (next v : A) → ((j : ℕ) → wrong j ≡ v → ⊥)
+    → unlessWrong f wide i ws wrong next ≡ v → (rightAll f wide ws ≡ true) × (next ≡ v)
 unfolding unlessWrong rightAll
-right-written wide i [] wrong next v h e = (refl, e)
-right-written wide i (w ∷ ws) wrong next v h e = go (isRight wide w) refl (right-written wide (i + 1) ws wrong next v h) e
+right-written f wide i [] wrong next v h e = (refl, e)
+right-written f wide i (w ∷ ws) wrong next v h e = go (isRight f wide w) refl (right-written f wide (i + 1) ws wrong next v h) e
   where
-    go : (b : Bool) → isRight wide w ≡ b → (unlessWrong wide (i + 1) ws wrong next ≡ v → (rightAll wide ws ≡ true) × (next ≡ v))
-        → cond b (unlessWrong wide (i + 1) ws wrong next) (wrong i) ≡ v → (isRight wide w && rightAll wide ws ≡ true) × (next ≡ v)
+    go : (b : Bool) → isRight f wide w ≡ b → (unlessWrong f wide (i + 1) ws wrong next ≡ v → (rightAll f wide ws ≡ true) × (next ≡ v))
+        → cond b (unlessWrong f wide (i + 1) ws wrong next) (wrong i) ≡ v → (isRight f wide w && rightAll f wide ws ≡ true) × (next ≡ v)
     go true q ih d = (rw q (ih d .0), ih d .1)
     go false q ih d = absurd (h i d)
 
-unless-right : {A : Type 0} (wide : Bool) (i : ℕ) (ws : List Word) (wrong : ℕ → A) (next : A) → rightAll wide ws ≡ true
-    → unlessWrong wide i ws wrong next ≡ next
+unless-right : (f : Family) {A : Type 0} (wide : Bool) (i : ℕ) (ws : List Word) (wrong : ℕ → A) (next : A) → rightAll f wide ws ≡ true
+    → unlessWrong f wide i ws wrong next ≡ next
 unfolding unlessWrong rightAll
-unless-right wide i [] wrong next e = refl
-unless-right wide i (w ∷ ws) wrong next e =
-    let parts = and-eq-true-iff (isRight wide w) (rightAll wide ws) .0 e in
-    rw (parts .0) (unless-right wide (i + 1) ws wrong next (parts .1))
+unless-right f wide i [] wrong next e = refl
+unless-right f wide i (w ∷ ws) wrong next e =
+    let parts = and-eq-true-iff (isRight f wide w) (rightAll f wide ws) .0 e in
+    rw (parts .0) (unless-right f wide (i + 1) ws wrong next (parts .1))
 
 -- what it says of a list that it is written
-pub record Taken (ws : List Word) (wide crlf : Bool) (room : List ℕ) (n : ℕ) (room′ : List ℕ) : Type 0 where
-  pub lawful : Lawful wide ws
-  pub size : n ≡ length (blockBytes wide crlf ws)
-  pub fits : length (blockBytes wide crlf ws) ≤ length room
-  pub laid-down : room′ ≡ laid (blockBytes wide crlf ws) room
+pub record Taken (f : Family) (ws : List Word) (wide crlf : Bool) (room : List ℕ) (n : ℕ) (room′ : List ℕ) : Type 0 where
+  pub lawful : Lawful f wide ws
+  pub size : n ≡ length (blockBytes f wide crlf ws)
+  pub fits : length (blockBytes f wide crlf ws) ≤ length room
+  pub laid-down : room′ ≡ laid (blockBytes f wide crlf ws) room
 
 neither : (a b : Bool) → a || b ≡ false → (a ≡ false) × (b ≡ false)
 neither true b e = absurd (false≢true (sym e))
 neither false b e = (refl, e)
 
-pub written-lawful : (ws : List Word) (wide crlf : Bool) (room : List ℕ) (n : ℕ) (room′ : List ℕ) → written ws wide crlf room ≡ writtenAs n room′
-    → Taken ws wide crlf room n room′
-written-lawful ws wide crlf room n room′ e =
-    let bytes = blockBytes wide crlf ws in
+pub written-lawful : (f : Family) (ws : List Word) (wide crlf : Bool) (room : List ℕ) (n : ℕ) (room′ : List ℕ) → written f ws wide crlf room ≡ writtenAs n room′
+    → Taken f ws wide crlf room n room′
+written-lawful f ws wide crlf room n room′ e =
+    let bytes = blockBytes f wide crlf ws in
     let v : Written·room = writtenAs n room′ in
     let count = take-written (eqb (length ws) 0 || ltb 32 (length ws)) Count n _ room room′ e in
     let right =
-    right-written wide 0 ws (λ i. refusedRoom room (Record i)) (blockInRoom bytes room) v (λ i. not-written (Record i) n room room′) (count .1) in
+    right-written f wide 0 ws (λ i. refusedRoom room (Record i)) (blockInRoom bytes room) v (λ i. not-written (Record i) n room room′) (count .1) in
     let fits = take-written (ltb (length room) (length bytes)) (Room (length bytes)) n _ room room′ (right .1) in
     let (some, most) = neither (eqb (length ws) 0) (ltb 32 (length ws)) (count .0) in
     let size : Written (length bytes) ≡ Written n = ap (λ (x : Written·room). x .answer) (fits .1) in
@@ -185,19 +188,19 @@ written-lawful ws wide crlf room n room′ e =
     }
 
 -- a list that a block can hold is written where there is room for it
-pub lawful-written : (ws : List Word) (wide crlf : Bool) (room : List ℕ) → Lawful wide ws → length (blockBytes wide crlf ws) ≤ length room
-    → written ws wide crlf room ≡ writtenAs (length (blockBytes wide crlf ws)) (laid (blockBytes wide crlf ws) room)
-lawful-written ws wide crlf room l fits =
+pub lawful-written : (f : Family) (ws : List Word) (wide crlf : Bool) (room : List ℕ) → Lawful f wide ws → length (blockBytes f wide crlf ws) ≤ length room
+    → written f ws wide crlf room ≡ writtenAs (length (blockBytes f wide crlf ws)) (laid (blockBytes f wide crlf ws) room)
+lawful-written f ws wide crlf room l fits =
     rw (ne-eqb (length ws) 0 (λ e. omega arith), le-ltb 32 (length ws) (l .most))
-    (unless-right wide 0 ws (λ i. refusedRoom room (Record i)) (blockInRoom (blockBytes wide crlf ws) room) (l .right)
-    ∙ rw (le-ltb (length room) (length (blockBytes wide crlf ws)) fits))
+    (unless-right f wide 0 ws (λ i. refusedRoom room (Record i)) (blockInRoom (blockBytes f wide crlf ws) room) (l .right)
+    ∙ rw (le-ltb (length room) (length (blockBytes f wide crlf ws)) fits))
 
-pub written-read : (ws : List Word) (wide crlf : Bool) (room : List ℕ) (n : ℕ) (room′ : List ℕ) (places : ℕ)
-    → written ws wide crlf room ≡ writtenAs n room′ → length ws ≤ places
-    → judged (take n room′) places ≡ readAs (record { wide = wide; crlf = crlf; words = length ws; used = n }) ws
-written-read ws wide crlf room n room′ places e placed =
-    let bytes = blockBytes wide crlf ws in
-    let t = written-lawful ws wide crlf room n room′ e in
+pub written-read : (f : Family) (ws : List Word) (wide crlf : Bool) (room : List ℕ) (n : ℕ) (room′ : List ℕ) (places : ℕ)
+    → written f ws wide crlf room ≡ writtenAs n room′ → length ws ≤ places
+    → judged f (take n room′) places ≡ readAs (record { wide = wide; crlf = crlf; words = length ws; used = n }) ws
+written-read f ws wide crlf room n room′ places e placed =
+    let bytes = blockBytes f wide crlf ws in
+    let t = written-lawful f ws wide crlf room n room′ e in
     let is : take n room′ ≡ bytes ++ [] =
     ap (take n) (t .laid-down ∙ laid-fits bytes room (t .fits)) ∙ take-at bytes (drop (length bytes) room) n (sym (t .size)) ∙ sym (append-nil bytes) in
-    ap (λ s. judged s places) is ∙ block-read wide crlf ws [] places (t .lawful) placed (λ h. refl) ∙ rw (t .size)
+    ap (λ s. judged f s places) is ∙ block-read f wide crlf ws [] places (t .lawful) placed (λ h. refl) ∙ rw (t .size)

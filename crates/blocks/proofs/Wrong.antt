@@ -14,6 +14,8 @@ use Rattle.words.specs.declared.records.Word.{Word}
 use Rattle.blocks.specs.Judging.{judged, filled, blockFrom}
 use Rattle.blocks.specs.Composing.{blockBytes, Written·room, written, Writes}
 use Rattle.blocks.specs.Lists.{Reads}
+use Rattle.units.specs.declared.kinds.Family.{Family}
+use Rattle.units.specs.declared.kinds.Family.the-variants.{Station, Level}
 use Rattle.blocks.specs.declared.answers.Refusal.{Refusal}
 use Rattle.blocks.specs.declared.answers.Reading.{Reading}
 use Rattle.blocks.specs.declared.answers.Answer.{Answer}
@@ -27,12 +29,12 @@ abbrev pub Reader : Type 0
 Reader = List ℕ → List Word → Answer × List Word
 
 -- it keeps the promise of `read`
-abbrev pub Keeps : Reader → Type 0
-Keeps f = (s : List ℕ) (list : List Word) → Reads s list (f s list .0) (f s list .1)
+abbrev pub Keeps : Family → Reader → Type 0
+Keeps f run = (s : List ℕ) (list : List Word) → Reads f s list (run s list .0) (run s list .1)
 
--- `82..00-00213159 ` and CR, and a list of one place
+-- `83..00-00213159 ` and CR, a block of either family, and a list of one place
 abbrev right : List ℕ
-right = 56 ∷ 50 ∷ 46 ∷ 46 ∷ 48 ∷ 48 ∷ 45 ∷ 48 ∷ 48 ∷ 50 ∷ 49 ∷ 51 ∷ 49 ∷ 53 ∷ 57 ∷ 32 ∷ 13 ∷ []
+right = 56 ∷ 51 ∷ 46 ∷ 46 ∷ 48 ∷ 48 ∷ 45 ∷ 48 ∷ 48 ∷ 50 ∷ 49 ∷ 51 ∷ 49 ∷ 53 ∷ 57 ∷ 32 ∷ 13 ∷ []
 
 abbrev place : List Word
 place = blank ∷ []
@@ -40,117 +42,123 @@ place = blank ∷ []
 abbrev reading : Reading
 reading = record { wide = false; crlf = false; words = 1; used = 17 }
 
-one-word : judged right 1 .answer ≡ Read reading
+one-word : (f : Family) → judged f right 1 .answer ≡ Read reading
 unfolding among every numberFrom blockFrom
-one-word = refl
+one-word Station = refl
+one-word Level = refl
 
 -- one that refuses everything
-pub refuses-all : (f : Reader) → ((s : List ℕ) (list : List Word) → (r : Refusal) × (f s list .0 ≡ Refused r)) → Keeps f → ⊥
-refuses-all f all keeps =
-    let e : f right place .0 ≡ Refused (all right place .0) = all right place .1 in
-    let g : f right place .0 ≡ Read reading = keeps right place .0 ∙ one-word in
+pub refuses-all : (f : Family) (run : Reader) → ((s : List ℕ) (list : List Word) → (r : Refusal) × (run s list .0 ≡ Refused r)) → Keeps f run → ⊥
+refuses-all f run all keeps =
+    let e : run right place .0 ≡ Refused (all right place .0) = all right place .1 in
+    let g : run right place .0 ≡ Read reading = keeps right place .0 ∙ one-word f in
     let z : _≡_ {A = ℕ} 0 1 = cc in
     omega arith
 
 -- one that gives the same answer for all
-pub one-for-all : (f : Reader) (a : Answer) → ((s : List ℕ) (list : List Word) → f s list .0 ≡ a) → Keeps f → ⊥
-one-for-all f a all keeps =
-    let none : judged [] 1 .answer ≡ Refused Refusal.Empty = refl in
+pub one-for-all : (f : Family) (run : Reader) (a : Answer) → ((s : List ℕ) (list : List Word) → run s list .0 ≡ a) → Keeps f run → ⊥
+one-for-all f run a all keeps =
+    let none : judged f [] 1 .answer ≡ Refused Refusal.Empty = refl in
     let e : a ≡ Refused Refusal.Empty = sym (all [] place) ∙ (keeps [] place .0 ∙ none) in
-    let g : a ≡ Read reading = sym (all right place) ∙ (keeps right place .0 ∙ one-word) in
+    let g : a ≡ Read reading = sym (all right place) ∙ (keeps right place .0 ∙ one-word f) in
     let z : _≡_ {A = ℕ} 0 1 = cc in
     omega arith
 
-stored : getD (filled (judged right 1 .words) place) 0 blank .size ≡ 213159
+stored : (f : Family) → getD (filled (judged f right 1 .words) place) 0 blank .size ≡ 213159
 unfolding among every numberFrom blockFrom
-stored = refl
+stored Station = refl
+stored Level = refl
 
 -- one that touches nothing
-pub touches-nothing : (f : Reader) → ((s : List ℕ) (list : List Word) → f s list .1 ≡ list) → Keeps f → ⊥
-touches-nothing f all keeps =
-    let same : place ≡ filled (judged right 1 .words) place = sym (all right place) ∙ keeps right place .1 in
-    let z : _≡_ {A = ℕ} 0 213159 = ap (λ (l : List Word). getD l 0 blank .size) same ∙ stored in
+pub touches-nothing : (f : Family) (run : Reader) → ((s : List ℕ) (list : List Word) → run s list .1 ≡ list) → Keeps f run → ⊥
+touches-nothing f run all keeps =
+    let same : place ≡ filled (judged f right 1 .words) place = sym (all right place) ∙ keeps right place .1 in
+    let z : _≡_ {A = ℕ} 0 213159 = ap (λ (l : List Word). getD l 0 blank .size) same ∙ stored f in
     omega arith
 
--- `82..00+00001550 ` and CR: the same reading, and another record
+-- `83..00+00001550 ` and CR: the same reading, and another record
 abbrev another : List ℕ
-another = 56 ∷ 50 ∷ 46 ∷ 46 ∷ 48 ∷ 48 ∷ 43 ∷ 48 ∷ 48 ∷ 48 ∷ 48 ∷ 49 ∷ 53 ∷ 53 ∷ 48 ∷ 32 ∷ 13 ∷ []
+another = 56 ∷ 51 ∷ 46 ∷ 46 ∷ 48 ∷ 48 ∷ 43 ∷ 48 ∷ 48 ∷ 48 ∷ 48 ∷ 49 ∷ 53 ∷ 53 ∷ 48 ∷ 32 ∷ 13 ∷ []
 
-another-word : judged another 1 .answer ≡ Read reading
+another-word : (f : Family) → judged f another 1 .answer ≡ Read reading
 unfolding among every numberFrom blockFrom
-another-word = refl
+another-word Station = refl
+another-word Level = refl
 
-another-stored : getD (filled (judged another 1 .words) place) 0 blank .size ≡ 1550
+another-stored : (f : Family) → getD (filled (judged f another 1 .words) place) 0 blank .size ≡ 1550
 unfolding among every numberFrom blockFrom
-another-stored = refl
+another-stored Station = refl
+another-stored Level = refl
 
 -- one that may give right answers, and stores one block's records for each block that it reads
-pub one-block-stored : (f : Reader) (ws : List Word)
-    → ((s : List ℕ) (list : List Word) (r : Reading) → f s list .0 ≡ Read r → f s list .1 ≡ filled ws list) → Keeps f → ⊥
-one-block-stored f ws all keeps =
-    let holds : (s : List ℕ) → judged s 1 .answer ≡ Read reading → filled ws place ≡ filled (judged s 1 .words) place =
+pub one-block-stored : (f : Family) (run : Reader) (ws : List Word)
+    → ((s : List ℕ) (list : List Word) (r : Reading) → run s list .0 ≡ Read r → run s list .1 ≡ filled ws list) → Keeps f run → ⊥
+one-block-stored f run ws all keeps =
+    let holds : (s : List ℕ) → judged f s 1 .answer ≡ Read reading → filled ws place ≡ filled (judged f s 1 .words) place =
     λ s e. sym (all s place reading (keeps s place .0 ∙ e)) ∙ keeps s place .1 in
-    let same = sym (holds right one-word) ∙ holds another another-word in
-    let z : _≡_ {A = ℕ} 213159 1550 = sym stored ∙ (ap (λ (l : List Word). getD l 0 blank .size) same ∙ another-stored) in
+    let same = sym (holds right (one-word f)) ∙ holds another (another-word f) in
+    let z : _≡_ {A = ℕ} 213159 1550 = sym (stored f) ∙ (ap (λ (l : List Word). getD l 0 blank .size) same ∙ another-stored f) in
     omega arith
 
 -- the word count and the bytes used are the block's own
-pub counts-words : (f : Reader) → Keeps f → (s : List ℕ) (list : List Word) (r : Reading) → f s list .0 ≡ Read r
-    → (r .words ≡ length (judged s (length list) .words)) × (r .used ≡ length (blockBytes (r .wide) (r .crlf) (judged s (length list) .words)))
-counts-words f keeps s list r e =
-    let ws = judged s (length list) .words in
-    let a = accepted s (length list) r ws (λ i. record { answer = (sym (keeps s list .0) ∙ e) i; words = ws }) in
+pub counts-words : (f : Family) (run : Reader) → Keeps f run → (s : List ℕ) (list : List Word) (r : Reading) → run s list .0 ≡ Read r
+    → (r .words ≡ length (judged f s (length list) .words)) × (r .used ≡ length (blockBytes f (r .wide) (r .crlf) (judged f s (length list) .words)))
+counts-words f run keeps s list r e =
+    let ws = judged f s (length list) .words in
+    let a = accepted f s (length list) r ws (λ i. record { answer = (sym (keeps s list .0) ∙ e) i; words = ws }) in
     (a .counted, sym (ap length (a .bytes) ∙ length-take-le (r .used) s (a .within)))
 
 -- one that makes up a word count, or the bytes used
-pub invents-words : (f : Reader) (s : List ℕ) (list : List Word) (r : Reading) → f s list .0 ≡ Read r → (r .words ≡ length (judged s (length list) .words) → ⊥)
-    → Keeps f → ⊥
-invents-words f s list r e other keeps = other (counts-words f keeps s list r e .0)
+pub invents-words : (f : Family) (run : Reader) (s : List ℕ) (list : List Word) (r : Reading) → run s list .0 ≡ Read r
+    → (r .words ≡ length (judged f s (length list) .words) → ⊥)
+    → Keeps f run → ⊥
+invents-words f run s list r e other keeps = other (counts-words f run keeps s list r e .0)
 
-pub invents-bytes : (f : Reader) (s : List ℕ) (list : List Word) (r : Reading) → f s list .0 ≡ Read r
-    → (r .used ≡ length (blockBytes (r .wide) (r .crlf) (judged s (length list) .words)) → ⊥) → Keeps f → ⊥
-invents-bytes f s list r e other keeps = other (counts-words f keeps s list r e .1)
+pub invents-bytes : (f : Family) (run : Reader) (s : List ℕ) (list : List Word) (r : Reading) → run s list .0 ≡ Read r
+    → (r .used ≡ length (blockBytes f (r .wide) (r .crlf) (judged f s (length list) .words)) → ⊥) → Keeps f run → ⊥
+invents-bytes f run s list r e other keeps = other (counts-words f run keeps s list r e .1)
 
 -- what a writer does with a list, a width, a terminator and a room: its answer, and the room as it is then
 abbrev pub Writer : Type 0
 Writer = List Word → Bool → Bool → List ℕ → Wrote × List ℕ
 
 -- it keeps the promise of `write`
-abbrev pub KeepsWriting : Writer → Type 0
-KeepsWriting f = (ws : List Word) (wide crlf : Bool) (room : List ℕ) → Writes ws wide crlf room (f ws wide crlf room .0) (f ws wide crlf room .1)
+abbrev pub KeepsWriting : Family → Writer → Type 0
+KeepsWriting f run = (ws : List Word) (wide crlf : Bool) (room : List ℕ) → Writes f ws wide crlf room (run ws wide crlf room .0) (run ws wide crlf room .1)
 
 -- a block of one word needs 17 bytes
 abbrev empty : List ℕ
 empty = replicate 17 0
 
 -- the records that were read are written, and they are the bytes that were read
-written-back : (s : List ℕ) → judged s 1 .answer ≡ Read reading
-    → written (judged s 1 .words) false false empty ≡ record { answer = wrote.Written 17; room = laid (take 17 s) empty }
-written-back s e =
-    let ws = judged s 1 .words in
-    accepted-written s 1 reading ws empty (λ i. record { answer = e i; words = ws }) (omega arith)
+written-back : (f : Family) (s : List ℕ) → judged f s 1 .answer ≡ Read reading
+    → written f (judged f s 1 .words) false false empty ≡ record { answer = wrote.Written 17; room = laid (take 17 s) empty }
+written-back f s e =
+    let ws = judged f s 1 .words in
+    accepted-written f s 1 reading ws empty (λ i. record { answer = e i; words = ws }) (omega arith)
 
 -- one that refuses everything
-pub refuses-lists : (f : Writer) → ((ws : List Word) (wide crlf : Bool) (room : List ℕ) → (r : Refusal) × (f ws wide crlf room .0 ≡ wrote.Refused r))
-    → KeepsWriting f → ⊥
-refuses-lists f all keeps =
-    let ws = judged right 1 .words in
+pub refuses-lists : (f : Family) (run : Writer)
+    → ((ws : List Word) (wide crlf : Bool) (room : List ℕ) → (r : Refusal) × (run ws wide crlf room .0 ≡ wrote.Refused r))
+    → KeepsWriting f run → ⊥
+refuses-lists f run all keeps =
+    let ws = judged f right 1 .words in
     let e = all ws false false empty .1 in
-    let g : f ws false false empty .0 ≡ wrote.Written 17 =
-    keeps ws false false empty .0 ∙ ap (λ (v : Written·room). v .answer) (written-back right one-word) in
+    let g : run ws false false empty .0 ≡ wrote.Written 17 =
+    keeps ws false false empty .0 ∙ ap (λ (v : Written·room). v .answer) (written-back f right (one-word f)) in
     let z : _≡_ {A = ℕ} 0 1 = cc in
     omega arith
 
 -- one that may give right answers, and lays down one block for each list that it writes
-pub one-block-written : (f : Writer) (bytes : List ℕ)
-    → ((ws : List Word) (wide crlf : Bool) (room : List ℕ) (n : ℕ) → f ws wide crlf room .0 ≡ wrote.Written n → f ws wide crlf room .1 ≡ laid bytes room)
-    → KeepsWriting f → ⊥
-one-block-written f bytes all keeps =
-    let holds : (s : List ℕ) → judged s 1 .answer ≡ Read reading → laid bytes empty ≡ laid (take 17 s) empty =
+pub one-block-written : (f : Family) (run : Writer) (bytes : List ℕ)
+    → ((ws : List Word) (wide crlf : Bool) (room : List ℕ) (n : ℕ) → run ws wide crlf room .0 ≡ wrote.Written n → run ws wide crlf room .1 ≡ laid bytes room)
+    → KeepsWriting f run → ⊥
+one-block-written f run bytes all keeps =
+    let holds : (s : List ℕ) → judged f s 1 .answer ≡ Read reading → laid bytes empty ≡ laid (take 17 s) empty =
     λ s e.
-    let ws = judged s 1 .words in
+    let ws = judged f s 1 .words in
     let (answer, room) = keeps ws false false empty in
-    let is = written-back s e in
+    let is = written-back f s e in
     sym (all ws false false empty 17 (answer ∙ ap (λ (v : Written·room). v .answer) is)) ∙ (room ∙ ap (λ (v : Written·room). v .room) is) in
-    let z : _≡_ {A = ℕ} 45 43 = ap (λ (l : List ℕ). getD l 6 0) (sym (holds right one-word) ∙ holds another another-word) in
+    let z : _≡_ {A = ℕ} 45 43 = ap (λ (l : List ℕ). getD l 6 0) (sym (holds right (one-word f)) ∙ holds another (another-word f)) in
     omega arith

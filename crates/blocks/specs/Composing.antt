@@ -9,6 +9,7 @@ use Rattle.figures.specs.Text.{codes, endBytes}
 use Rattle.figures.specs.Bytes.{laid}
 use Rattle.words.specs.Records.{isRight}
 use Rattle.words.specs.Writing.{bytesOf}
+use Rattle.units.specs.declared.kinds.Family.{Family}
 use Rattle.words.specs.declared.records.Word.{Word}
 use Rattle.blocks.specs.declared.answers.Refusal.{Refusal}
 use Rattle.blocks.specs.declared.answers.Refusal.the-variants.{Count, Record, Room}
@@ -19,18 +20,18 @@ abbrev pub starBytes : Bool → List ℕ
 starBytes wide = cond wide (codes "*") []
 
 -- the words one after the other
-unfoldable pub wordsBytes : Bool → List Word → List ℕ
-wordsBytes wide [] = []
-wordsBytes wide (w ∷ ws) = bytesOf wide w ++ wordsBytes wide ws
+unfoldable pub wordsBytes : Family → Bool → List Word → List ℕ
+wordsBytes f wide [] = []
+wordsBytes f wide (w ∷ ws) = bytesOf f wide w ++ wordsBytes f wide ws
 
 -- the bytes of a block
-abbrev pub blockBytes : Bool → Bool → List Word → List ℕ
-blockBytes wide crlf ws = starBytes wide ++ (wordsBytes wide ws ++ endBytes crlf)
+abbrev pub blockBytes : Family → Bool → Bool → List Word → List ℕ
+blockBytes f wide crlf ws = starBytes wide ++ (wordsBytes f wide ws ++ endBytes crlf)
 
--- 13 for the first record that no word of the width gives, counted from i; otherwise what comes then
-unfoldable pub unlessWrong : {A : Type 0} → Bool → ℕ → List Word → (ℕ → A) → A → A
-unlessWrong wide i [] wrong next = next
-unlessWrong wide i (w ∷ ws) wrong next = cond (isRight wide w) (unlessWrong wide (i + 1) ws wrong next) (wrong i)
+-- 13 for the first record that no word of the family and width gives, counted from i; otherwise what comes then
+unfoldable pub unlessWrong : {A : Type 0} → Family → Bool → ℕ → List Word → (ℕ → A) → A → A
+unlessWrong f wide i [] wrong next = next
+unlessWrong f wide i (w ∷ ws) wrong next = cond (isRight f wide w) (unlessWrong f wide (i + 1) ws wrong next) (wrong i)
 
 -- the answer, and the room as it is then
 pub record Written·room : Type 0 where
@@ -47,11 +48,11 @@ blockInRoom bytes room =
     cond (ltb (length room) (length bytes)) (refusedRoom room (Room (length bytes)))
     (record { answer = Written (length bytes); room = laid bytes room })
 
-abbrev pub written : List Word → Bool → Bool → List ℕ → Written·room
-written ws wide crlf room =
+abbrev pub written : Family → List Word → Bool → Bool → List ℕ → Written·room
+written f ws wide crlf room =
     cond (eqb (length ws) 0 || ltb 32 (length ws)) (refusedRoom room Count)
-    (unlessWrong wide 0 ws (λ i. refusedRoom room (Record i)) (blockInRoom (blockBytes wide crlf ws) room))
+    (unlessWrong f wide 0 ws (λ i. refusedRoom room (Record i)) (blockInRoom (blockBytes f wide crlf ws) room))
 
 -- what writing a list into a room comes to
-abbrev pub Writes : List Word → Bool → Bool → List ℕ → Wrote → List ℕ → Type 0
-Writes ws wide crlf room r room′ = (r ≡ written ws wide crlf room .answer) × (room′ ≡ written ws wide crlf room .room)
+abbrev pub Writes : Family → List Word → Bool → Bool → List ℕ → Wrote → List ℕ → Type 0
+Writes f ws wide crlf room r room′ = (r ≡ written f ws wide crlf room .answer) × (room′ ≡ written f ws wide crlf room .room)

@@ -5,6 +5,7 @@ use mathlib.Core.List.{List, [], _∷_, _++_}
 use lib.Dec.{eqb, leb, ltb}
 use lib.ListN.{length, getD, drop}
 use Rattle.words.specs.Reading.{wordSize, wordOf}
+use Rattle.units.specs.declared.kinds.Family.{Family}
 use Rattle.words.specs.declared.records.Word.{Word}
 use Rattle.words.specs.declared.reading.Fault.the-variants.{Short}
 use Rattle.words.specs.declared.reading.Judged as one
@@ -45,21 +46,21 @@ afterWord at (one.Judged.Wrong fault) next = refusedBy (Wrong fault at)
 
 -- the block from a place on where a word would start, when `more` words may still come and the words before it are ws:
 -- "Where a word would start the order is CR, 4, 2, 11, then 5 to 10 in order."
-unfoldable pub blockFrom : ℕ → Bool → ℕ → ℕ → List ℕ → List Word → Judgement
-blockFrom zero wide places at rest ws = cond (isAt 13 rest) (record { answer = endedAt wide at rest (length ws); words = ws }) (refusedBy (NoEnd at))
-blockFrom (suc more) wide places at rest ws =
-    let next = blockFrom more wide places (at + wordSize wide) (drop (wordSize wide) rest) (ws ++ (wordOf wide rest .word ∷ [])) in
+unfoldable pub blockFrom : Family → ℕ → Bool → ℕ → ℕ → List ℕ → List Word → Judgement
+blockFrom f zero wide places at rest ws = cond (isAt 13 rest) (record { answer = endedAt wide at rest (length ws); words = ws }) (refusedBy (NoEnd at))
+blockFrom f (suc more) wide places at rest ws =
+    let next = blockFrom f more wide places (at + wordSize wide) (drop (wordSize wide) rest) (ws ++ (wordOf f wide rest .word ∷ [])) in
     cond (isAt 13 rest) (record { answer = endedAt wide at rest (length ws); words = ws })
     (cond (ltb (length rest) (wordSize wide)) (refusedBy (Wrong Short at))
     (cond (leb places (length ws)) (refusedBy (NoPlace at))
-    (afterWord at (wordOf wide rest .answer) next)))
+    (afterWord at (wordOf f wide rest .answer) next)))
 
 -- a list of so many places is lent, and s is the input: "Bytes after the terminator aren't looked at."
-abbrev pub judged : List ℕ → ℕ → Judgement
-judged s places =
+abbrev pub judged : Family → List ℕ → ℕ → Judgement
+judged f s places =
     cond (eqb (length s) 0) (refusedBy Empty)
     (cond (isAt 13 (drop (firstAt (isWide s)) s)) (refusedBy NoWord)
-    (blockFrom 32 (isWide s) places (firstAt (isWide s)) (drop (firstAt (isWide s)) s) []))
+    (blockFrom f 32 (isWide s) places (firstAt (isWide s)) (drop (firstAt (isWide s)) s) []))
 
 -- "The records go into a list of word records that the caller lends; records beyond the count are as before."
 abbrev pub filled : List Word → List Word → List Word

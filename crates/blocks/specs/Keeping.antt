@@ -6,6 +6,7 @@ use lib.Dec.{leb, ltb, eqb}
 use lib.ListN.{length, replicate, take}
 use Rattle.words.specs.Records.{blank}
 use Rattle.words.specs.Reading.{wordSize, wordOf}
+use Rattle.units.specs.declared.kinds.Family.{Family}
 use Rattle.words.specs.declared.records.Word.{Word}
 use Rattle.words.specs.declared.reading.Fault.the-variants.{Short}
 use Rattle.words.specs.declared.reading.Judged as one
@@ -41,13 +42,13 @@ stepOf at o one.Judged.Right = record { next = Goes; word = o .word }
 stepOf at o (one.Judged.Wrong fault) = stopsBy (Wrong fault at)
 
 -- `block-walk`, in proofs/Steps.antt, shows that this is the order of `blockFrom`
-abbrev pub nextOf : Bool → ℕ → ℕ → ℕ → List ℕ → Stepped
-nextOf wide places n at rest =
+abbrev pub nextOf : Family → Bool → ℕ → ℕ → ℕ → List ℕ → Stepped
+nextOf f wide places n at rest =
     cond (isAt 13 rest) (record { next = Ends; word = blank })
     (cond (leb 32 n) (stopsBy (NoEnd at))
     (cond (ltb (length rest) (wordSize wide)) (stopsBy (Wrong Short at))
     (cond (leb places n) (stopsBy (NoPlace at))
-    (stepOf at (wordOf wide rest) (wordOf wide rest .answer)))))
+    (stepOf at (wordOf f wide rest) (wordOf f wide rest .answer)))))
 
 -- a block's bytes from the start of 771
 abbrev pub refusedList : Refusal → Composed
@@ -59,13 +60,13 @@ wroteList bytes = record { answer = Written (length bytes); bytes = laid bytes (
 abbrev pub opened : Bool → List ℕ
 opened wide = laid (starBytes wide) (replicate 771 0)
 
-abbrev pub wordsPut : Bool → List Word → Composed
-wordsPut wide ws = unlessWrong wide 0 ws (λ i. refusedList (Record i)) (wroteList (starBytes wide ++ wordsBytes wide ws))
+abbrev pub wordsPut : Family → Bool → List Word → Composed
+wordsPut f wide ws = unlessWrong f wide 0 ws (λ i. refusedList (Record i)) (wroteList (starBytes wide ++ wordsBytes f wide ws))
 
 -- `composed-as`, in proofs/Composes.antt, shows that this, put in the room, is what is `written`
-abbrev pub composedOf : Bool → Bool → List Word → Composed
-composedOf wide crlf ws =
-    cond (eqb (length ws) 0) (refusedList Count) (unlessWrong wide 0 ws (λ i. refusedList (Record i)) (wroteList (blockBytes wide crlf ws)))
+abbrev pub composedOf : Family → Bool → Bool → List Word → Composed
+composedOf f wide crlf ws =
+    cond (eqb (length ws) 0) (refusedList Count) (unlessWrong f wide 0 ws (λ i. refusedList (Record i)) (wroteList (blockBytes f wide crlf ws)))
 
 -- the list that a block holds; a count past 32 is a list that is too long, whatever it held
 abbrev pub listOf : Block → List Word

@@ -8,6 +8,7 @@ use crate::answers::Refusal;
 use crate::answers::Wrote;
 use crate::judging::Block;
 use crate::judging::start_of;
+use units::kinds::Family;
 use words::reading::width_of;
 use words::writing::Spelt;
 use words::writing::spell;
@@ -41,9 +42,9 @@ fn open(wide: bool) -> [u8; 771]
 }
 
 // `*` and the words, up to the terminator.
-fn put_words(b: Block, wide: bool) -> Composed
+fn put_words(b: Block, family: Family, wide: bool) -> Composed
     requires { ⌜ b .n ≤ 32 ⌝ }
-    ensures { λ r. ⌜ r ≡ wordsPut wide (take (b .n) (b .words)) ⌝ }
+    ensures { λ r. ⌜ r ≡ wordsPut family wide (take (b .n) (b .words)) ⌝ }
 {
     let words = b.words;
     let n = b.n;
@@ -53,7 +54,7 @@ fn put_words(b: Block, wide: bool) -> Composed
     let mut i = 0;
     while i < n {
         let word = words[i];
-        let spelling = spell(word, wide);
+        let spelling = spell(word, family, wide);
         let answer = spelling.answer;
         let Spelt::Right = answer else {
             return refuse_list(Refusal::Record(i));
@@ -71,14 +72,14 @@ fn put_words(b: Block, wide: bool) -> Composed
 }
 
 // The block of those records.
-fn compose(b: Block, wide: bool, crlf: bool) -> Composed
+fn compose(b: Block, family: Family, wide: bool, crlf: bool) -> Composed
     requires { ⌜ b .n ≤ 32 ⌝ }
-    ensures { λ r. ⌜ r ≡ composedOf wide crlf (take (b .n) (b .words)) ⌝ }
+    ensures { λ r. ⌜ r ≡ composedOf family wide crlf (take (b .n) (b .words)) ⌝ }
 {
     if b.n == 0 {
         return refuse_list(Refusal::Count);
     }
-    let put = put_words(b, wide);
+    let put = put_words(b, family, wide);
     let answer = put.answer;
     let Wrote::Written(at) = answer else {
         return put;
@@ -101,15 +102,15 @@ fn compose(b: Block, wide: bool, crlf: bool) -> Composed
     }
 }
 
-// Writes the block of the records into the room.
-pub fn emit(b: Block, wide: bool, crlf: bool, out: &mut [u8]) -> Wrote
-    ensures { λ r. ⌜ Writes (listOf b) wide crlf (now (out .entry)) r (now (out .exit)) ⌝ }
+// Writes the block of the records into the room, as a block of the family.
+pub fn emit(b: Block, family: Family, wide: bool, crlf: bool, out: &mut [u8]) -> Wrote
+    ensures { λ r. ⌜ Writes family (listOf b) wide crlf (now (out .entry)) r (now (out .exit)) ⌝ }
 {
     if 32 < b.n {
         let refusal = Refusal::Count;
         return Wrote::Refused(refusal);
     }
-    let composed = compose(b, wide, crlf);
+    let composed = compose(b, family, wide, crlf);
     let answer = composed.answer;
     let Wrote::Written(n) = answer else {
         return answer;

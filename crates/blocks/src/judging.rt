@@ -8,6 +8,7 @@ ghost use Rattle.blocks.specs.Keeping.{nextOf, stopsBy, noBlock, keptOf}
 use crate::answers::Answer;
 use crate::answers::Reading;
 use crate::answers::Refusal;
+use units::kinds::Family;
 use words::reading::Fault;
 use words::reading::Judged;
 use words::reading::read_word;
@@ -81,9 +82,9 @@ fn is_at(s: &[u8], at: usize, b: u8) -> bool
 }
 
 // Where a word would start the order is CR, 4, 2, 11, then the word's own.
-fn step(s: &[u8], wide: bool, at: usize, count: usize, places: usize) -> Stepped
+fn step(s: &[u8], family: Family, wide: bool, at: usize, count: usize, places: usize) -> Stepped
     requires { ⌜ at ≤ length (now s) ⌝ }
-    ensures { λ r. ⌜ r ≡ nextOf wide places count at (drop at (now (s .entry))) ⌝ }
+    ensures { λ r. ⌜ r ≡ nextOf family wide places count at (drop at (now (s .entry))) ⌝ }
 {
     if is_at(s, at, 13) {
         let next = Next::Ends;
@@ -103,7 +104,7 @@ fn step(s: &[u8], wide: bool, at: usize, count: usize, places: usize) -> Stepped
     if places <= count {
         return stops(Refusal::NoPlace(at));
     }
-    let one = read_word(rest, wide);
+    let one = read_word(rest, family, wide);
     let answer = one.answer;
     let word = one.word;
     match answer {
@@ -124,13 +125,12 @@ pub(crate) fn start_of(wide: bool) -> usize
     if wide { 1 } else { 0 }
 }
 
-// An accepted block whose CR stands at a place.
-fn ended(s: &[u8], wide: bool, at: usize, block: Block) -> JudgedBlock
+// What is answered of so many words whose block's CR stands at a place.
+fn ended(s: &[u8], wide: bool, at: usize, words: usize) -> Answer
     requires { ⌜ at < length (now s) ⌝ }
-    ensures { λ r. ⌜ (r .block ≡ block) × (r .answer ≡ endedAt wide at (drop at (now (s .entry))) (block .n)) ⌝ }
+    ensures { λ r. ⌜ r ≡ endedAt wide at (drop at (now (s .entry))) words ⌝ }
 {
     let past = at + 1;
-    let words = block.n;
     if is_at(s, past, 10) {
         let read = Reading {
             wide: wide,
@@ -138,11 +138,7 @@ fn ended(s: &[u8], wide: bool, at: usize, block: Block) -> JudgedBlock
             words: words,
             used: past + 1,
         };
-        let answer = Answer::Read(read);
-        return JudgedBlock {
-            answer: answer,
-            block: block,
-        };
+        return Answer::Read(read);
     }
     let read = Reading {
         wide: wide,
@@ -150,17 +146,13 @@ fn ended(s: &[u8], wide: bool, at: usize, block: Block) -> JudgedBlock
         words: words,
         used: past,
     };
-    let answer = Answer::Read(read);
-    JudgedBlock {
-        answer: answer,
-        block: block,
-    }
+    Answer::Read(read)
 }
 
 // The words from a place on.
-fn words_from(s: &[u8], wide: bool, start: usize, places: usize) -> JudgedBlock
+fn words_from(s: &[u8], family: Family, wide: bool, start: usize, places: usize) -> JudgedBlock
     requires { ⌜ start ≤ length (now s) ⌝ }
-    ensures { λ r. ⌜ r ≡ keptOf (blockFrom 32 wide places start (drop start (now (s .entry))) []) ⌝ }
+    ensures { λ r. ⌜ r ≡ keptOf (blockFrom family 32 wide places start (drop start (now (s .entry))) []) ⌝ }
 {
     let size = width_of(wide) + 8;
     let none = no_block();
@@ -168,12 +160,16 @@ fn words_from(s: &[u8], wide: bool, start: usize, places: usize) -> JudgedBlock
     let mut n = 0;
     let mut at = start;
     loop {
-        let stepped = step(s, wide, at, n, places);
+        let stepped = step(s, family, wide, at, n, places);
         let next = stepped.next;
         match next {
             Next::Ends => {
+                let answer = ended(s, wide, at, n);
                 let block = Block { words: words, n: n };
-                return ended(s, wide, at, block);
+                return JudgedBlock {
+                    answer: answer,
+                    block: block,
+                };
             }
             Next::Stops(refusal) => {
                 return refuse(refusal);
@@ -188,9 +184,9 @@ fn words_from(s: &[u8], wide: bool, start: usize, places: usize) -> JudgedBlock
     }
 }
 
-// The block at the start of s, with so many places for its records.
-pub fn judge(s: &[u8], places: usize) -> JudgedBlock
-    ensures { λ r. ⌜ r ≡ keptOf (judged (now (s .entry)) places) ⌝ }
+// The block of the family at the start of s, with so many places for its records.
+pub fn judge(s: &[u8], family: Family, places: usize) -> JudgedBlock
+    ensures { λ r. ⌜ r ≡ keptOf (judged family (now (s .entry)) places) ⌝ }
 {
     if s.len() == 0 {
         return refuse(Refusal::Empty);
@@ -200,5 +196,5 @@ pub fn judge(s: &[u8], places: usize) -> JudgedBlock
     if is_at(s, start, 13) {
         return refuse(Refusal::NoWord);
     }
-    words_from(s, wide, start, places)
+    words_from(s, family, wide, start, places)
 }

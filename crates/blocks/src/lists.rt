@@ -12,6 +12,7 @@ use crate::composing::emit;
 use crate::judging::Block;
 use crate::judging::judge;
 use crate::judging::no_block;
+use units::kinds::Family;
 use words::records::Word;
 
 // Stores a block's records in the list; those beyond are as before.
@@ -55,20 +56,20 @@ pub fn gather(list: &[Word]) -> Block
     Block { words: words, n: n }
 }
 
-// Reads the block at the start of s into the list. Refused, the list is untouched; read, the records beyond the block's are.
-pub fn read(s: &[u8], list: &mut [Word]) -> Answer
-    ensures { λ r. ⌜ Reads (now (s .entry)) (now (list .entry)) r (now (list .exit)) ⌝ }
+// Reads the block of the family at the start of s into the list. Refused, the list is untouched; read, the records beyond the block's are.
+pub fn read(s: &[u8], family: Family, list: &mut [Word]) -> Answer
+    ensures { λ r. ⌜ Reads family (now (s .entry)) (now (list .entry)) r (now (list .exit)) ⌝ }
 {
-    let j = judge(s, list.len());
+    let j = judge(s, family, list.len());
     let b = j.block;
     fill(list, b);
     j.answer
 }
 
-// Writes the list's records as one block into the room. Refused, the room is untouched; written, the room beyond the block is.
-pub fn write(list: &[Word], wide: bool, crlf: bool, out: &mut [u8]) -> Wrote
-    ensures { λ r. ⌜ Writes (now (list .entry)) wide crlf (now (out .entry)) r (now (out .exit)) ⌝ }
+// Writes the list's records as one block of the family into the room. Refused, the room is untouched; written, the room beyond the block is.
+pub fn write(list: &[Word], family: Family, wide: bool, crlf: bool, out: &mut [u8]) -> Wrote
+    ensures { λ r. ⌜ Writes family (now (list .entry)) wide crlf (now (out .entry)) r (now (out .exit)) ⌝ }
 {
     let b = gather(list);
-    emit(b, wide, crlf, out)
+    emit(b, family, wide, crlf, out)
 }

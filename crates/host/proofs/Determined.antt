@@ -7,6 +7,7 @@ use lib.Dec.{eqb}
 use lib.ListN.{length}
 use Rattle.figures.specs.Promises.{Determined}
 use Rattle.figures.proofs.Determined.{by-equation, by-two, by-three}
+use Rattle.units.specs.declared.kinds.Family.{Family}
 use Rattle.words.specs.declared.records.Word.{Word}
 use Rattle.blocks.specs.Judging.{judged, filled}
 use Rattle.blocks.specs.Composing.{written}
@@ -26,20 +27,21 @@ use Rattle.host.specs.Machine.{toldLine, toldSheet, LaysFactory, CallsC,
 pub told-read-determined : Determined Answer ℕ (λ i r. r ≡ readTold i)
 told-read-determined = by-equation Answer ℕ readTold
 
-pub put-told-determined : Determined (Block × ℕ × ℕ × List ℕ) (ℕ × List ℕ) (λ i o. WritesC (listOf (i .0)) (i .1) (i .2) (i .3) (o .0) (o .1))
-put-told-determined =
-    by-two (Block × ℕ × ℕ × List ℕ) ℕ (List ℕ) (λ i. wroteTold (written (listOf (i .0)) (isYes (i .1)) (isYes (i .2)) (i .3) .answer))
-    (λ i. written (listOf (i .0)) (isYes (i .1)) (isYes (i .2)) (i .3) .room)
+pub put-told-determined : (f : Family) → Determined (Block × ℕ × ℕ × List ℕ) (ℕ × List ℕ) (λ i o. WritesC f (listOf (i .0)) (i .1) (i .2) (i .3) (o .0) (o .1))
+put-told-determined f =
+    by-two (Block × ℕ × ℕ × List ℕ) ℕ (List ℕ) (λ i. wroteTold (written f (listOf (i .0)) (isYes (i .1)) (isYes (i .2)) (i .3) .answer))
+    (λ i. written f (listOf (i .0)) (isYes (i .1)) (isYes (i .2)) (i .3) .room)
 
-pub gsi-read-determined : Determined (List ℕ × List Word) (ℕ × List Word) (λ i o. ReadsC (i .0) (i .1) (o .0) (o .1))
-gsi-read-determined =
-    by-two (List ℕ × List Word) ℕ (List Word) (λ i. readTold (judged (i .0) (length (i .1)) .answer))
-    (λ i. filled (judged (i .0) (length (i .1)) .words) (i .1))
+-- of either family: `gsi_read` and `gsi_read_level`
+pub gsi-read-determined : (f : Family) → Determined (List ℕ × List Word) (ℕ × List Word) (λ i o. ReadsC f (i .0) (i .1) (o .0) (o .1))
+gsi-read-determined f =
+    by-two (List ℕ × List Word) ℕ (List Word) (λ i. readTold (judged f (i .0) (length (i .1)) .answer))
+    (λ i. filled (judged f (i .0) (length (i .1)) .words) (i .1))
 
-pub gsi-write-determined : Determined (List Word × ℕ × ℕ × List ℕ) (ℕ × List ℕ) (λ i o. WritesC (i .0) (i .1) (i .2) (i .3) (o .0) (o .1))
-gsi-write-determined =
-    by-two (List Word × ℕ × ℕ × List ℕ) ℕ (List ℕ) (λ i. wroteTold (written (i .0) (isYes (i .1)) (isYes (i .2)) (i .3) .answer))
-    (λ i. written (i .0) (isYes (i .1)) (isYes (i .2)) (i .3) .room)
+pub gsi-write-determined : (f : Family) → Determined (List Word × ℕ × ℕ × List ℕ) (ℕ × List ℕ) (λ i o. WritesC f (i .0) (i .1) (i .2) (i .3) (o .0) (o .1))
+gsi-write-determined f =
+    by-two (List Word × ℕ × ℕ × List ℕ) ℕ (List ℕ) (λ i. wroteTold (written f (i .0) (isYes (i .1)) (isYes (i .2)) (i .3) .answer))
+    (λ i. written f (i .0) (isYes (i .1)) (isYes (i .2)) (i .3) .room)
 
 pub told-line-determined : Determined Told ℕ (λ i r. r ≡ toldLine i)
 told-line-determined = by-equation Told ℕ toldLine

@@ -11,6 +11,7 @@ use lib.ListN.{length, drop, length-append}
 use Rattle.figures.specs.Bytes.{laid}
 use Rattle.words.specs.Records.{isRight}
 use Rattle.words.specs.Writing.{bytesOf}
+use Rattle.units.specs.declared.kinds.Family.{Family}
 use Rattle.words.specs.declared.records.Word.{Word}
 use Rattle.words.proofs.RoundTrip.{bytes-length}
 use Rattle.blocks.specs.declared.answers.Refusal.{Refusal}
@@ -41,9 +42,9 @@ ended-whole wide at rest n h k = used (isAt 10 (drop 1 rest))
     used true = let fits : at + 2 < 65536 = omega arith in let few : n < 256 = omega arith in rw (mod-eq-of-lt fits, mod-eq-of-lt few)
     used false = let fits : at + 1 < 65536 = omega arith in let few : n < 256 = omega arith in rw (mod-eq-of-lt fits, mod-eq-of-lt few)
 
-pub read-whole : (block : List ℕ) (places : ℕ) → readTold (judged block places .answer) ≡ readWhole (judged block places .answer)
-read-whole block places =
-    judged-by places (λ (j : Judgement). readTold (j .answer) ≡ readWhole (j .answer)) (λ r h. refused-whole r (omega arith))
+pub read-whole : (f : Family) (block : List ℕ) (places : ℕ) → readTold (judged f block places .answer) ≡ readWhole (judged f block places .answer)
+read-whole f block places =
+    judged-by f places (λ (j : Judgement). readTold (j .answer) ≡ readWhole (j .answer)) (λ r h. refused-whole r (omega arith))
     (λ wide at rest ws h few. ended-whole wide at rest (length ws) h (few .0)) block
 
 -- a list that was written
@@ -52,22 +53,22 @@ cond-when P true a b h k = h refl
 cond-when P false a b h k = k
 
 -- what holds of each of the first 32 numbers and, where the words have their bytes, of what comes then
-wrong-by : {A : Type 0} (P : A → Type 0) (wide : Bool) (i : ℕ) (ws : List Word) (wrong : ℕ → A) (next : A) → i + length ws ≤ 32
-    → ((j : ℕ) → j < 32 → P (wrong j)) → (length (wordsBytes wide ws) ≤ length ws * 24 → P next) → P (unlessWrong wide i ws wrong next)
+wrong-by : {A : Type 0} (P : A → Type 0) (f : Family) (wide : Bool) (i : ℕ) (ws : List Word) (wrong : ℕ → A) (next : A) → i + length ws ≤ 32
+    → ((j : ℕ) → j < 32 → P (wrong j)) → (length (wordsBytes f wide ws) ≤ length ws * 24 → P next) → P (unlessWrong f wide i ws wrong next)
 unfolding unlessWrong wordsBytes
-wrong-by P wide i [] wrong next h at last = last (omega arith)
-wrong-by P wide i (w ∷ ws) wrong next h at last =
-    cond-when P (isRight wide w) (unlessWrong wide (i + 1) ws wrong next) (wrong i)
-    (λ e. wrong-by P wide (i + 1) ws wrong next (omega arith) at
-    (λ k. last (omega (arith, length-append (bytesOf wide w) (wordsBytes wide ws), bytes-length wide w e, size-le wide))))
+wrong-by P f wide i [] wrong next h at last = last (omega arith)
+wrong-by P f wide i (w ∷ ws) wrong next h at last =
+    cond-when P (isRight f wide w) (unlessWrong f wide (i + 1) ws wrong next) (wrong i)
+    (λ e. wrong-by P f wide (i + 1) ws wrong next (omega arith) at
+    (λ k. last (omega (arith, length-append (bytesOf f wide w) (wordsBytes f wide ws), bytes-length f wide w e, size-le wide))))
     (at i (omega arith))
 
-module _ (ws : List Word) (wide crlf : Bool) (room : List ℕ) where
+module _ (f : Family) (ws : List Word) (wide crlf : Bool) (room : List ℕ) where
   abbrev Whole : Written·room → Type 0
   Whole v = wroteTold (v .answer) ≡ wroteWhole (v .answer)
 
   abbrev all : List ℕ
-  all = blockBytes wide crlf ws
+  all = blockBytes f wide crlf ws
 
   fitted-by : (short : Bool) (n : ℕ) (room′ : List ℕ) → n ≤ 771
       → Whole (cond short (refusedRoom room (Room n)) (record { answer = wrote.Written n; room = room′ }))
@@ -75,25 +76,25 @@ module _ (ws : List Word) (wide crlf : Bool) (room : List ℕ) where
   fitted-by false n room′ h = let fits : n < 4294967296 = omega arith in rw (mod-eq-of-lt fits) (omega arith)
 
   counted-by : (none many : Bool) → ltb 32 (length ws) ≡ many
-      → Whole (cond (none || many) (refusedRoom room Count) (unlessWrong wide 0 ws (λ i. refusedRoom room (Record i)) (blockInRoom all room)))
+      → Whole (cond (none || many) (refusedRoom room Count) (unlessWrong f wide 0 ws (λ i. refusedRoom room (Record i)) (blockInRoom all room)))
   counted-by true many e = refused-whole Count (omega arith)
   counted-by false true e = refused-whole Count (omega arith)
   counted-by false false e =
       let most = ltb-false 32 (length ws) e in
-      let words = wordsBytes wide ws in
+      let words = wordsBytes f wide ws in
       let end = endBytes crlf in
-      wrong-by Whole wide 0 ws (λ i. refusedRoom room (Record i)) (blockInRoom all room) (omega arith) (λ j h. refused-whole (Record j) (omega arith))
+      wrong-by Whole f wide 0 ws (λ i. refusedRoom room (Record i)) (blockInRoom all room) (omega arith) (λ j h. refused-whole (Record j) (omega arith))
       (λ h. fitted-by (ltb (length room) (length all)) (length all) (laid all room)
       (omega (arith, length-append (starBytes wide) (words ++ end), length-append words end, star-small wide, end-small crlf)))
 
-  pub wrote-whole : wroteTold (written ws wide crlf room .answer) ≡ wroteWhole (written ws wide crlf room .answer)
+  pub wrote-whole : wroteTold (written f ws wide crlf room .answer) ≡ wroteWhole (written f ws wide crlf room .answer)
   wrote-whole = counted-by (eqb (length ws) 0) (ltb 32 (length ws)) refl
 
 -- so the promises say
-pub gsi-read-whole : (block : List ℕ) (list : List Word) {r : ℕ} {list′ : List Word} → ReadsC block list r list′
-    → r ≡ readWhole (judged block (length list) .answer)
-gsi-read-whole block list h = h .0 ∙ read-whole block (length list)
+pub gsi-read-whole : (f : Family) (block : List ℕ) (list : List Word) {r : ℕ} {list′ : List Word} → ReadsC f block list r list′
+    → r ≡ readWhole (judged f block (length list) .answer)
+gsi-read-whole f block list h = h .0 ∙ read-whole f block (length list)
 
-pub gsi-write-whole : (list : List Word) (wide crlf : ℕ) (room : List ℕ) {r : ℕ} {room′ : List ℕ} → WritesC list wide crlf room r room′
-    → r ≡ wroteWhole (written list (isYes wide) (isYes crlf) room .answer)
-gsi-write-whole list wide crlf room h = h .0 ∙ wrote-whole list (isYes wide) (isYes crlf) room
+pub gsi-write-whole : (f : Family) (list : List Word) (wide crlf : ℕ) (room : List ℕ) {r : ℕ} {room′ : List ℕ} → WritesC f list wide crlf room r room′
+    → r ≡ wroteWhole (written f list (isYes wide) (isYes crlf) room .answer)
+gsi-write-whole f list wide crlf room h = h .0 ∙ wrote-whole f list (isYes wide) (isYes crlf) room

@@ -5,6 +5,7 @@ use mathlib.Core.Bool.{Bool, cond, not}
 use mathlib.Core.List.{List}
 use lib.Dec.{eqb}
 use lib.ListN.{length}
+use Rattle.units.specs.declared.kinds.Family.{Family}
 use Rattle.words.specs.declared.records.Word.{Word}
 use Rattle.blocks.specs.declared.answers.Refusal.{Refusal}
 use Rattle.blocks.specs.declared.answers.Reading.{Reading}
@@ -55,9 +56,9 @@ wroteWhole (wrote.Written n) = n
 abbrev pub isYes : ℕ → Bool
 isYes n = not (eqb n 0)
 
-abbrev pub ReadsC : List ℕ → List Word → ℕ → List Word → Type 0
-ReadsC block list r list′ = (r ≡ readTold (judged block (length list) .answer)) × (list′ ≡ filled (judged block (length list) .words) list)
+abbrev pub ReadsC : Family → List ℕ → List Word → ℕ → List Word → Type 0
+ReadsC f block list r list′ = (r ≡ readTold (judged f block (length list) .answer)) × (list′ ≡ filled (judged f block (length list) .words) list)
 
-abbrev pub WritesC : List Word → ℕ → ℕ → List ℕ → ℕ → List ℕ → Type 0
-WritesC list wide crlf room r room′ =
-    (r ≡ wroteTold (written list (isYes wide) (isYes crlf) room .answer)) × (room′ ≡ written list (isYes wide) (isYes crlf) room .room)
+abbrev pub WritesC : Family → List Word → ℕ → ℕ → List ℕ → ℕ → List ℕ → Type 0
+WritesC f list wide crlf room r room′ =
+    (r ≡ wroteTold (written f list (isYes wide) (isYes crlf) room .answer)) × (room′ ≡ written f list (isYes wide) (isYes crlf) room .room)

@@ -11,6 +11,7 @@ use blocks::answers::refusal_number;
 use blocks::answers::refusal_tells;
 use blocks::composing::emit;
 use blocks::judging::Block;
+use units::kinds::Family;
 
 // The number over the low 32 bits of what is told.
 fn pack(number: u64, told: usize) -> u64
@@ -63,10 +64,10 @@ fn told_wrote(w: Wrote) -> u64
     }
 }
 
-// Writes a block's records into the room; wide and crlf: 0 is no, any other number is yes.
-pub fn put_told(b: Block, wide: u64, crlf: u64, out: &mut [u8]) -> u64
-    ensures { λ r. ⌜ WritesC (listOf b) wide crlf (now (out .entry)) r (now (out .exit)) ⌝ }
+// Writes a block's records into the room, as a block of the family; wide and crlf: 0 is no, any other number is yes.
+pub fn put_told(b: Block, family: Family, wide: u64, crlf: u64, out: &mut [u8]) -> u64
+    ensures { λ r. ⌜ WritesC family (listOf b) wide crlf (now (out .entry)) r (now (out .exit)) ⌝ }
 {
-    let w = emit(b, wide != 0, crlf != 0, out);
+    let w = emit(b, family, wide != 0, crlf != 0, out);
     told_wrote(w)
 }

@@ -13,13 +13,14 @@ use Rattle.figures.specs.Bytes.{within, among, every}
 use Rattle.figures.specs.Decimal.{isDigit, numberOf}
 use Rattle.figures.proofs.Bytes.{within-bounds, bounds-within}
 use Rattle.figures.proofs.Tests.{by-test, Even, along}
-use Rattle.units.specs.Kinds.{kindOf, isListed, isTextual, indexOf, indexRight}
-use Rattle.units.specs.Information.{isDot, infoRight, signByte, signOf, signRight}
+use Rattle.units.specs.Kinds.{stationKind, isListed, isTextual, indexOf, indexRight}
+use Rattle.units.specs.Information.{isDot, stationInfo, signByte, signOf, signRight}
 use Rattle.units.specs.Counts.{minusZero, valueAt}
-use Rattle.units.proofs.Positions.{tensOf, onesOf, index-on, tens-digit, ones-digit, sign-on, sign-right}
+use Rattle.units.proofs.Positions.{tensOf, onesOf, index-on, index-below, tens-digit, ones-digit, sign-on, sign-right}
 use Rattle.words.specs.Records.{isGraphic}
 use Rattle.words.specs.Reading.{pos, wordOf, kindAt, dataIn, dataRight, figuresIn, countOr, isCounted, valueIn, recordIn, unless, rightWord, wordSize}
 use Rattle.words.proofs.Places.{Places, spread, rules, recordBy, word-spread}
+use Rattle.units.specs.declared.kinds.Family.the-variants.{Station}
 use Rattle.units.specs.declared.kinds.Kind.{Kind}
 use Rattle.units.specs.declared.kinds.Kind.the-variants as kind
 use Rattle.units.specs.declared.counts.Figures.the-variants.{Number}
@@ -75,7 +76,7 @@ sign-below b = go (eqb b 43)
 
 -- a word with dots at 3-5 and a unit of the place: what is left is whether it is read
 pub put-read : (place : ℕ) (b : List ℕ) → pos 3 b ≡ 46 → pos 4 b ≡ 46 → pos 5 b ≡ 46 → storedAt place .1 ≤ pos 6 b → pos 6 b ≤ storedAt place .2
-    → putRight place b ≡ isRightWord (wordOf false b .answer)
+    → putRight place b ≡ isRightWord (wordOf Station false b .answer)
 put-read place b p q r low high =
     let unit = bounds-within (storedAt place .1) (storedAt place .2) (pos 6 b) low high in
     rw (eq-eqb (pos 3 b) 46 p, eq-eqb (pos 4 b) 46 q, eq-eqb (pos 5 b) 46 r, unit)
@@ -83,7 +84,7 @@ put-read place b p q r low high =
 -- the rules that are left for a value of that row after its unit: text, or digits that count
 abbrev pub heldBy : Stored → ℕ → ℕ → List ℕ → Bool
 heldBy r u m l =
-    cond (eqb (r .1) 46) (eqb m 0 && every isGraphic l) (every isDigit l && isCounted (valueAt (kindOf (r .0)) (r .0) u m (Number (numberOf l))))
+    cond (eqb (r .1) 46) (eqb m 0 && every isGraphic l) (every isDigit l && isCounted (valueAt (stationKind (r .0)) (r .0) u m (Number (numberOf l))))
 
 -- the same by the kind, as a word is read
 abbrev partsRight : Kind → ℕ → ℕ → ℕ → List ℕ → Bool
@@ -127,41 +128,41 @@ module _ (u m : ℕ) (d : Eight) (small : m ≤ 1) where
 
   -- each unit of a row is right after three dots
   abbrev Units : Stored → Type 0
-  Units r = Even (infoRight (kindOf (r .0)) 46 46 46) true (r .1) (suc (r .2))
+  Units r = Even (stationInfo (stationKind (r .0)) 46 46 46) true (r .1) (suc (r .2))
 
   -- the word of a value with a unit of the row is read where its parts hold
   abbrev Judged : Stored → Type 0
-  Judged r = r .1 ≤ u → u ≤ r .2 → isRightWord (wordOf false (spread (places (r .0)) []) .answer) ≡ heldBy r u m (eightBytes d)
+  Judged r = r .1 ≤ u → u ≤ r .2 → isRightWord (wordOf Station false (spread (places (r .0)) []) .answer) ≡ heldBy r u m (eightBytes d)
 
-  row-read : (r : Stored) → isListed (kindOf (r .0)) ≡ true → Units r → r .1 ≤ u → u ≤ r .2
-      → isRightWord (wordOf false (spread (places (r .0)) []) .answer) ≡ partsRight (kindOf (r .0)) (r .0) u m (eightBytes d)
+  row-read : (r : Stored) → isListed (stationKind (r .0)) ≡ true → Units r → r .1 ≤ u → u ≤ r .2
+      → isRightWord (wordOf Station false (spread (places (r .0)) []) .answer) ≡ partsRight (stationKind (r .0)) (r .0) u m (eightBytes d)
   row-read r listed units low high =
       let i = r .0 in
-      let k = kindOf i in
+      let k = stationKind i in
       let p = places i in
       let l = eightBytes d in
       let value = valueAt k i u m (figuresIn k l) in
-      let word = recordBy i p (countOr value) in
-      let info = sym (along (infoRight k 46 46 46) (r .1) (suc (r .2)) units low (omega arith)) in
-      ap (λ (w : OneWord). isRightWord (w .answer)) (word-spread false p refl [])
-      ∙ rw (index-on i listed, tens-digit i, ones-digit i, listed, sign-on m small)
-      (rules-read (infoRight k 46 46 46 u) (signRight k (signByte m)) (dataRight k l) (isCounted value) word info)
+      let word = recordBy Station i p (countOr value) in
+      let info = sym (along (stationInfo k 46 46 46) (r .1) (suc (r .2)) units low (omega arith)) in
+      ap (λ (w : OneWord). isRightWord (w .answer)) (word-spread false p refl Station [])
+      ∙ rw (index-on i (index-below i listed), tens-digit i, ones-digit i, listed, sign-on m small)
+      (rules-read (stationInfo k 46 46 46 u) (signRight k (signByte m)) (dataRight k l) (isCounted value) word info)
 
-  by-text : (r : Stored) → isListed (kindOf (r .0)) ≡ true → Units r → isTextual (kindOf (r .0)) ≡ true → eqb (r .1) 46 ≡ true → Judged r
+  by-text : (r : Stored) → isListed (stationKind (r .0)) ≡ true → Units r → isTextual (stationKind (r .0)) ≡ true → eqb (r .1) 46 ≡ true → Judged r
   by-text r listed units text dot low high =
-      row-read r listed units low high ∙ text-held (kindOf (r .0)) (r .0) u m (eightBytes d) text ∙ rw dot
+      row-read r listed units low high ∙ text-held (stationKind (r .0)) (r .0) u m (eightBytes d) text ∙ rw dot
 
   number-held : (k : Kind) (i : ℕ) (l : List ℕ) → isTextual k ≡ false → dataRight k l ≡ every isDigit l → figuresIn k l ≡ Number (numberOf l)
       → partsRight k i u m l ≡ every isDigit l && isCounted (valueAt k i u m (Number (numberOf l)))
   number-held k i l plain digits says =
       rw (sign-right k m (record { small = small; plus = λ t. absurd (false≢true (sym plain ∙ t)) }), digits, says)
 
-  by-number : (r : Stored) → isListed (kindOf (r .0)) ≡ true → Units r → isTextual (kindOf (r .0)) ≡ false
-      → dataRight (kindOf (r .0)) (eightBytes d) ≡ every isDigit (eightBytes d)
-      → figuresIn (kindOf (r .0)) (eightBytes d) ≡ Number (numberOf (eightBytes d))
+  by-number : (r : Stored) → isListed (stationKind (r .0)) ≡ true → Units r → isTextual (stationKind (r .0)) ≡ false
+      → dataRight (stationKind (r .0)) (eightBytes d) ≡ every isDigit (eightBytes d)
+      → figuresIn (stationKind (r .0)) (eightBytes d) ≡ Number (numberOf (eightBytes d))
       → eqb (r .1) 46 ≡ false → Judged r
   by-number r listed units plain digits says dot low high =
-      row-read r listed units low high ∙ number-held (kindOf (r .0)) (r .0) (eightBytes d) plain digits says ∙ rw dot
+      row-read r listed units low high ∙ number-held (stationKind (r .0)) (r .0) (eightBytes d) plain digits says ∙ rw dot
 
   abbrev Each : List Stored → Type 0
   Each [] = Judged noStored
@@ -176,11 +177,11 @@ module _ (u m : ℕ) (d : Eight) (small : m ≤ 1) where
   each : Each stored
   unfolding stored among
   each =
-      let text : (i : ℕ) → isListed (kindOf i) ≡ true → Units (unitsOf i "." ".") → isTextual (kindOf i) ≡ true → Judged (unitsOf i "." ".") =
+      let text : (i : ℕ) → isListed (stationKind i) ≡ true → Units (unitsOf i "." ".") → isTextual (stationKind i) ≡ true → Judged (unitsOf i "." ".") =
       λ i listed units text. by-text (unitsOf i "." ".") listed units text refl in
-      let length : (i : ℕ) → kindOf i ≡ kind.Length → Judged (unitsOf i "0" "1") =
+      let length : (i : ℕ) → stationKind i ≡ kind.Length → Judged (unitsOf i "0" "1") =
       λ i is. by-number (unitsOf i "0" "1") (rw is) (rw is) (rw is) (rw is) (rw is) refl in
-      let angle : (i : ℕ) → kindOf i ≡ kind.Angle → Judged (unitsOf i "2" "4") =
+      let angle : (i : ℕ) → stationKind i ≡ kind.Angle → Judged (unitsOf i "2" "4") =
       λ i is. by-number (unitsOf i "2" "4") (rw is) (rw is) (rw is) (rw is) (rw is) refl in
       let none : Judged noStored = λ low high. sym (none-held u m (numberOf (eightBytes d)) (every isDigit (eightBytes d))) in
       let last : Each (drop 8 stored) = (length 86 refl, (length 87 refl, (length 88 refl, none))) in
@@ -189,7 +190,7 @@ module _ (u m : ℕ) (d : Eight) (small : m ≤ 1) where
 
   pub kept-outside : (place : ℕ) (k : Kept) → k ≡ Put u m d → within (storedAt place .1) (storedAt place .2) u ≡ false → keptRight place k ≡ false
   kept-outside place k e out =
-      kept-put place k u m d e small ∙ ap (λ (t : Bool). t && isRightWord (wordOf false (valueWord 46 place u m d) .answer)) out
+      kept-put place k u m d e small ∙ ap (λ (t : Bool). t && isRightWord (wordOf Station false (valueWord 46 place u m d) .answer)) out
 
   -- a unit of the place: what is left is the sign and the characters
   pub kept-held : (place : ℕ) (k : Kept) → k ≡ Put u m d → storedAt place .1 ≤ u → u ≤ storedAt place .2
@@ -205,7 +206,7 @@ pub record PutRight (place : ℕ) (b : List ℕ) : Type 0 where
   pub dot4 : pos 4 b ≡ 46
   pub dot5 : pos 5 b ≡ 46
   pub unit : within (storedAt place .1) (storedAt place .2) (pos 6 b) ≡ true
-  pub read : isRightWord (wordOf false b .answer) ≡ true
+  pub read : isRightWord (wordOf Station false b .answer) ≡ true
 
 pub put-parts : (place : ℕ) (b : List ℕ) → putRight place b ≡ true → PutRight place b
 put-parts place b e =
@@ -213,7 +214,7 @@ put-parts place b e =
     let q = isDot (pos 4 b) in
     let r = isDot (pos 5 b) in
     let u = within (storedAt place .1) (storedAt place .2) (pos 6 b) in
-    let t = isRightWord (wordOf false b .answer) in
+    let t = isRightWord (wordOf Station false b .answer) in
     let all = and-eq-true-iff (p && (q && r)) (u && t) .0 e in
     let dots = and-eq-true-iff p (q && r) .0 (all .0) in
     let last = and-eq-true-iff q r .0 (dots .1) in
@@ -238,15 +239,15 @@ module _ (place : ℕ) (b : List ℕ) (long : length b ≡ 16) (named : storedAt
       let i = indexOf (pos 1 b) (pos 2 b) in
       let tens : 48 + i / 10 % 10 ≡ pos 1 b = omega arith in
       let ones : 48 + i % 10 ≡ pos 2 b = omega arith in
-      let k = kindAt b in
+      let k = kindAt Station b in
       let ends =
-      read-parts (leb (wordSize false) (length b)) (indexRight (pos 1 b) (pos 2 b))
-      (infoRight k (pos 3 b) (pos 4 b) (pos 5 b) (pos 6 b))
+      read-parts (leb (wordSize false) (length b)) (indexRight Station (pos 1 b) (pos 2 b) (pos 3 b))
+      (stationInfo k (pos 3 b) (pos 4 b) (pos 5 b) (pos 6 b))
       (signRight k (pos 7 b))
       (dataRight k (dataIn false b))
       (eqb (getD b 15 0) 32)
-      (isCounted (valueIn false b))
-      (recordIn false b)
+      (isCounted (valueIn Station false b))
+      (recordIn Station false b)
       (p .read)
       in
       let sign = sign-byte k (pos 7 b) (ends .0) in

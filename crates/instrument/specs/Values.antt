@@ -9,6 +9,7 @@ use Rattle.figures.specs.Text.{codes}
 use Rattle.figures.specs.Bytes.{within}
 use Rattle.units.specs.Information.{isDot, signByte, signOf}
 use Rattle.words.specs.Reading.{pos, wordOf}
+use Rattle.units.specs.declared.kinds.Family.the-variants.{Station}
 use Rattle.words.specs.declared.reading.Judged as one
 use Rattle.instrument.specs.Rows.{seek, keyBytes}
 use Rattle.instrument.specs.declared.settings.Found.{Found}
@@ -65,7 +66,7 @@ isRightWord (one.Judged.Wrong f) = false
 abbrev pub putRight : ℕ → List ℕ → Bool
 putRight place b =
     (isDot (pos 3 b) && (isDot (pos 4 b) && isDot (pos 5 b)))
-    && (within (storedAt place .1) (storedAt place .2) (pos 6 b) && isRightWord (wordOf false b .answer))
+    && (within (storedAt place .1) (storedAt place .2) (pos 6 b) && isRightWord (wordOf Station false b .answer))
 
 abbrev pub eightOf : List ℕ → Eight
 eightOf l = record { 0 = getD l 0 0; 1 = getD l 1 0; 2 = getD l 2 0; 3 = getD l 3 0; 4 = getD l 4 0; 5 = getD l 5 0; 6 = getD l 6 0; 7 = getD l 7 0 }

@@ -4,7 +4,7 @@ ghost use mathlib.Core.Bool.{_&&_};
 ghost use Prim.Native.Nat.{_+_, _%_};
 ghost use Rattle.figures.specs.Bytes.{every};
 ghost use Rattle.figures.specs.Decimal.{isDigit, numberOf};
-ghost use Rattle.units.specs.Kinds.{kindOf};
+ghost use Rattle.units.specs.Kinds.{stationKind};
 ghost use Rattle.units.specs.Counts as counts;
 ghost use Rattle.units.specs.declared.counts.Figures.the-variants.{Number};
 ghost use Rattle.words.specs.Reading.{isCounted};
@@ -13,6 +13,7 @@ use crate::settings::Found;
 use units::counts::Figures;
 use units::counts::Valued;
 use units::information::sign_byte;
+use units::kinds::Family;
 use units::kinds::kind_of;
 use words::reading::Judged;
 use words::reading::read_word;
@@ -131,7 +132,7 @@ pub fn put_right(place: usize, word: [u8; 16]) -> bool
     if row.2 < word[5] {
         return false;
     }
-    let one = read_word(&word, false);
+    let one = read_word(&word, Family::Station, false);
     let answer = one.answer;
     match answer {
         Judged::Right => true,
@@ -195,13 +196,13 @@ fn value_word(mark: u8, place: usize, unit: u8, minus: u8, d: Eight) -> [u8; 16]
 
 // Whether the characters are digits that count at the index, after that unit and sign.
 fn number_right(index: u16, unit: u8, minus: u8, digits: [u8; 8]) -> bool
-    ensures { λ r. ⌜ r ≡ (every isDigit digits && isCounted (counts.valueAt (kindOf index) index unit minus (Number (numberOf digits)))) ⌝ }
+    ensures { λ r. ⌜ r ≡ (every isDigit digits && isCounted (counts.valueAt (stationKind index) index unit minus (Number (numberOf digits)))) ⌝ }
 {
     let figures::Said::Number(n) = figures::number(&digits) else {
         return false;
     };
     let says = Figures::Number(n);
-    let value = units::counts::value_at(kind_of(index), index, unit, minus, says);
+    let value = units::counts::value_at(kind_of(Family::Station, index), index, unit, minus, says);
     match value {
         Valued::Not => false,
         _ => true,

@@ -10,6 +10,7 @@ use lib.Dec.{leb}
 use lib.ListN.{length, take, drop, length-append, length-drop}
 use lib.Seq.{take-at, take-all, take-append-le, length-take-le}
 use Rattle.figures.proofs.Bytes.{laid-fits}
+use Rattle.units.specs.declared.kinds.Family.{Family}
 use Rattle.blocks.specs.Judging.{Judgement, judged}
 use Rattle.blocks.proofs.Enough.{judged-enough}
 use Rattle.figures.specs.Rooms.{putAt}
@@ -56,12 +57,12 @@ keeps-more room n p b k = by (leb 800 (length p)) refl
               (sym (take-all 800 (p ++ (b ∷ [])) (omega arith)));
         }
 
-module _ (room : List ℕ) (n : ℕ) (p : List ℕ) (k : Keeps room n p) where
-  same : judged (take n room) 32 ≡ judged p 32
-  same = ap (λ s. judged s 32) (k .bytes) ∙ judged-enough p
+module _ (f : Family) (room : List ℕ) (n : ℕ) (p : List ℕ) (k : Keeps room n p) where
+  same : judged f (take n room) 32 ≡ judged f p 32
+  same = ap (λ s. judged f s 32) (k .bytes) ∙ judged-enough f p
 
-  pub report-kept : (number at : ℕ) → reportOf number at (take n room) ≡ reportOf number at p
-  report-kept number at = ap (λ (j : Judgement). headText number at ++ answerText (j .answer) (j .words)) same
+  pub report-kept : (number at : ℕ) → reportOf f number at (take n room) ≡ reportOf f number at p
+  report-kept number at = ap (λ (j : Judgement). headText number at ++ answerText f (j .answer) (j .words)) same
 
-  pub accepted-kept : isTaken (take n room) ≡ isTaken p
+  pub accepted-kept : isTaken f (take n room) ≡ isTaken f p
   accepted-kept = ap (λ (j : Judgement). isRead (j .answer)) same

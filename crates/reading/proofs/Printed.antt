@@ -11,6 +11,7 @@ use lib.ListN.{length, take, drop, length-append, length-drop, replicate}
 use lib.Seq.{take-at, length-take-le}
 use Rattle.figures.proofs.Bytes.{laid-fits}
 use Rattle.figures.proofs.Decimal.{digits-length}
+use Rattle.units.specs.declared.kinds.Family.{Family}
 use Rattle.pieces.specs.Pieces.{isJoined, markAfter, fedFrom}
 use Rattle.pieces.specs.declared.Mark.{Mark}
 use Rattle.pieces.specs.declared.Mark.the-variants.{Open}
@@ -60,24 +61,24 @@ standing m n at on k a r room text = record {
 
 -- a piece is reported whole, and counted
 
-module _ (m : Mark) (p : List ℕ) (at on k a r n : ℕ) (room text : List ℕ) (kept : Keeps room n p) (long : length text ≡ 5367)
+module _ (f : Family) (m : Mark) (p : List ℕ) (at on k a r n : ℕ) (room text : List ℕ) (kept : Keeps room n p) (long : length text ≡ 5367)
     (hk : k < largest) (ha : a ≤ k) (hr : r ≤ k) where
   abbrev g : Progress
   g = standing m n at on k a r room text .progress
 
   abbrev told : Turn
-  told = reported room g (length text)
+  told = reported f room g (length text)
 
   abbrev report : List ℕ
-  report = reportOf (moreOf k) at (take n room)
+  report = reportOf f (moreOf k) at (take n room)
 
-  told-out : take (told .count) (toldText room g text) ≡ reportOf (k + 1) at p
+  told-out : take (told .count) (toldText f room g text) ≡ reportOf f (k + 1) at p
   told-out =
-      let is : report ≡ reportOf (k + 1) at p = ap (λ i. reportOf i at (take n room)) (more-is k hk) ∙ report-kept room n p kept (k + 1) at in
-      put-out text report (omega (arith, report-fits (moreOf k) at (take n room))) ∙ is
+      let is : report ≡ reportOf f (k + 1) at p = ap (λ i. reportOf f i at (take n room)) (more-is k hk) ∙ report-kept f room n p kept (k + 1) at in
+      put-out text report (omega (arith, report-fits f (moreOf k) at (take n room))) ∙ is
 
   told-fits : told .count ≤ 5280
-  told-fits = omega (arith, report-fits (moreOf k) at (take n room), min-le-left (length report) (length text))
+  told-fits = omega (arith, report-fits f (moreOf k) at (take n room), min-le-left (length report) (length text))
 
   abbrev counted : Progress
   counted = record {
@@ -86,40 +87,40 @@ module _ (m : Mark) (p : List ℕ) (at on k a r n : ℕ) (room text : List ℕ) 
     place = on;
     next = on;
     blocks = k + 1;
-    accepted = cond (isTaken p) (a + 1) a;
-    refused = cond (isTaken p) r (r + 1);
+    accepted = cond (isTaken f p) (a + 1) a;
+    refused = cond (isTaken f p) r (r + 1);
   }
 
   told-on : told .progress ≡ counted
   told-on =
       let ek = more-is k hk in
-      let ea : cond (isTaken (take n room)) (moreOf a) a ≡ cond (isTaken p) (a + 1) a =
-      ap (λ t. cond t (moreOf a) a) (accepted-kept room n p kept) ∙ ap (λ i. cond (isTaken p) i a) (more-is a (omega arith)) in
-      let er : cond (isTaken (take n room)) r (moreOf r) ≡ cond (isTaken p) r (r + 1) =
-      ap (λ t. cond t r (moreOf r)) (accepted-kept room n p kept) ∙ ap (λ i. cond (isTaken p) r i) (more-is r (omega arith)) in
+      let ea : cond (isTaken f (take n room)) (moreOf a) a ≡ cond (isTaken f p) (a + 1) a =
+      ap (λ t. cond t (moreOf a) a) (accepted-kept f room n p kept) ∙ ap (λ i. cond (isTaken f p) i a) (more-is a (omega arith)) in
+      let er : cond (isTaken f (take n room)) r (moreOf r) ≡ cond (isTaken f p) r (r + 1) =
+      ap (λ t. cond t r (moreOf r)) (accepted-kept f room n p kept) ∙ ap (λ i. cond (isTaken f p) r i) (more-is r (omega arith)) in
       λ i. record { mark = Open; kept = 0; place = on; next = on; blocks = ek i; accepted = ea i; refused = er i }
 
-  told-long : length (toldText room g text) ≡ 5367
+  told-long : length (toldText f room g text) ≡ 5367
   told-long = put-length text report 0 ∙ long
 
   -- at the end
 
   abbrev closeBy : Bool → List ℕ
   closeBy t =
-      let f = cond t (record { progress = g; count = 0 }) told in
-      let line = lastLine (f .progress) in
-      let text′ = cond t text (toldText room g text) in
-      take (min (f .count + length line) (length text′)) (putAt text′ (f .count) line)
+      let out = cond t (record { progress = g; count = 0 }) told in
+      let line = lastLine (out .progress) in
+      let text′ = cond t text (toldText f room g text) in
+      take (min (out .count + length line) (length text′)) (putAt text′ (out .count) line)
 
-  close-by : (t : Bool) → closeBy t ≡ reportsFrom k at a r (cond t [] (p ∷ []))
+  close-by : (t : Bool) → closeBy t ≡ reportsFrom f k at a r (cond t [] (p ∷ []))
   unfolding reportsFrom
   close-by true = line-out g text 0 long (omega arith)
   close-by false =
-      line-out (told .progress) (toldText room g text) (told .count) told-long told-fits
+      line-out (told .progress) (toldText f room g text) (told .count) told-long told-fits
       ∙ ap (λ l. l ++ lastLine (told .progress)) told-out
-      ∙ ap (λ h. reportOf (k + 1) at p ++ lastLine h) told-on
+      ∙ ap (λ h. reportOf f (k + 1) at p ++ lastLine h) told-on
 
-  closes : closing (standing m n at on k a r room text) ≡ reportsFrom k at a r (fedFrom m p [])
+  closes : closing f (standing m n at on k a r room text) ≡ reportsFrom f k at a r (fedFrom m p [])
   unfolding fedFrom
   closes = ap closeBy (none p (kept .count)) ∙ close-by (eqb (length p) 0)
     where
@@ -131,91 +132,91 @@ module _ (m : Mark) (p : List ℕ) (at on k a r n : ℕ) (room text : List ℕ) 
 
 -- the reports of what is still to come
 
-abbrev Claim : List ℕ → Type 0
-Claim s =
+abbrev Claim : Family → List ℕ → Type 0
+Claim f s =
     (m : Mark) (p : List ℕ) (at on k a r n : ℕ) (room text : List ℕ) → Keeps room n p → length text ≡ 5367
     → on ≡ at + length p → on + length s ≤ largest → k + length s < largest → a ≤ k → r ≤ k
-    → printedFrom (standing m n at on k a r room text) s ≡ reportsFrom k at a r (fedFrom m p s)
+    → printedFrom f (standing m n at on k a r room text) s ≡ reportsFrom f k at a r (fedFrom m p s)
 
-claim-none : Claim []
+claim-none : (f : Family) → Claim f []
 unfolding printedFrom
-claim-none m p at on k a r n room text kept long eo hs hk ha hr = closes m p at on k a r n room text kept long (omega arith) ha hr
+claim-none f m p at on k a r n room text kept long eo hs hk ha hr = closes f m p at on k a r n room text kept long (omega arith) ha hr
 
 one-more : (t : Bool) (a r k : ℕ) → a ≤ k → r ≤ k → (cond t (a + 1) a ≤ k + 1) × (cond t r (r + 1) ≤ k + 1)
 one-more true a r k ha hr = (omega arith, omega arith)
 one-more false a r k ha hr = (omega arith, omega arith)
 
-module _ (b : ℕ) (s : List ℕ) (ih : Claim s) (m : Mark) (p : List ℕ) (at on k a r n : ℕ) (room text : List ℕ) (kept : Keeps room n p)
+module _ (f : Family) (b : ℕ) (s : List ℕ) (ih : Claim f s) (m : Mark) (p : List ℕ) (at on k a r n : ℕ) (room text : List ℕ) (kept : Keeps room n p)
     (long : length text ≡ 5367) (eo : on ≡ at + length p) (hs : on + suc (length s) ≤ largest) (hk : k + suc (length s) < largest)
     (ha : a ≤ k) (hr : r ≤ k) where
   abbrev h : Progress
   h = standing m n at on k a r room text .progress
 
   abbrev fedBy : Bool → Fed
-  fedBy t = cond t (goesOn room h b text) (startsNext room h b text)
+  fedBy t = cond t (goesOn room h b text) (startsNext f room h b text)
 
   abbrev later : Fed → List ℕ
-  later f = printedFrom (record { progress = f .turn .progress; room = f .room; text = f .text }) s
+  later t = printedFrom f (record { progress = t .turn .progress; room = t .room; text = t .text }) s
 
   next-is : moreOf on ≡ on + 1
   next-is = more-is on (omega arith)
 
   step : (t : Bool) → take (fedBy t .turn .count) (fedBy t .text) ++ later (fedBy t)
-      ≡ reportsFrom k at a r (cond t (fedFrom (markAfter m b) (p ++ (b ∷ [])) s) (p ∷ fedFrom (markAfter Open b) (b ∷ []) s))
+      ≡ reportsFrom f k at a r (cond t (fedFrom (markAfter m b) (p ++ (b ∷ [])) s) (p ∷ fedFrom (markAfter Open b) (b ∷ []) s))
   unfolding reportsFrom
   step true =
       ih (markAfter m b) (p ++ (b ∷ [])) at (moreOf on) k a r (min (n + 1) (length room)) (putAt room n (b ∷ [])) text
       (keeps-more room n p b kept) long (omega (arith, next-is, length-append p (b ∷ []))) (omega (arith, next-is)) (omega arith) ha hr
   step false =
       let room′ = putAt room 0 (b ∷ []) in
-      let text′ = toldText room h text in
-      let a′ = cond (isTaken p) (a + 1) a in
-      let r′ = cond (isTaken p) r (r + 1) in
-      let few = one-more (isTaken p) a r k ha hr in
+      let text′ = toldText f room h text in
+      let a′ = cond (isTaken f p) (a + 1) a in
+      let r′ = cond (isTaken f p) r (r + 1) in
+      let few = one-more (isTaken f p) a r k ha hr in
       let first = keeps-more room 0 [] b (keeps-none room (kept .size)) in
-      let long′ = told-long m p at on k a r n room text kept long (omega arith) ha hr in
+      let long′ = told-long f m p at on k a r n room text kept long (omega arith) ha hr in
       let then = ih (markAfter Open b) (b ∷ []) on (moreOf on) (k + 1) a′ r′ (min (0 + 1) (length room)) room′ text′
       first long′ next-is (omega (arith, next-is)) (omega arith) (few .0) (few .1) in
-      ap (λ l. l ++ later (fedBy false)) (told-out m p at on k a r n room text kept long (omega arith) ha hr)
-      ∙ ap (λ l. reportOf (k + 1) at p ++ l)
-      (ap (λ g. printedFrom (record { progress = joined (length room) g b; room = room′; text = text′ }) s)
-      (told-on m p at on k a r n room text kept long (omega arith) ha hr)
+      ap (λ l. l ++ later (fedBy false)) (told-out f m p at on k a r n room text kept long (omega arith) ha hr)
+      ∙ ap (λ l. reportOf f (k + 1) at p ++ l)
+      (ap (λ g. printedFrom f (record { progress = joined (length room) g b; room = room′; text = text′ }) s)
+      (told-on f m p at on k a r n room text kept long (omega arith) ha hr)
       ∙ then
-      ∙ ap (λ i. reportsFrom (k + 1) i a′ r′ (fedFrom (markAfter Open b) (b ∷ []) s)) eo)
+      ∙ ap (λ i. reportsFrom f (k + 1) i a′ r′ (fedFrom (markAfter Open b) (b ∷ []) s)) eo)
 
-claim-more : (b : ℕ) (s : List ℕ) → Claim s → Claim (b ∷ s)
+claim-more : (f : Family) (b : ℕ) (s : List ℕ) → Claim f s → Claim f (b ∷ s)
 unfolding printedFrom fedFrom
-claim-more b s ih m p at on k a r n room text kept long eo hs hk ha hr = step b s ih m p at on k a r n room text kept long eo hs hk ha hr (isJoined m b)
+claim-more f b s ih m p at on k a r n room text kept long eo hs hk ha hr = step f b s ih m p at on k a r n room text kept long eo hs hk ha hr (isJoined m b)
 
-claim : (s : List ℕ) → Claim s
-claim [] = claim-none
-claim (b ∷ s) = claim-more b s (claim s)
+claim : (f : Family) (s : List ℕ) → Claim f s
+claim f [] = claim-none f
+claim f (b ∷ s) = claim-more f b s (claim f s)
 
-pub printed : (s : List ℕ) → length s < largest → printedFrom begun s ≡ printedOf s
+pub printed : (f : Family) (s : List ℕ) → length s < largest → printedFrom f begun s ≡ printedOf f s
 unfolding begun
-printed s h =
-    claim s Open [] 0 0 0 0 0 0 (replicate 800 0) (replicate 5367 0) (keeps-none (replicate 800 0) refl) refl refl
+printed f s h =
+    claim f s Open [] 0 0 0 0 0 0 (replicate 800 0) (replicate 5367 0) (keeps-none (replicate 800 0) refl) refl refl
     (omega arith) (omega arith) (omega arith) (omega arith)
-    ∙ ap (reportsFrom 0 0 0 0) (fed-pieces s)
+    ∙ ap (reportsFrom f 0 0 0 0) (fed-pieces s)
 
 -- part after part, whatever the parts are
 
-pub printed-on : (l rest : List ℕ) (s : Standing) → printedFrom s (l ++ rest) ≡ handedFrom s l ++ printedFrom (afterBytes s l) rest
+pub printed-on : (f : Family) (l rest : List ℕ) (s : Standing) → printedFrom f s (l ++ rest) ≡ handedFrom f s l ++ printedFrom f (afterBytes f s l) rest
 unfolding printedFrom handedFrom afterBytes
-printed-on [] rest s = refl
-printed-on (b ∷ l) rest s = ap (λ m. handed s b ++ m) (printed-on l rest (next s b)) ∙ sym (append-assoc (handed s b) _ _)
+printed-on f [] rest s = refl
+printed-on f (b ∷ l) rest s = ap (λ m. handed f s b ++ m) (printed-on f l rest (next f s b)) ∙ sym (append-assoc (handed f s b) _ _)
 
-next-out : (s : Standing) (rest : List ℕ) → (after : List ℕ) × (printedFrom s rest ≡ handedNext s rest ++ after)
+next-out : (f : Family) (s : Standing) (rest : List ℕ) → (after : List ℕ) × (printedFrom f s rest ≡ handedNext f s rest ++ after)
 unfolding printedFrom
-next-out s [] = ([], sym (append-nil _))
-next-out s (b ∷ l) = (printedFrom (next s b) l, refl)
+next-out f s [] = ([], sym (append-nil _))
+next-out f s (b ∷ l) = (printedFrom f (next f s b) l, refl)
 
 -- what is due comes, in what is printed of its file, right after what the bytes before it hand over
-pub due-printed : (text : List ℕ) (n : ℕ) (due : Due text n) → length (due .0 ++ due .1) < largest
-    → (after : List ℕ) × (printedOf (due .0 ++ due .1) ≡ handedFrom begun (due .0) ++ (take n text ++ after))
-due-printed text n due h =
+pub due-printed : (f : Family) (text : List ℕ) (n : ℕ) (due : Due f text n) → length (due .0 ++ due .1) < largest
+    → (after : List ℕ) × (printedOf f (due .0 ++ due .1) ≡ handedFrom f begun (due .0) ++ (take n text ++ after))
+due-printed f text n due h =
     let file = due .0 in
     let rest = due .1 in
-    let out = next-out (afterBytes begun file) rest in
+    let out = next-out f (afterBytes f begun file) rest in
     let is = out .1 ∙ ap (λ l. l ++ out .0) (sym (due .2)) in
-    (out .0, sym (printed (file ++ rest) h) ∙ printed-on file rest begun ∙ ap (λ l. handedFrom begun file ++ l) is)
+    (out .0, sym (printed f (file ++ rest) h) ∙ printed-on f file rest begun ∙ ap (λ l. handedFrom f begun file ++ l) is)

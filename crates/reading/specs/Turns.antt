@@ -7,6 +7,7 @@ use lib.Dec.{eqb, ltb}
 use lib.ListN.{length, take, replicate}
 use Rattle.blocks.specs.Judging.{judged}
 use Rattle.pieces.specs.Pieces.{isJoined, markAfter}
+use Rattle.units.specs.declared.kinds.Family.{Family}
 use Rattle.pieces.specs.declared.Mark.the-variants.{Open}
 use Rattle.figures.specs.Rooms.{putAt, Puts}
 use Rattle.reports.specs.Piece.{reportOf, isRead, tallyText}
@@ -21,8 +22,8 @@ largest = 18446744073709551615
 abbrev pub moreOf : ℕ → ℕ
 moreOf n = cond (ltb n largest) (n + 1) n
 
-abbrev pub isTaken : List ℕ → Bool
-isTaken piece = isRead (judged piece 32 .answer)
+abbrev pub isTaken : Family → List ℕ → Bool
+isTaken f piece = isRead (judged f piece 32 .answer)
 
 abbrev pub started : Progress
 started = record { mark = Open; kept = 0; place = 0; next = 0; blocks = 0; accepted = 0; refused = 0 }
@@ -51,13 +52,13 @@ ended g is = record {
   refused = cond is (g .refused) (moreOf (g .refused));
 }
 
-abbrev pub reported : List ℕ → Progress → ℕ → Turn
-reported room g size =
+abbrev pub reported : Family → List ℕ → Progress → ℕ → Turn
+reported f room g size =
     let piece = take (g .kept) room in
-    record { progress = ended g (isTaken piece); count = min (length (reportOf (moreOf (g .blocks)) (g .place) piece)) size }
+    record { progress = ended g (isTaken f piece); count = min (length (reportOf f (moreOf (g .blocks)) (g .place) piece)) size }
 
-abbrev pub toldText : List ℕ → Progress → List ℕ → List ℕ
-toldText room g text = putAt text 0 (reportOf (moreOf (g .blocks)) (g .place) (take (g .kept) room))
+abbrev pub toldText : Family → List ℕ → Progress → List ℕ → List ℕ
+toldText f room g text = putAt text 0 (reportOf f (moreOf (g .blocks)) (g .place) (take (g .kept) room))
 
 -- what a byte leaves: how far the file is read, the bytes kept, and the text
 pub record Fed : Type 0 where
@@ -74,36 +75,36 @@ goesOn room g b text = record {
 }
 
 -- the byte starts the next piece
-abbrev pub startsNext : List ℕ → Progress → ℕ → List ℕ → Fed
-startsNext room g b text =
-    let t = reported room g (length text) in
+abbrev pub startsNext : Family → List ℕ → Progress → ℕ → List ℕ → Fed
+startsNext f room g b text =
+    let t = reported f room g (length text) in
     record {
       turn = record { progress = joined (length room) (t .progress) b; count = t .count };
       room = putAt room 0 (b ∷ []);
-      text = toldText room g text;
+      text = toldText f room g text;
     }
 
-abbrev pub fed : List ℕ → Progress → ℕ → List ℕ → Fed
-fed room g b text = cond (isJoined (g .mark) b) (goesOn room g b text) (startsNext room g b text)
+abbrev pub fed : Family → List ℕ → Progress → ℕ → List ℕ → Fed
+fed f room g b text = cond (isJoined (g .mark) b) (goesOn room g b text) (startsNext f room g b text)
 
-abbrev pub Feeds : List ℕ → Progress → ℕ → List ℕ → Turn → List ℕ → List ℕ → Type 0
-Feeds room g b text r room′ text′ =
-    let f = fed room g b text in (r ≡ f .turn) × ((room′ ≡ f .room) × (text′ ≡ f .text))
+abbrev pub Feeds : Family → List ℕ → Progress → ℕ → List ℕ → Turn → List ℕ → List ℕ → Type 0
+Feeds f room g b text r room′ text′ =
+    let t = fed f room g b text in (r ≡ t .turn) × ((room′ ≡ t .room) × (text′ ≡ t .text))
 
 abbrev pub lastLine : Progress → List ℕ
 lastLine g = tallyText (g .blocks) (g .accepted) (g .refused)
 
 -- at the file's end: a last piece without CR
-abbrev pub finished : List ℕ → Progress → ℕ → Turn
-finished room g size = cond (eqb (g .kept) 0) (record { progress = g; count = 0 }) (reported room g size)
+abbrev pub finished : Family → List ℕ → Progress → ℕ → Turn
+finished f room g size = cond (eqb (g .kept) 0) (record { progress = g; count = 0 }) (reported f room g size)
 
-abbrev pub finishedText : List ℕ → Progress → List ℕ → List ℕ
-finishedText room g text = cond (eqb (g .kept) 0) text (toldText room g text)
+abbrev pub finishedText : Family → List ℕ → Progress → List ℕ → List ℕ
+finishedText f room g text = cond (eqb (g .kept) 0) text (toldText f room g text)
 
 -- and after it the last line
-abbrev pub Closes : List ℕ → Progress → List ℕ → ℕ → List ℕ → Type 0
-Closes room g text r text′ =
-    let f = finished room g (length text) in Puts (finishedText room g text) (f .count) (lastLine (f .progress)) r text′
+abbrev pub Closes : Family → List ℕ → Progress → List ℕ → ℕ → List ℕ → Type 0
+Closes f room g text r text′ =
+    let t = finished f room g (length text) in Puts (finishedText f room g text) (t .count) (lastLine (t .progress)) r text′
 
 -- where the reading stands: how far it has got, what is kept of the piece, and the text
 pub record Standing : Type 0 where
@@ -111,30 +112,30 @@ pub record Standing : Type 0 where
   pub room : List ℕ
   pub text : List ℕ
 
-abbrev pub fedAt : Standing → ℕ → Fed
-fedAt s b = fed (s .room) (s .progress) b (s .text)
+abbrev pub fedAt : Family → Standing → ℕ → Fed
+fedAt f s b = fed f (s .room) (s .progress) b (s .text)
 
-abbrev pub next : Standing → ℕ → Standing
-next s b = let f = fedAt s b in record { progress = f .turn .progress; room = f .room; text = f .text }
+abbrev pub next : Family → Standing → ℕ → Standing
+next f s b = let t = fedAt f s b in record { progress = t .turn .progress; room = t .room; text = t .text }
 
 -- after so many bytes
-unfoldable pub afterBytes : Standing → List ℕ → Standing
-afterBytes s [] = s
-afterBytes s (b ∷ l) = afterBytes (next s b) l
+unfoldable pub afterBytes : Family → Standing → List ℕ → Standing
+afterBytes f s [] = s
+afterBytes f s (b ∷ l) = afterBytes f (next f s b) l
 
 -- at the start nothing is kept of a piece, and nothing is put in the text
 unfoldable pub begun : Standing
 begun = record { progress = started; room = replicate 800 0; text = replicate 5367 0 }
 
 -- where the code stands, some file's bytes after the start
-abbrev pub Reached : List ℕ → Progress → List ℕ → Type 0
-Reached room g text = (file : List ℕ) × (afterBytes begun file ≡ record { progress = g; room = room; text = text })
+abbrev pub Reached : Family → List ℕ → Progress → List ℕ → Type 0
+Reached f room g text = (file : List ℕ) × (afterBytes f begun file ≡ record { progress = g; room = room; text = text })
 
 -- all of these bytes were taken, where it goes on
-abbrev pub Goes : List ℕ → Progress → List ℕ → List ℕ → Next → List ℕ → List ℕ → Type 0
-Goes room g bytes text r room′ text′ =
-    r .on ≡ true → afterBytes (record { progress = g; room = room; text = text }) bytes ≡ record { progress = r .progress; room = room′; text = text′ }
+abbrev pub Goes : Family → List ℕ → Progress → List ℕ → List ℕ → Next → List ℕ → List ℕ → Type 0
+Goes f room g bytes text r room′ text′ =
+    r .on ≡ true → afterBytes f (record { progress = g; room = room; text = text }) bytes ≡ record { progress = r .progress; room = room′; text = text′ }
 
 -- these bytes are those of a read, of which no contract can say more
-abbrev pub GoesOn : List ℕ → Progress → List ℕ → Next → List ℕ → List ℕ → Type 0
-GoesOn room g text r room′ text′ = (bytes : List ℕ) × Goes room g bytes text r room′ text′
+abbrev pub GoesOn : Family → List ℕ → Progress → List ℕ → Next → List ℕ → List ℕ → Type 0
+GoesOn f room g text r room′ text′ = (bytes : List ℕ) × Goes f room g bytes text r room′ text′

@@ -1,18 +1,24 @@
-// The program reading: reads a GSI file from standard input, and prints what stands in each of its blocks.
+// The program reading: reads a GSI file from standard input, and prints what stands in each of its blocks. A total station's; a level's where
+// its argument is `level`.
+mod asked;
 mod turns;
 
 ghost use Prim.Native.Nat.{_≤_};
 ghost use lib.ListN.{length};
 ghost use Rattle.reading.specs.Turns.{Reached, Goes, GoesOn};
 ghost use Rattle.reading.specs.Printed.{Due};
+use crate::asked::Asked;
+use crate::asked::asked_by;
 use crate::turns::KEPT;
 use crate::turns::Progress;
 use crate::turns::TEXT;
 use crate::turns::close;
 use crate::turns::feed;
 use crate::turns::start;
+use libc::STDERR_FILENO;
 use libc::STDIN_FILENO;
 use libc::STDOUT_FILENO;
+use units::kinds::Family;
 
 // How far the file is read, and whether to go on: not at its end, nor where it can't be read or nothing can be written any more.
 struct Next {
@@ -20,25 +26,31 @@ struct Next {
     on: bool,
 }
 
-// The text's first n bytes, the only ones that are written: what a file's next byte, or its end, puts out.
-fn print(text: &[u8], n: usize) -> bool
+// The text's first n bytes, the only ones that are written: what the next byte of a file of the family, or its end, puts out.
+fn print(family: Family, text: &[u8], n: usize) -> bool
     requires { ⌜ n ≤ length (now text) ⌝ }
-    requires { ⌜ Due (now text) n ⌝ }
+    requires { ⌜ Due family (now text) n ⌝ }
 {
     io::write_all(STDOUT_FILENO, &text[..n])
 }
 
 // The bytes of one read.
-fn feed_all(bytes: &[u8], room: &mut [u8], progress: Progress, text: &mut [u8]) -> Next
-    requires { ⌜ Reached (now room) progress (now text) ⌝ }
-    ensures { λ r. ⌜ Goes (now (room .entry)) progress (now (bytes .entry)) (now (text .entry)) r (now (room .exit)) (now (text .exit)) ⌝ }
+fn feed_all(
+    family: Family,
+    bytes: &[u8],
+    room: &mut [u8],
+    progress: Progress,
+    text: &mut [u8],
+) -> Next
+    requires { ⌜ Reached family (now room) progress (now text) ⌝ }
+    ensures { λ r. ⌜ Goes family (now (room .entry)) progress (now (bytes .entry)) (now (text .entry)) r (now (room .exit)) (now (text .exit)) ⌝ }
 {
     let mut at = progress;
     let mut i = 0;
     while i < bytes.len() {
-        let turn = feed(room, at, bytes[i], text);
+        let turn = feed(family, room, at, bytes[i], text);
         at = turn.progress;
-        if !print(text, turn.count) {
+        if !print(family, text, turn.count) {
             return Next {
                 progress: at,
                 on: false,
@@ -53,19 +65,19 @@ fn feed_all(bytes: &[u8], room: &mut [u8], progress: Progress, text: &mut [u8]) 
 }
 
 // Reads once. A read that fails isn't the end of the file: nothing more is printed.
-fn turn(room: &mut [u8], progress: Progress, text: &mut [u8]) -> Next
-    requires { ⌜ Reached (now room) progress (now text) ⌝ }
-    ensures { λ r. ⌜ GoesOn (now (room .entry)) progress (now (text .entry)) r (now (room .exit)) (now (text .exit)) ⌝ }
+fn turn(family: Family, room: &mut [u8], progress: Progress, text: &mut [u8]) -> Next
+    requires { ⌜ Reached family (now room) progress (now text) ⌝ }
+    ensures { λ r. ⌜ GoesOn family (now (room .entry)) progress (now (text .entry)) r (now (room .exit)) (now (text .exit)) ⌝ }
 {
     let mut bytes = io::large_buffer();
     let got = libc::read(STDIN_FILENO, &mut bytes);
     let n = io::count(got, &bytes);
     if 0 < n {
-        return feed_all(&bytes[..n], room, progress, text);
+        return feed_all(family, &bytes[..n], room, progress, text);
     }
     if got == 0 {
-        let last = close(room, progress, text);
-        print(text, last);
+        let last = close(family, room, progress, text);
+        print(family, text, last);
     }
     Next {
         progress: progress,
@@ -73,18 +85,41 @@ fn turn(room: &mut [u8], progress: Progress, text: &mut [u8]) -> Next
     }
 }
 
-// A proved loop has to end, so that this one counts its turns down, from a number that no run uses up.
-fn main() {
+// Reads the file to its end. A proved loop has to end, so that this one counts its turns down, from a number that no run uses up.
+fn run(family: Family) {
     let mut room = [0; KEPT];
     let mut text = [0; TEXT];
     let mut progress = start();
     let mut turns = u64::MAX;
     while turns > 0 {
-        let next = turn(&mut room, progress, &mut text);
+        let next = turn(family, &mut room, progress, &mut text);
         if !next.on {
             return;
         }
         progress = next.progress;
         turns -= 1;
+    }
+}
+
+// The first argument; more than `level` has bytes is no answer that counts.
+fn ask() -> Asked {
+    let n = os::arg_count();
+    let mut word = [0; 8];
+    if n < 2 {
+        return asked_by(n, &word[..0]);
+    }
+    let length = os::arg(1, &mut word);
+    if os::errno() != 0 {
+        return Asked::Usage;
+    }
+    asked_by(n, &word[..length])
+}
+
+fn main() {
+    match ask() {
+        Asked::Usage => {
+            io::write_all(STDERR_FILENO, b"usage: reading [level] < FILE\n");
+        }
+        Asked::File(family) => run(family),
     }
 }

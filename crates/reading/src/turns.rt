@@ -12,6 +12,7 @@ use pieces::joins;
 use reports::piece::ENOUGH;
 use reports::piece::report;
 use reports::piece::tally;
+use units::kinds::Family;
 
 // Of a piece so many bytes are kept. A block is at most 771 bytes long, so that the piece is judged as if all of it were.
 pub const KEPT: usize = 800;
@@ -80,13 +81,13 @@ fn join(room: &mut [u8], progress: Progress, b: u8) -> Progress
 }
 
 // The report of the piece, which has ended.
-fn tell(room: &[u8], progress: Progress, text: &mut [u8]) -> Turn
+fn tell(family: Family, room: &[u8], progress: Progress, text: &mut [u8]) -> Turn
     requires { ⌜ progress .kept ≤ length (now room) ⌝ }
-    ensures { λ r. ⌜ (r ≡ reported (now (room .entry)) progress (length (now (text .entry)))) × (now (text .exit) ≡ toldText (now (room .entry)) progress (now (text .entry))) ⌝ }
+    ensures { λ r. ⌜ (r ≡ reported family (now (room .entry)) progress (length (now (text .entry)))) × (now (text .exit) ≡ toldText family (now (room .entry)) progress (now (text .entry))) ⌝ }
 {
     let kept = progress.kept;
     let blocks = more(progress.blocks);
-    let reported = report(blocks, progress.place, &room[..kept], text);
+    let reported = report(family, blocks, progress.place, &room[..kept], text);
     let mut accepted = progress.accepted;
     let mut refused = progress.refused;
     if reported.accepted {
@@ -109,9 +110,15 @@ fn tell(room: &[u8], progress: Progress, text: &mut [u8]) -> Turn
 }
 
 // The next byte of the file. Where it starts a piece, the report of the one before is put.
-pub(crate) fn feed(room: &mut [u8], progress: Progress, b: u8, text: &mut [u8]) -> Turn
+pub(crate) fn feed(
+    family: Family,
+    room: &mut [u8],
+    progress: Progress,
+    b: u8,
+    text: &mut [u8],
+) -> Turn
     requires { ⌜ progress .kept ≤ length (now room) ⌝ }
-    ensures { λ r. ⌜ Feeds (now (room .entry)) progress b (now (text .entry)) r (now (room .exit)) (now (text .exit)) ⌝ }
+    ensures { λ r. ⌜ Feeds family (now (room .entry)) progress b (now (text .entry)) r (now (room .exit)) (now (text .exit)) ⌝ }
 {
     let mark = progress.mark;
     if joins(mark, b) {
@@ -121,7 +128,7 @@ pub(crate) fn feed(room: &mut [u8], progress: Progress, b: u8, text: &mut [u8]) 
             count: 0,
         };
     }
-    let turn = tell(room, progress, text);
+    let turn = tell(family, room, progress, text);
     let ended = turn.progress;
     let next = join(room, ended, b);
     Turn {
@@ -131,9 +138,9 @@ pub(crate) fn feed(room: &mut [u8], progress: Progress, b: u8, text: &mut [u8]) 
 }
 
 // The end of the file. Where it ends a piece, the report of that is put.
-fn finish(room: &[u8], progress: Progress, text: &mut [u8]) -> Turn
+fn finish(family: Family, room: &[u8], progress: Progress, text: &mut [u8]) -> Turn
     requires { ⌜ progress .kept ≤ length (now room) ⌝ }
-    ensures { λ r. ⌜ (r ≡ finished (now (room .entry)) progress (length (now (text .entry)))) × (now (text .exit) ≡ finishedText (now (room .entry)) progress (now (text .entry))) ⌝ }
+    ensures { λ r. ⌜ (r ≡ finished family (now (room .entry)) progress (length (now (text .entry)))) × (now (text .exit) ≡ finishedText family (now (room .entry)) progress (now (text .entry))) ⌝ }
 {
     if progress.kept == 0 {
         return Turn {
@@ -141,15 +148,15 @@ fn finish(room: &[u8], progress: Progress, text: &mut [u8]) -> Turn
             count: 0,
         };
     }
-    tell(room, progress, text)
+    tell(family, room, progress, text)
 }
 
 // The end of the file: the report of a last piece without CR and, after it, the last line.
-pub(crate) fn close(room: &[u8], progress: Progress, text: &mut [u8]) -> usize
+pub(crate) fn close(family: Family, room: &[u8], progress: Progress, text: &mut [u8]) -> usize
     requires { ⌜ progress .kept ≤ length (now room) ⌝ }
-    ensures { λ r. ⌜ Closes (now (room .entry)) progress (now (text .entry)) r (now (text .exit)) ⌝ }
+    ensures { λ r. ⌜ Closes family (now (room .entry)) progress (now (text .entry)) r (now (text .exit)) ⌝ }
 {
-    let turn = finish(room, progress, text);
+    let turn = finish(family, room, progress, text);
     let all = turn.progress;
     let n = turn.count;
     n + tally(all.blocks, all.accepted, all.refused, &mut text[n..])

@@ -10,6 +10,7 @@ use lines::verdicts::verdict_number;
 use state::entries::factory;
 use state::image::IMAGE;
 use state::image::encode;
+use units::kinds::Family;
 use words::records::Word;
 
 fn put(text: &[u8]) {
@@ -41,9 +42,9 @@ fn put_values(words: [Word; 32], n: usize) {
     }
 }
 
-fn show(name: &[u8], block: &[u8]) {
+fn show(name: &[u8], family: Family, block: &[u8]) {
     put(name);
-    let judgement = judge(block, 32);
+    let judgement = judge(block, family, 32);
     let answer = judgement.answer;
     let kept = judgement.block;
     match answer {
@@ -132,26 +133,136 @@ fn long_get() {
     );
 }
 
+// A level's: a backsight, a difference below zero, a ground height; inches, a unit that there isn't, a wide word.
+fn level_words() {
+    show(b"331106", Family::Level, b"331106+00010198 \r");
+    show(b"573..0", Family::Level, b"573..0-00000880 \r");
+    show(b"83..16", Family::Level, b"83..16+00187430 \r");
+    show(b"331109", Family::Level, b"331109+00000001 \r");
+    show(b"331105", Family::Level, b"331105+00000001 \r");
+    show(
+        b"32..09 of a station",
+        Family::Station,
+        b"32..09+00000001 \r",
+    );
+    show(b"wide", Family::Level, b"*331106+0000000000010198 \r");
+}
+
+// A level's indexes at their edges.
+fn level_edges() {
+    show(b"330", Family::Level, b"330..0+00000001 \r");
+    show(b"336", Family::Level, b"336..0+00000001 \r");
+    show(b"374", Family::Level, b"374..0+00000001 \r");
+    show(b"521", Family::Level, b"521...+00000001 \r");
+    show(b"329", Family::Level, b"329..0+00000001 \r");
+    show(b"337", Family::Level, b"337..0+00000001 \r");
+    show(b"373", Family::Level, b"373..0+00000001 \r");
+    show(b"375", Family::Level, b"375..0+00000001 \r");
+    show(b"520", Family::Level, b"520..0+00000001 \r");
+    show(b"570", Family::Level, b"570..0+00000001 \r");
+    show(b"575", Family::Level, b"575..0+00000001 \r");
+    show(b"420...", Family::Level, b"420...+00000001 \r");
+    show(b"32100.", Family::Level, b"32100.+00000001 \r");
+}
+
+// 003's listing of a level, to its first heights, and from there on.
+fn level_listing() {
+    show(
+        b"block 1",
+        Family::Level,
+        b"410001+00000020 42....+10842V02 \r\n",
+    );
+    show(
+        b"block 2",
+        Family::Level,
+        b"410002+00000021 42....+00007330 \r\n",
+    );
+    show(
+        b"block 3",
+        Family::Level,
+        b"410003+00000022 42....+00261001 \r\n",
+    );
+    show(b"block 4", Family::Level, b"410004+?......1 \r\n");
+    show(
+        b"block 5",
+        Family::Level,
+        b"110005+00003000 83..16+00187430 \r\n",
+    );
+    show(
+        b"block 6",
+        Family::Level,
+        b"110006+00003000 32..00+00016380 331106+00010198 \r\n",
+    );
+    show(
+        b"block 7",
+        Family::Level,
+        b"110007+00004000 32..00+00017260 332106+00007177 \r\n",
+    );
+    show(
+        b"block 8",
+        Family::Level,
+        b"110008+00004000 573..0-00000880 574..0+00033650 83..06+00190451 \r\n",
+    );
+}
+
+fn level_listing_on() {
+    show(
+        b"block 9",
+        Family::Level,
+        b"110009+00004000 32..00+00019390 331106+00007600 \r\n",
+    );
+    show(
+        b"block 13",
+        Family::Level,
+        b"110013+00004001 32..00+00019490 332106+00006824 \r\n",
+    );
+    show(
+        b"block 14",
+        Family::Level,
+        b"110014+00004001 573..0-00000850 574..0+00116940 83..06+00190458 \r\n",
+    );
+    show(
+        b"block 15",
+        Family::Level,
+        b"110015+00004001 32..00+00018220 331106+00006660 \r\n",
+    );
+    show(
+        b"block 16",
+        Family::Level,
+        b"110016+00003000 32..00+00015370 332106+00009686 \r\n",
+    );
+    show(
+        b"block 17",
+        Family::Level,
+        b"110017+00003000 573..0+00002000 574..0+00150530 83..06+00187432 \r\n",
+    );
+}
+
 fn main() {
     show(
         b"P1",
+        Family::Station,
         b"110014+00000003 21.324+27952530 22.324+27000430 31..01+00265965 51..1.+0009+000 \r\n",
     );
-    show(b"P2", b"\r");
-    show(b"P3", b"*11....+000000000PNC0058 \r");
-    show(b"P4", b"21.102+39999999 \r");
-    show(b"P4", b"21.102+40000000 \r");
-    show(b"P5", b"21.104+35959599 \r");
-    show(b"P5", b"21.104+00060000 \r");
-    show(b"P6", b"82..00-00213159 \r");
-    show(b"P6", b"82..00-00000000 \r");
-    show(b"P7", b"331106+00010198 \r");
+    show(b"P2", Family::Station, b"\r");
+    show(b"P3", Family::Station, b"*11....+000000000PNC0058 \r");
+    show(b"P4", Family::Station, b"21.102+39999999 \r");
+    show(b"P4", Family::Station, b"21.102+40000000 \r");
+    show(b"P5", Family::Station, b"21.104+35959599 \r");
+    show(b"P5", Family::Station, b"21.104+00060000 \r");
+    show(b"P6", Family::Station, b"82..00-00213159 \r");
+    show(b"P6", Family::Station, b"82..00-00000000 \r");
+    show(b"P7", Family::Station, b"331106+00010198 \r");
     fresh(b"P8 SET/40/2", b"SET/40/2\r");
     fresh(b"P8 SET/40/3", b"SET/40/3\r");
     fresh(b"P8 SET/33/0", b"SET/33/0\r");
     fresh(b"P9 CONF/70", b"CONF/70\r");
     fresh(b"P10 GET/I/WI88", b"GET/I/WI88\r");
     fresh(b"P11 UNDO", b"UNDO\r");
+    level_words();
+    level_edges();
+    level_listing();
+    level_listing_on();
     full_list();
     long_get();
 }

@@ -6,12 +6,13 @@ use Rattle.figures.specs.Promises.{Determined}
 use Rattle.figures.proofs.Determined.{put-determined}
 use Rattle.figures.specs.Rooms.{Puts}
 use Rattle.reports.specs.Piece.{reportOf, Reports, tallyText}
+use Rattle.units.specs.declared.kinds.Family.{Family}
 use Rattle.reports.specs.declared.piece.Reported.{Reported}
 
 -- a piece's number, its place and its bytes, and a room go in; the count, whether it was accepted, and the room come out
-pub report-determined : Determined (ℕ × ℕ × List ℕ × List ℕ) (Reported × List ℕ) (λ i o. Reports (i .0) (i .1) (i .2) (i .3) (o .0) (o .1))
-report-determined i a b p q =
-    let put = put-determined (i .3, 0, reportOf (i .0) (i .1) (i .2)) (a .0 .count, a .1) (b .0 .count, b .1) (p .0) (q .0) in
+pub report-determined : (f : Family) → Determined (ℕ × ℕ × List ℕ × List ℕ) (Reported × List ℕ) (λ i o. Reports f (i .0) (i .1) (i .2) (i .3) (o .0) (o .1))
+report-determined f i a b p q =
+    let put = put-determined (i .3, 0, reportOf f (i .0) (i .1) (i .2)) (a .0 .count, a .1) (b .0 .count, b .1) (p .0) (q .0) in
     let accepted : a .0 .accepted ≡ b .0 .accepted = cc in
     λ k. (record { count = put k .0; accepted = accepted k }, put k .1)
 

@@ -6,8 +6,9 @@ use Rattle.figures.specs.Decimal.{numberFrom, digitsOf, placesBy}
 use Rattle.figures.specs.Text.{codes}
 use Rattle.blocks.specs.Judging.{blockFrom}
 use Rattle.reports.specs.Piece.{wordsText, reportOf}
+use Rattle.units.specs.declared.kinds.Family.the-variants.{Station, Level}
 
-pub example : reportOf 1 0 (codes "110014+00000003 21.324+27952530 22.324+27000430 31..01+00265965 51..1.+0009+000 \r\n")
+pub example : reportOf Station 1 0 (codes "110014+00000003 21.324+27952530 22.324+27000430 31..01+00265965 51..1.+0009+000 \r\n")
     ≡ codes "block=1 at=0 width=8 end=CRLF words=5 bytes=82\n"
     ++ (codes "word=1 index=11 info=0014 text=00000003\n"
     ++ (codes "word=2 index=21 info=.324 count=+10075730 step=1/10s reads=279-52-53.0\n"
@@ -16,3 +17,17 @@ pub example : reportOf 1 0 (codes "110014+00000003 21.324+27952530 22.324+270004
     ++ codes "word=5 index=51 info=..1. ppm=+9 mm=+0\n"))))
 unfolding among every numberFrom digitsOf blockFrom placesBy wordsText
 example = refl
+
+-- a level's block, and one of inches
+pub level-example : reportOf Level 1 0 (codes "110006+00003000 32..00+00016380 331106+00010198 \r\n")
+    ≡ codes "block=1 at=0 width=8 end=CRLF words=3 bytes=50\n"
+    ++ (codes "word=1 index=11 info=0006 text=00003000\n"
+    ++ (codes "word=2 index=32 info=..00 count=+16380 step=1/1000m reads=16.380m\n"
+    ++ codes "word=3 index=331 info=106 count=+10198 step=1/10000m reads=1.0198m\n"))
+unfolding among every numberFrom digitsOf blockFrom placesBy wordsText
+level-example = refl
+
+pub inch-example : reportOf Level 2 50 (codes "332.09-00101981 \r")
+    ≡ codes "block=2 at=50 width=8 end=CR words=1 bytes=17\n" ++ codes "word=1 index=332 info=.09 count=-101981 step=1/2000in reads=-50.9905in\n"
+unfolding among every numberFrom digitsOf blockFrom placesBy wordsText
+inch-example = refl

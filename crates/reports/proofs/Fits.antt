@@ -5,14 +5,15 @@ use mathlib.Core.Bool.{Bool, true, false, cond, _&&_, and-eq-true-iff}
 use mathlib.Core.List.{List, [], _∷_}
 use native.Mathlib.Omega.{arith}
 use borrow.Author.Tests.{eqb-true}
-use lib.Dec.{eqb}
-use lib.ListN.{length, take, drop, length-append, length-take}
+use lib.Dec.{eqb, ltb}
+use lib.ListN.{length, take, drop, length-append, length-take, length-drop}
 use lib.Seq.{take-at}
 use Rattle.figures.proofs.Bytes.{laid-fits}
 use Rattle.figures.proofs.Decimal.{digits-length}
+use Rattle.units.specs.declared.kinds.Family.{Family}
 use Rattle.units.specs.declared.counts.Whole.{Whole}
 use Rattle.units.specs.declared.counts.Count.{Count}
-use Rattle.units.specs.declared.counts.Count.the-variants.{Nothing, Text, Gon, Degree, Tenth, Mil, Metre, Feet, Ppm, Pair}
+use Rattle.units.specs.declared.counts.Count.the-variants.{Nothing, Text, Gon, Degree, Tenth, Mil, Metre, Feet, Inch, Ppm, Pair}
 use Rattle.words.specs.Records.{width, typedOf, isRight}
 use Rattle.words.specs.declared.records.Word.{Word}
 use Rattle.words.proofs.Checks.{width-bounds}
@@ -26,8 +27,8 @@ use Rattle.blocks.specs.declared.answers.Answer.the-variants.{Refused, Read}
 use Rattle.blocks.proofs.Accepted.{accepted}
 use Rattle.reports.specs.declared.measures.Decimals.{Decimals}
 use Rattle.reports.specs.declared.measures.Decimals.the-variants.{One, Three, Four, Five}
-use Rattle.reports.specs.Measures.{powerOf, placesOf, powerText, decimalsOf, minusText, measureText, tenthText, pairText, shownText, countText}
-use Rattle.reports.specs.Piece.{wordText, wordsText, headText, widthText, endText, readingText, refusalText, answerText, reportOf, Reports}
+use Rattle.reports.specs.Measures.{powerOf, placesOf, powerText, decimalsOf, minusText, measureText, tenthText, inchText, pairText, shownText, countText}
+use Rattle.reports.specs.Piece.{indexText, wordText, wordsText, headText, widthText, endText, readingText, refusalText, answerText, reportOf, Reports}
 use Rattle.reports.specs.declared.piece.Reported.{Reported}
 use Rattle.figures.proofs.Places.{places-most}
 
@@ -52,6 +53,9 @@ measure-short w d unit h =
 tenth-short : (w : Whole) → length (tenthText w) ≤ 82
 tenth-short w = simp (length-append, digits-length) (omega (arith, places-most (w .size), places-most (w .size / 36000), minus-short (w .minus)))
 
+inch-short : (w : Whole) → length (inchText w) ≤ 82
+inch-short w = simp (length-append, digits-length) (omega (arith, places-most (w .size), places-most (w .size / 2000), minus-short (w .minus)))
+
 pair-short : (p q : Whole) → length (pairText p q) ≤ 82
 pair-short p q = simp (length-append, digits-length) (omega (arith, places-most (p .size), places-most (q .size)))
 
@@ -70,24 +74,30 @@ count-short wide w (Metre c) =
     (measure-short (c .0) One (109 ∷ 109 ∷ []) (omega arith))
     (measure-short (c .0) (decimalsOf (c .1)) (109 ∷ []) (omega arith))
 count-short wide w (Feet c) = measure-short (c .0) (decimalsOf (c .1)) (102 ∷ 116 ∷ []) (omega arith)
+count-short wide w (Inch c) = inch-short (c .0)
 count-short wide w (Ppm c) = measure-short (c .0) Four (112 ∷ 112 ∷ 109 ∷ []) (omega arith)
 count-short wide w (Pair p q) = pair-short p q
 
-word-short : (k : ℕ) (wide : Bool) (w : Word) → length (w .info) ≡ 4 → length (wordText k wide w) ≤ 160
-word-short k wide w h = simp (length-append, digits-length) (omega (arith, places-most k, count-short wide w (typedOf w)))
+index-short : (i : ℕ) (info : List ℕ) → length info ≡ 4 → length (indexText i info) ≤ 12
+index-short i info h =
+    either (ltb i 100) _ _ 12 (simp (length-append, digits-length) (omega arith)) (simp (length-append, digits-length) (omega (arith, length-drop 1 info)))
 
-info-four : (wide : Bool) (w : Word) → isRight wide w ≡ true → length (w .info) ≡ 4
-info-four wide w e =
+word-short : (f : Family) (k : ℕ) (wide : Bool) (w : Word) → length (w .info) ≡ 4 → length (wordText f k wide w) ≤ 160
+word-short f k wide w h =
+    simp (length-append, digits-length) (omega (arith, places-most k, index-short (w .index) (w .info) h, count-short wide w (typedOf f w)))
+
+info-four : (f : Family) (wide : Bool) (w : Word) → isRight f wide w ≡ true → length (w .info) ≡ 4
+info-four f wide w e =
     let sizes = and-eq-true-iff (eqb (length (w .info)) 4 && eqb (length (w .text)) 16) _ .0 e .0 in
     eqb-true (length (w .info)) 4 (and-eq-true-iff (eqb (length (w .info)) 4) (eqb (length (w .text)) 16) .0 sizes .0)
 
-words-short : (k : ℕ) (wide : Bool) (ws : List Word) → rightAll wide ws ≡ true → length (wordsText k wide ws) ≤ length ws * 160
+words-short : (f : Family) (k : ℕ) (wide : Bool) (ws : List Word) → rightAll f wide ws ≡ true → length (wordsText f k wide ws) ≤ length ws * 160
 unfolding wordsText rightAll
-words-short k wide [] e = omega arith
-words-short k wide (w ∷ ws) e =
-    let both = and-eq-true-iff (isRight wide w) (rightAll wide ws) .0 e in
-    let first = word-short k wide w (info-four wide w (both .0)) in
-    omega (arith, length-append (wordText k wide w) (wordsText (suc k) wide ws), first, words-short (suc k) wide ws (both .1))
+words-short f k wide [] e = omega arith
+words-short f k wide (w ∷ ws) e =
+    let both = and-eq-true-iff (isRight f wide w) (rightAll f wide ws) .0 e in
+    let first = word-short f k wide w (info-four f wide w (both .0)) in
+    omega (arith, length-append (wordText f k wide w) (wordsText f (suc k) wide ws), first, words-short f (suc k) wide ws (both .1))
 
 head-short : (number at : ℕ) → length (headText number at) ≤ 50
 head-short number at = simp (length-append, digits-length) (omega (arith, places-most number, places-most at))
@@ -107,23 +117,24 @@ reading-short : (r : Reading) → length (readingText r) ≤ 73
 reading-short r =
     simp (length-append, digits-length) (omega (arith, width-short (r .wide), end-short (r .crlf), places-most (r .words), places-most (r .used)))
 
-answer-short : (s : List ℕ) (a : Answer) → judged s 32 .answer ≡ a → length (answerText a (judged s 32 .words)) ≤ 5193
-answer-short s (Refused r) e = omega (arith, refusal-short r)
-answer-short s (Read r) e =
-    let ws = judged s 32 .words in
-    let lawful = accepted s 32 r ws (λ i. record { answer = e i; words = ws }) .lawful in
-    omega (arith, length-append (readingText r) (wordsText 1 (r .wide) ws), reading-short r, words-short 1 (r .wide) ws (lawful .right), lawful .most)
+answer-short : (f : Family) (s : List ℕ) (a : Answer) → judged f s 32 .answer ≡ a → length (answerText f a (judged f s 32 .words)) ≤ 5193
+answer-short f s (Refused r) e = omega (arith, refusal-short r)
+answer-short f s (Read r) e =
+    let ws = judged f s 32 .words in
+    let lawful = accepted f s 32 r ws (λ i. record { answer = e i; words = ws }) .lawful in
+    omega (arith, length-append (readingText r) (wordsText f 1 (r .wide) ws), reading-short r, words-short f 1 (r .wide) ws (lawful .right), lawful .most)
 
-pub report-fits : (number at : ℕ) (piece : List ℕ) → length (reportOf number at piece) ≤ 5280
-report-fits number at piece =
-    let text = answerText (judged piece 32 .answer) (judged piece 32 .words) in
-    omega (arith, length-append (headText number at) text, head-short number at, answer-short piece (judged piece 32 .answer) refl)
+pub report-fits : (f : Family) (number at : ℕ) (piece : List ℕ) → length (reportOf f number at piece) ≤ 5280
+report-fits f number at piece =
+    let text = answerText f (judged f piece 32 .answer) (judged f piece 32 .words) in
+    omega (arith, length-append (headText number at) text, head-short number at, answer-short f piece (judged f piece 32 .answer) refl)
 
 -- so in that much room it stands whole
-pub report-whole : (number at : ℕ) (piece room : List ℕ) (r : Reported) (room′ : List ℕ) → 5280 ≤ length room → Reports number at piece room r room′
-    → take (r .count) room′ ≡ reportOf number at piece
-report-whole number at piece room r room′ h p =
-    let text = reportOf number at piece in
-    let short = report-fits number at piece in
+pub report-whole : (f : Family) (number at : ℕ) (piece room : List ℕ) (r : Reported) (room′ : List ℕ) → 5280 ≤ length room
+    → Reports f number at piece room r room′
+    → take (r .count) room′ ≡ reportOf f number at piece
+report-whole f number at piece room r room′ h p =
+    let text = reportOf f number at piece in
+    let short = report-fits f number at piece in
     let all : length text ≡ r .count = omega (arith, p .0 .0) in
     rw (p .0 .1, laid-fits text room (omega arith)) (take-at text (drop (length text) room) (r .count) all)

@@ -1,5 +1,5 @@
 -- A word's value as people read it: `reads` is the value in people's form, with its unit's decimals.
-use Prim.Native.Nat.{ℕ, _/_, _%_}
+use Prim.Native.Nat.{ℕ, _*_, _/_, _%_}
 use mathlib.Core.Bool.{Bool, cond}
 use mathlib.Core.List.{List, [], _∷_, _++_}
 use lib.Dec.{eqb}
@@ -7,9 +7,10 @@ use lib.ListN.{take}
 use Rattle.figures.specs.Text.{codes}
 use Rattle.figures.specs.Decimal.{digitsOf, decimalOf}
 use Rattle.units.specs.Information.{signByte}
+use Rattle.units.specs.declared.kinds.Family.{Family}
 use Rattle.units.specs.declared.counts.Whole.{Whole}
 use Rattle.units.specs.declared.counts.Count.{Count}
-use Rattle.units.specs.declared.counts.Count.the-variants.{Nothing, Text, Gon, Degree, Tenth, Mil, Metre, Feet, Ppm, Pair}
+use Rattle.units.specs.declared.counts.Count.the-variants.{Nothing, Text, Gon, Degree, Tenth, Mil, Metre, Feet, Inch, Ppm, Pair}
 use Rattle.words.specs.Records.{width, typedOf}
 use Rattle.words.specs.declared.records.Word.{Word}
 use Rattle.reports.specs.declared.measures.Decimals.{Decimals}
@@ -57,6 +58,12 @@ tenthText w =
     codes " count=" ++ (signedOf w ++ (codes " step=1/10s reads=" ++ (minusText (w .minus) ++ (decimalOf (w .size / 36000)
     ++ (codes "-" ++ (digitsOf 2 (w .size / 600 % 60) ++ (codes "-" ++ (digitsOf 2 (w .size / 10 % 60) ++ (codes "." ++ digitsOf 1 (w .size % 10))))))))))
 
+-- inches with four decimals: ` count=+101981 step=1/2000in reads=50.9905in`
+abbrev pub inchText : Whole → List ℕ
+inchText w =
+    codes " count=" ++ (signedOf w ++ (codes " step=1/2000in reads=" ++ (minusText (w .minus) ++ (decimalOf (w .size / 2000)
+    ++ (codes "." ++ (digitsOf 4 (w .size % 2000 * 5) ++ codes "in"))))))
+
 -- ` ppm=+9 mm=+0`
 abbrev pub pairText : Whole → Whole → List ℕ
 pairText ppm mm = codes " ppm=" ++ (signedOf ppm ++ (codes " mm=" ++ signedOf mm))
@@ -75,9 +82,10 @@ countText wide w (Tenth c) = tenthText (c .0)
 countText wide w (Mil c) = measureText (c .0) Four (codes "mil")
 countText wide w (Metre c) = cond (eqb (w .index) 58) (measureText (c .0) One (codes "mm")) (measureText (c .0) (decimalsOf (c .1)) (codes "m"))
 countText wide w (Feet c) = measureText (c .0) (decimalsOf (c .1)) (codes "ft")
+countText wide w (Inch c) = inchText (c .0)
 countText wide w (Ppm c) = measureText (c .0) Four (codes "ppm")
 countText wide w (Pair p q) = pairText p q
 
--- of a record that no word gives nothing is shown
-abbrev pub valueText : Bool → Word → List ℕ
-valueText wide w = countText wide w (typedOf w)
+-- of a record that no word of the family gives nothing is shown
+abbrev pub valueText : Family → Bool → Word → List ℕ
+valueText f wide w = countText wide w (typedOf f w)

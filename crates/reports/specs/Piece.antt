@@ -3,8 +3,11 @@ use Prim.Native.Nat.{ℕ, suc}
 use mathlib.Core.Path.{_≡_}
 use mathlib.Core.Bool.{Bool, true, false, cond}
 use mathlib.Core.List.{List, [], _∷_, _++_}
+use lib.Dec.{ltb}
+use lib.ListN.{drop}
 use Rattle.figures.specs.Text.{codes}
 use Rattle.figures.specs.Decimal.{digitsOf, decimalOf}
+use Rattle.units.specs.declared.kinds.Family.{Family}
 use Rattle.words.specs.declared.records.Word.{Word}
 use Rattle.blocks.specs.Answers.{refusalNumber, refusalTells}
 use Rattle.blocks.specs.Judging.{judged}
@@ -16,15 +19,19 @@ use Rattle.figures.specs.Rooms.{Puts}
 use Rattle.reports.specs.Measures.{valueText}
 use Rattle.reports.specs.declared.piece.Reported.{Reported}
 
+-- index and information as positions 1-6 have them: `31 info=..01`, `331 info=106`
+abbrev pub indexText : ℕ → List ℕ → List ℕ
+indexText i info = cond (ltb i 100) (digitsOf 2 i ++ (codes " info=" ++ info)) (digitsOf 3 i ++ (codes " info=" ++ drop 1 info))
+
 -- `word=4 index=31 info=..01 count=+265965 step=1/1000ft reads=265.965ft` and LF
-abbrev pub wordText : ℕ → Bool → Word → List ℕ
-wordText k wide w =
-    codes "word=" ++ (decimalOf k ++ (codes " index=" ++ (digitsOf 2 (w .index) ++ (codes " info=" ++ (w .info ++ (valueText wide w ++ codes "\n"))))))
+abbrev pub wordText : Family → ℕ → Bool → Word → List ℕ
+wordText f k wide w =
+    codes "word=" ++ (decimalOf k ++ (codes " index=" ++ (indexText (w .index) (w .info) ++ (valueText f wide w ++ codes "\n"))))
 
 -- the words, numbered from k on
-unfoldable pub wordsText : ℕ → Bool → List Word → List ℕ
-wordsText k wide [] = []
-wordsText k wide (w ∷ ws) = wordText k wide w ++ wordsText (suc k) wide ws
+unfoldable pub wordsText : Family → ℕ → Bool → List Word → List ℕ
+wordsText f k wide [] = []
+wordsText f k wide (w ∷ ws) = wordText f k wide w ++ wordsText f (suc k) wide ws
 
 -- `block=1 at=0`
 abbrev pub headText : ℕ → ℕ → List ℕ
@@ -47,22 +54,22 @@ readingText r =
 abbrev pub refusalText : Refusal → List ℕ
 refusalText r = codes " refused=" ++ (decimalOf (refusalNumber r) ++ (codes " place=" ++ (decimalOf (refusalTells r) ++ codes "\n")))
 
-abbrev pub answerText : Answer → List Word → List ℕ
-answerText (Refused r) ws = refusalText r
-answerText (Read r) ws = readingText r ++ wordsText 1 (r .wide) ws
+abbrev pub answerText : Family → Answer → List Word → List ℕ
+answerText f (Refused r) ws = refusalText r
+answerText f (Read r) ws = readingText r ++ wordsText f 1 (r .wide) ws
 
--- a piece that is the so manyth of the file and starts there, read into a list of 32 places
-abbrev pub reportOf : ℕ → ℕ → List ℕ → List ℕ
-reportOf number at piece = headText number at ++ answerText (judged piece 32 .answer) (judged piece 32 .words)
+-- a piece that is the so manyth of the family's file and starts there, read into a list of 32 places
+abbrev pub reportOf : Family → ℕ → ℕ → List ℕ → List ℕ
+reportOf f number at piece = headText number at ++ answerText f (judged f piece 32 .answer) (judged f piece 32 .words)
 
 abbrev pub isRead : Answer → Bool
 isRead (Refused r) = false
 isRead (Read r) = true
 
 -- the report in a room, as far as there is room; how many bytes were put there, and whether the block was accepted
-abbrev pub Reports : ℕ → ℕ → List ℕ → List ℕ → Reported → List ℕ → Type 0
-Reports number at piece room r room′ =
-    Puts room 0 (reportOf number at piece) (r .count) room′ × (r .accepted ≡ isRead (judged piece 32 .answer))
+abbrev pub Reports : Family → ℕ → ℕ → List ℕ → List ℕ → Reported → List ℕ → Type 0
+Reports f number at piece room r room′ =
+    Puts room 0 (reportOf f number at piece) (r .count) room′ × (r .accepted ≡ isRead (judged f piece 32 .answer))
 
 -- `blocks=2 accepted=1 refused=1` and LF
 abbrev pub tallyText : ℕ → ℕ → ℕ → List ℕ

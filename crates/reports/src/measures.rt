@@ -3,11 +3,12 @@ ghost use mathlib.Core.Path.{_≡_};
 ghost use Prim.Native.Nat.{_<_, _≤_};
 ghost use Rattle.figures.specs.Decimal.{digitsOf};
 ghost use Rattle.figures.specs.Rooms.{Puts};
-ghost use Rattle.reports.specs.Measures.{decimalsOf, powerOf, powerText, placesOf, signedOf, minusText, measureText, tenthText, pairText, shownText, valueText};
+ghost use Rattle.reports.specs.Measures.{decimalsOf, powerOf, powerText, placesOf, signedOf, minusText, measureText, tenthText, inchText, pairText, shownText, valueText};
 use figures::rooms::put;
 use figures::rooms::put_decimal;
 use units::counts::Count;
 use units::counts::Whole;
+use units::kinds::Family;
 use words::records::Word;
 use words::records::count;
 
@@ -130,6 +131,21 @@ fn put_tenths(room: &mut [u8], at: usize, w: Whole) -> usize
     put_digits(room, after_point, v % 10, 1)
 }
 
+// A count of 1/2000 inch, as inches with four decimals.
+fn put_inches(room: &mut [u8], at: usize, w: Whole) -> usize
+    ensures { λ r. ⌜ Puts (now (room .entry)) at (inchText w) r (now (room .exit)) ⌝ }
+{
+    let v = w.size;
+    let after_key = put(room, at, b" count=");
+    let after_count = put_whole(room, after_key, w);
+    let after_step = put(room, after_count, b" step=1/2000in reads=");
+    let after_minus = put_minus(room, after_step, w.minus);
+    let after_whole = put_decimal(room, after_minus, v / 2_000);
+    let after_point = put(room, after_whole, b".");
+    let after_decimals = put_digits(room, after_point, v % 2_000 * 5, 4);
+    put(room, after_decimals, b"in")
+}
+
 fn put_pair(room: &mut [u8], at: usize, ppm: Whole, mm: Whole) -> usize
     ensures { λ r. ⌜ Puts (now (room .entry)) at (pairText ppm mm) r (now (room .exit)) ⌝ }
 {
@@ -150,11 +166,11 @@ fn put_text(room: &mut [u8], at: usize, text: [u8; 16], wide: bool) -> usize
     put(room, next, &text[0..8])
 }
 
-// What a record of a right word counts; nothing for any other record. 58 counts 1/10 mm.
-pub(crate) fn put_value(room: &mut [u8], at: usize, w: Word, wide: bool) -> usize
-    ensures { λ r. ⌜ Puts (now (room .entry)) at (valueText wide w) r (now (room .exit)) ⌝ }
+// What a record of a right word of the family counts; nothing for any other record. 58 counts 1/10 mm.
+pub(crate) fn put_value(room: &mut [u8], at: usize, w: Word, family: Family, wide: bool) -> usize
+    ensures { λ r. ⌜ Puts (now (room .entry)) at (valueText family wide w) r (now (room .exit)) ⌝ }
 {
-    let counted = count(w);
+    let counted = count(w, family);
     match counted {
         Count::Nothing => put(room, at, b""),
         Count::Text => {
@@ -172,6 +188,7 @@ pub(crate) fn put_value(room: &mut [u8], at: usize, w: Word, wide: bool) -> usiz
             put_measure(room, at, c.0, decimals_of(c.1), b"m")
         }
         Count::Feet(c) => put_measure(room, at, c.0, decimals_of(c.1), b"ft"),
+        Count::Inch(c) => put_inches(room, at, c.0),
         Count::Ppm(c) => put_measure(room, at, c.0, Decimals::Four, b"ppm"),
         Count::Pair(ppm, mm) => put_pair(room, at, ppm, mm),
     }

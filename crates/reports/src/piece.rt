@@ -3,7 +3,7 @@ ghost use mathlib.Core.Path.{_≡_};
 ghost use Prim.Native.Nat.{_≤_};
 ghost use lib.ListN.{take, length};
 ghost use Rattle.figures.specs.Rooms.{Puts};
-ghost use Rattle.reports.specs.Piece.{wordText, wordsText, headText, readingText, refusalText, tallyText, Reports};
+ghost use Rattle.reports.specs.Piece.{indexText, wordText, wordsText, headText, readingText, refusalText, tallyText, Reports};
 use crate::measures::put_digits;
 use crate::measures::put_value;
 use blocks::answers::Answer;
@@ -16,6 +16,7 @@ use figures::casts::wide_count;
 use figures::casts::wide_index;
 use figures::rooms::put;
 use figures::rooms::put_decimal;
+use units::kinds::Family;
 use words::records::Word;
 
 // Room enough for the report of any piece.
@@ -27,30 +28,49 @@ pub struct Reported {
     pub accepted: bool,
 }
 
+// Index and information as positions 1-6 have them.
+fn put_index(room: &mut [u8], at: usize, index: u16, info: [u8; 4]) -> usize
+    ensures { λ r. ⌜ Puts (now (room .entry)) at (indexText index info) r (now (room .exit)) ⌝ }
+{
+    if index < 100 {
+        let after_digits = put_digits(room, at, wide_index(index), 2);
+        let after_key = put(room, after_digits, b" info=");
+        return put(room, after_key, &info);
+    }
+    let after_digits = put_digits(room, at, wide_index(index), 3);
+    let after_key = put(room, after_digits, b" info=");
+    put(room, after_key, &info[1..4])
+}
+
 // One word's line.
-fn put_word(room: &mut [u8], at: usize, number: usize, w: Word, wide: bool) -> usize
-    ensures { λ r. ⌜ Puts (now (room .entry)) at (wordText number wide w) r (now (room .exit)) ⌝ }
+fn put_word(room: &mut [u8], at: usize, number: usize, w: Word, family: Family, wide: bool) -> usize
+    ensures { λ r. ⌜ Puts (now (room .entry)) at (wordText family number wide w) r (now (room .exit)) ⌝ }
 {
     let info = w.info;
     let after_key = put(room, at, b"word=");
     let after_number = put_decimal(room, after_key, wide_count(number));
-    let after_index = put(room, after_number, b" index=");
-    let after_digits = put_digits(room, after_index, wide_index(w.index), 2);
-    let after_info = put(room, after_digits, b" info=");
-    let after_marks = put(room, after_info, &info);
-    let after_value = put_value(room, after_marks, w, wide);
+    let after_name = put(room, after_number, b" index=");
+    let after_index = put_index(room, after_name, w.index, info);
+    let after_value = put_value(room, after_index, w, family, wide);
     put(room, after_value, b"\n")
 }
 
 // The lines of the first n words.
-fn put_words(room: &mut [u8], at: usize, words: [Word; 32], n: usize, wide: bool) -> usize
+fn put_words(
+    room: &mut [u8],
+    at: usize,
+    words: [Word; 32],
+    n: usize,
+    family: Family,
+    wide: bool,
+) -> usize
     requires { ⌜ (at ≤ length (now room)) × (n ≤ 32) ⌝ }
-    ensures { λ r. ⌜ Puts (now (room .entry)) at (wordsText 1 wide (take n words)) r (now (room .exit)) ⌝ }
+    ensures { λ r. ⌜ Puts (now (room .entry)) at (wordsText family 1 wide (take n words)) r (now (room .exit)) ⌝ }
 {
     let mut next = at;
     let mut i = 0;
     while i < n {
-        next = put_word(room, next, i + 1, words[i], wide);
+        next = put_word(room, next, i + 1, words[i], family, wide);
         i += 1;
     }
     next
@@ -95,11 +115,11 @@ fn put_refusal(room: &mut [u8], at: usize, refusal: Refusal) -> usize
     put(room, after_told, b"\n")
 }
 
-// The report of a piece that is the so manyth of the file and starts at that place in it.
-pub fn report(number: u64, place: u64, piece: &[u8], room: &mut [u8]) -> Reported
-    ensures { λ r. ⌜ Reports number place (now (piece .entry)) (now (room .entry)) r (now (room .exit)) ⌝ }
+// The report of a piece that is the so manyth of the family's file and starts at that place in it.
+pub fn report(family: Family, number: u64, place: u64, piece: &[u8], room: &mut [u8]) -> Reported
+    ensures { λ r. ⌜ Reports family number place (now (piece .entry)) (now (room .entry)) r (now (room .exit)) ⌝ }
 {
-    let judgement = judge(piece, 32);
+    let judgement = judge(piece, family, 32);
     let answer = judgement.answer;
     let block = judgement.block;
     let at = put_head(room, number, place);
@@ -114,7 +134,7 @@ pub fn report(number: u64, place: u64, piece: &[u8], room: &mut [u8]) -> Reporte
         Answer::Read(reading) => {
             let start = put_reading(room, at, reading);
             let words = block.words;
-            let end = put_words(room, start, words, block.n, reading.wide);
+            let end = put_words(room, start, words, block.n, family, reading.wide);
             Reported {
                 count: end,
                 accepted: true,

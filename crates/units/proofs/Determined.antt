@@ -5,8 +5,9 @@ use Prim.Native.Nat.{ℕ}
 use Rattle.figures.specs.Promises.{Determined}
 use Rattle.figures.proofs.Determined.{by-equation}
 use Rattle.units.specs.Kinds.{kindOf, isTextual, namedBy, indexAt}
-use Rattle.units.specs.Information.{informedOf, signByte, signAt}
+use Rattle.units.specs.Information.{informedOf, leadOf, signByte, signAt}
 use Rattle.units.specs.Counts.{angleOf, lengthOf, constantOf, valueAt, firstOf, secondOf}
+use Rattle.units.specs.declared.kinds.Family.{Family}
 use Rattle.units.specs.declared.kinds.Kind.{Kind}
 use Rattle.units.specs.declared.kinds.Named.{Named}
 use Rattle.units.specs.declared.kinds.Indexed.{Indexed}
@@ -17,8 +18,8 @@ use Rattle.units.specs.declared.counts.Count.{Count}
 use Rattle.units.specs.declared.counts.Figures.{Figures}
 use Rattle.units.specs.declared.counts.Valued.{Valued}
 
-pub kind-of-determined : Determined ℕ Kind (λ i r. r ≡ kindOf i)
-kind-of-determined = by-equation ℕ Kind kindOf
+pub kind-of-determined : Determined (Family × ℕ) Kind (λ i r. r ≡ kindOf (i .0) (i .1))
+kind-of-determined = by-equation (Family × ℕ) Kind (λ i. kindOf (i .0) (i .1))
 
 pub textual-determined : Determined Kind Bool (λ k r. r ≡ isTextual k)
 textual-determined = by-equation Kind Bool isTextual
@@ -26,14 +27,27 @@ textual-determined = by-equation Kind Bool isTextual
 pub named-by-determined : Determined (ℕ × ℕ) Named (λ i r. r ≡ namedBy (i .0) (i .1))
 named-by-determined = by-equation (ℕ × ℕ) Named (λ i. namedBy (i .0) (i .1))
 
-pub index-at-determined : Determined (ℕ × ℕ) Indexed (λ i r. r ≡ indexAt (i .0) (i .1))
-index-at-determined = by-equation (ℕ × ℕ) Indexed (λ i. indexAt (i .0) (i .1))
+abbrev indexedBy : Family × (ℕ × (ℕ × ℕ)) → Indexed
+indexedBy i = indexAt (i .0) (i .1 .0) (i .1 .1 .0) (i .1 .1 .1)
 
-abbrev informedBy : Kind × (ℕ × (ℕ × (ℕ × ℕ))) → Informed
-informedBy i = informedOf (i .0) (i .1 .0) (i .1 .1 .0) (i .1 .1 .1 .0) (i .1 .1 .1 .1)
+pub index-at-determined : Determined (Family × (ℕ × (ℕ × ℕ))) Indexed (λ i r. r ≡ indexedBy i)
+index-at-determined = by-equation (Family × (ℕ × (ℕ × ℕ))) Indexed indexedBy
 
-pub informed-by-determined : Determined (Kind × (ℕ × (ℕ × (ℕ × ℕ)))) Informed (λ i r. r ≡ informedBy i)
-informed-by-determined = by-equation (Kind × (ℕ × (ℕ × (ℕ × ℕ)))) Informed informedBy
+-- family, index, kind and the four bytes
+abbrev Information : Type 0
+Information = Family × (ℕ × (Kind × (ℕ × (ℕ × (ℕ × ℕ)))))
+
+abbrev informedBy : Information → Informed
+informedBy i = informedOf (i .0) (i .1 .0) (i .1 .1 .0) (i .1 .1 .1 .0) (i .1 .1 .1 .1 .0) (i .1 .1 .1 .1 .1 .0) (i .1 .1 .1 .1 .1 .1)
+
+pub informed-by-determined : Determined Information Informed (λ i r. r ≡ informedBy i)
+informed-by-determined = by-equation Information Informed informedBy
+
+abbrev ledBy : Family × (ℕ × ℕ) → ℕ
+ledBy i = leadOf (i .0) (i .1 .0) (i .1 .1)
+
+pub lead-of-determined : Determined (Family × (ℕ × ℕ)) ℕ (λ i r. r ≡ ledBy i)
+lead-of-determined = by-equation (Family × (ℕ × ℕ)) ℕ ledBy
 
 pub sign-byte-determined : Determined ℕ ℕ (λ m r. r ≡ signByte m)
 sign-byte-determined = by-equation ℕ ℕ signByte

@@ -9,10 +9,10 @@ use lib.Dec.{eqb, leb}
 use Rattle.figures.specs.Bytes.{among, every}
 use Rattle.figures.specs.Decimal.{isDigit, digitsOf}
 use Rattle.figures.proofs.Bytes.{within-bounds, bounds-within, above-within}
-use Rattle.units.specs.Kinds.{kindOf, isListed, isTextual, indexOf, namedBy}
-use Rattle.units.specs.Information.{infoRight, signByte, signOf, isSign, signRight}
+use Rattle.units.specs.Kinds.{stationKind, isListed, isTextual, indexOf, namedBy}
+use Rattle.units.specs.Information.{signByte, signOf, isSign, signRight}
 use Rattle.units.specs.declared.kinds.Kind.{Kind}
-use Rattle.units.specs.declared.kinds.Kind.the-variants.{Missing, Numbered, Text, Angle, Length, Constant, Pair}
+use Rattle.units.specs.declared.kinds.Kind.the-variants.{Missing}
 use Rattle.units.specs.declared.kinds.Named.{Named}
 use Rattle.units.specs.declared.kinds.Named.the-variants as named
 use Rattle.figures.proofs.Tests.{both, by-test, among-above}
@@ -33,7 +33,7 @@ named-is tens ones e f =
     (λ q. let told = rw q at (sym e ∙ f) in let z : _≡_ {A = ℕ} 0 1 = cc in absurd (omega arith))
 
 -- no index of the table is above 88
-pub none-above : (n : ℕ) → 88 < n → kindOf n ≡ Missing
+pub none-above : (n : ℕ) → 88 < n → stationKind n ≡ Missing
 unfolding every
 none-above n h =
     let none : (l : List ℕ) → every (λ x. leb x 88) l ≡ true → among n l ≡ false = λ l e. among-above 88 l e n h in
@@ -49,7 +49,7 @@ none-above n h =
       none (51 ∷ []) refl,
     )
 
-pub index-below : (n : ℕ) → isListed (kindOf n) ≡ true → n < 100
+pub index-below : (n : ℕ) → isListed (stationKind n) ≡ true → n < 100
 index-below n e =
     by-test (leb n 88) (λ q. omega (arith, leb-true n 88 q)) (λ q. absurd (false≢true (ap isListed (sym (none-above n (leb-false n 88 q))) ∙ e)))
 
@@ -62,6 +62,12 @@ index-back tens ones et eo =
     let f : 48 + indexOf tens ones % 10 ≡ ones = omega arith in
     rw (e, f)
 
+pub two-digits : (tens ones : ℕ) → isDigit tens ≡ true → isDigit ones ≡ true → indexOf tens ones < 100
+two-digits tens ones et eo =
+    let t = within-bounds 48 57 tens et in
+    let o = within-bounds 48 57 ones eo in
+    omega arith
+
 -- the two digits of an index of the table
 abbrev pub tensOf : ℕ → ℕ
 tensOf n = 48 + n / 10 % 10
@@ -73,23 +79,14 @@ pub index-digits : (n : ℕ) → digitsOf 2 n ≡ tensOf n ∷ onesOf n ∷ []
 unfolding digitsOf
 index-digits n = refl
 
-pub index-on : (n : ℕ) → isListed (kindOf n) ≡ true → indexOf (tensOf n) (onesOf n) ≡ n
-index-on n e = let h = index-below n e in omega arith
+pub index-on : (n : ℕ) → n < 100 → indexOf (tensOf n) (onesOf n) ≡ n
+index-on n h = omega arith
 
 pub tens-digit : (n : ℕ) → isDigit (tensOf n) ≡ true
 tens-digit n = bounds-within 48 57 (tensOf n) (omega arith) (omega arith)
 
 pub ones-digit : (n : ℕ) → isDigit (onesOf n) ≡ true
 ones-digit n = bounds-within 48 57 (onesOf n) (omega arith) (omega arith)
-
-pub info-listed : (k : Kind) (a b c d : ℕ) → infoRight k a b c d ≡ true → isListed k ≡ true
-info-listed Missing a b c d e = e
-info-listed Numbered a b c d e = refl
-info-listed Text a b c d e = refl
-info-listed Angle a b c d e = refl
-info-listed Length a b c d e = refl
-info-listed Constant a b c d e = refl
-info-listed Pair a b c d e = refl
 
 -- the sign
 

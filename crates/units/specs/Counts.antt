@@ -6,7 +6,7 @@ use Rattle.units.specs.declared.kinds.Kind.{Kind}
 use Rattle.units.specs.declared.kinds.Kind.the-variants as kind
 use Rattle.units.specs.declared.counts.Whole.{Whole}
 use Rattle.units.specs.declared.counts.Count.{Count}
-use Rattle.units.specs.declared.counts.Count.the-variants.{Nothing, Text, Gon, Degree, Tenth, Mil, Metre, Feet, Ppm, Pair}
+use Rattle.units.specs.declared.counts.Count.the-variants.{Nothing, Text, Gon, Degree, Tenth, Mil, Metre, Feet, Inch, Ppm, Pair}
 use Rattle.units.specs.declared.counts.Figures.{Figures}
 use Rattle.units.specs.declared.counts.Figures.the-variants as figures
 use Rattle.units.specs.declared.counts.Valued.{Valued}
@@ -66,14 +66,15 @@ angleAt u m n = byUnit u (gonAt m n) (degreeAt m n) (tenthAt m n) (milAt m n)
 abbrev pub angleOf : ℕ → Whole → Count
 angleOf u w = byUnit u (Gon (record { 0 = w })) (Degree (record { 0 = w })) (Tenth (record { 0 = w })) (Mil (record { 0 = w }))
 
--- "unit 0 is 1 mm, 1 is 1/1000 ft, 6 is 1/10 mm, 7 is 1/10,000 ft, 8 is 1/100 mm"
+-- "unit 0 is 1 mm, 1 is 1/1000 ft, 6 is 1/10 mm, 7 is 1/10,000 ft, 8 is 1/100 mm"; of a level "9 is 0.0005 inch"
 abbrev pub lengthOf : ℕ → Whole → Count
 lengthOf u w =
     cond (eqb u 48) (Metre (record { 0 = w; 1 = 3 }))
     (cond (eqb u 49) (Feet (record { 0 = w; 1 = 3 }))
     (cond (eqb u 54) (Metre (record { 0 = w; 1 = 4 }))
     (cond (eqb u 55) (Feet (record { 0 = w; 1 = 4 }))
-    (Metre (record { 0 = w; 1 = 5 })))))
+    (cond (eqb u 57) (Inch (record { 0 = w }))
+    (Metre (record { 0 = w; 1 = 5 }))))))
 
 -- "58 counts 1/10 mm; 59 counts 1/10,000 ppm."
 abbrev pub constantOf : ℕ → Whole → Count
@@ -107,6 +108,7 @@ firstOf (Tenth c) = c .0
 firstOf (Mil c) = c .0
 firstOf (Metre c) = c .0
 firstOf (Feet c) = c .0
+firstOf (Inch c) = c .0
 firstOf (Ppm c) = c .0
 firstOf (Pair p q) = p
 
@@ -119,6 +121,7 @@ secondOf (Tenth c) = zeroWhole
 secondOf (Mil c) = zeroWhole
 secondOf (Metre c) = zeroWhole
 secondOf (Feet c) = zeroWhole
+secondOf (Inch c) = zeroWhole
 secondOf (Ppm c) = zeroWhole
 secondOf (Pair p q) = q
 
@@ -132,5 +135,6 @@ figuresOf (Tenth c) = figures.Number (sexagesimal (c .0 .size))
 figuresOf (Mil c) = figures.Number (c .0 .size)
 figuresOf (Metre c) = figures.Number (c .0 .size)
 figuresOf (Feet c) = figures.Number (c .0 .size)
+figuresOf (Inch c) = figures.Number (c .0 .size)
 figuresOf (Ppm c) = figures.Number (c .0 .size)
 figuresOf (Pair p q) = figures.Pair (p .size) (q .minus) (q .size)

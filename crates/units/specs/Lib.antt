@@ -1,3 +1,4 @@
+pub mod Classes
 pub mod Kinds
 pub mod Information
 pub mod Counts

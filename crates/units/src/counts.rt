@@ -1,5 +1,5 @@
 // A word's data and what they count. Each step has a type of its own, with its own limit and its own way to digits, so that a count in gon
-// steps and a count in tenths of a second never stand in for each other, nor metre steps and feet steps.
+// steps and a count in tenths of a second never stand in for each other, nor metre, feet and inch steps.
 ghost use mathlib.Core.Path.{_≡_};
 ghost use Rattle.units.specs.Counts.{minusZero, gonAt, degreeAt, tenthAt, milAt, angleAt, angleOf, lengthOf, constantOf, numberAt, valueAt, firstOf, secondOf};
 use crate::kinds::Kind;
@@ -28,6 +28,9 @@ pub struct Metre(pub Whole, pub u8);
 // The last of so many decimals of a foot: 3 or 4.
 pub struct Feet(pub Whole, pub u8);
 
+// 1/2000 inch.
+pub struct Inch(pub Whole);
+
 // 1/10,000 ppm.
 pub struct Ppm(pub Whole);
 
@@ -41,6 +44,7 @@ pub enum Count {
     Mil(Mil),
     Metre(Metre),
     Feet(Feet),
+    Inch(Inch),
     Ppm(Ppm),
     Pair(Whole, Whole),
 }
@@ -161,6 +165,7 @@ pub fn length_of(unit: u8, whole: Whole) -> Count
         b'1' => Count::Feet(Feet(whole, 3)),
         b'6' => Count::Metre(Metre(whole, 4)),
         b'7' => Count::Feet(Feet(whole, 4)),
+        b'9' => Count::Inch(Inch(whole)),
         _ => Count::Metre(Metre(whole, 5)),
     }
 }
@@ -254,6 +259,7 @@ pub fn first_of(count: Count) -> Whole
         Count::Mil(c) => c.0,
         Count::Metre(c) => c.0,
         Count::Feet(c) => c.0,
+        Count::Inch(c) => c.0,
         Count::Ppm(c) => c.0,
         Count::Pair(ppm, _) => ppm,
     }

@@ -1,7 +1,9 @@
 // Positions 3-7 of a word: the information and the sign.
 ghost use mathlib.Core.Path.{_≡_};
 ghost use mathlib.Core.Bool.{cond, _&&_, _||_};
-ghost use Rattle.units.specs.Information.{isDot, isMode, isDotOrDigit, isAngleMark, isAngleUnit, isLengthUnit, informedOf, signByte, signAt};
+ghost use Rattle.units.specs.Information.{isDot, isMode, isDotOrDigit, isAngleMark, isAngleUnit, isLengthUnit};
+ghost use Rattle.units.specs.Information.{isFlag, isLevelMode, isLevelUnit, isLead, stationInfo, levelInfo, leadOf, informedOf, signByte, signAt};
+use crate::kinds::Family;
 use crate::kinds::Kind;
 use crate::kinds::textual;
 
@@ -73,6 +75,49 @@ fn length_unit(b: u8) -> bool
     }
 }
 
+// Position 4 of a level's number: a dot, or 1 for the compensator's flag.
+fn flag(b: u8) -> bool
+    ensures { λ r. ⌜ r ≡ isFlag b ⌝ }
+{
+    match b {
+        b'.' | b'1' => true,
+        _ => false,
+    }
+}
+
+// Position 5 of a level's number: a dot, 0-2 or 4-7.
+fn level_mode(b: u8) -> bool
+    ensures { λ r. ⌜ r ≡ isLevelMode b ⌝ }
+{
+    match b {
+        b'.' => true,
+        b'0'..=b'2' => true,
+        b'4'..=b'7' => true,
+        _ => false,
+    }
+}
+
+// Position 6 of a level's number: 0, 1 or 6-9.
+fn level_unit(b: u8) -> bool
+    ensures { λ r. ⌜ r ≡ isLevelUnit b ⌝ }
+{
+    match b {
+        b'0'..=b'1' => true,
+        b'6'..=b'9' => true,
+        _ => false,
+    }
+}
+
+// The first byte of a level's information: a dot after two digits, 0 after three.
+fn lead(index: u16, b: u8) -> bool
+    ensures { λ r. ⌜ r ≡ isLead index b ⌝ }
+{
+    if index < 100 {
+        return b == b'.';
+    }
+    b == 0
+}
+
 fn all(a: bool, b: bool, c: bool, d: bool) -> bool
     ensures { λ r. ⌜ r ≡ (a && (b && (c && d))) ⌝ }
 {
@@ -85,6 +130,44 @@ fn either(a: bool, b: bool) -> bool
     a || b
 }
 
+fn numbered(a: u8, b: u8, c: u8, d: u8) -> bool
+    ensures { λ r. ⌜ r ≡ stationInfo Kind.Numbered a b c d ⌝ }
+{
+    let digits = all(
+        figures::digit(a),
+        figures::digit(b),
+        figures::digit(c),
+        figures::digit(d),
+    );
+    let dots = all(dot(a), dot(b), dot(c), dot(d));
+    either(digits, dots)
+}
+
+fn station_info(kind: Kind, a: u8, b: u8, c: u8, d: u8) -> bool
+    ensures { λ r. ⌜ r ≡ stationInfo kind a b c d ⌝ }
+{
+    match kind {
+        Kind::Missing => false,
+        Kind::Numbered => numbered(a, b, c, d),
+        Kind::Text => all(dot(a), free(b), free(c), free(d)),
+        Kind::Angle => all(dot(a), angle_mark(b), mode(c), angle_unit(d)),
+        Kind::Length => all(dot(a), dot(b), mode(c), length_unit(d)),
+        Kind::Constant => all(dot(a), dot(b), mode(c), d == b'6'),
+        Kind::Pair => all(dot(a), dot(b), mode(c), dot(d)),
+    }
+}
+
+fn level_info(index: u16, kind: Kind, a: u8, b: u8, c: u8, d: u8) -> bool
+    ensures { λ r. ⌜ r ≡ levelInfo index kind a b c d ⌝ }
+{
+    match kind {
+        Kind::Numbered => numbered(a, b, c, d),
+        Kind::Text => all(lead(index, a), free(b), free(c), free(d)),
+        Kind::Length => all(lead(index, a), flag(b), level_mode(c), level_unit(d)),
+        _ => false,
+    }
+}
+
 fn answer(right: bool) -> Informed
     ensures { λ r. ⌜ r ≡ cond right Informed.Right Informed.Not ⌝ }
 {
@@ -95,27 +178,28 @@ fn answer(right: bool) -> Informed
     }
 }
 
-// Positions 3-6 of a word of that kind.
-pub fn informed_by(kind: Kind, a: u8, b: u8, c: u8, d: u8) -> Informed
-    ensures { λ r. ⌜ r ≡ informedOf kind a b c d ⌝ }
+// The information of a word of that index and kind.
+pub fn informed_by(family: Family, index: u16, kind: Kind, a: u8, b: u8, c: u8, d: u8) -> Informed
+    ensures { λ r. ⌜ r ≡ informedOf family index kind a b c d ⌝ }
 {
-    match kind {
-        Kind::Missing => Informed::Not,
-        Kind::Numbered => {
-            let digits = all(
-                figures::digit(a),
-                figures::digit(b),
-                figures::digit(c),
-                figures::digit(d),
-            );
-            let dots = all(dot(a), dot(b), dot(c), dot(d));
-            answer(either(digits, dots))
+    match family {
+        Family::Station => answer(station_info(kind, a, b, c, d)),
+        Family::Level => answer(level_info(index, kind, a, b, c, d)),
+    }
+}
+
+// Position 3 as the information has it: 0 where it belongs to the index.
+pub fn lead_of(family: Family, index: u16, third: u8) -> u8
+    ensures { λ r. ⌜ r ≡ leadOf family index third ⌝ }
+{
+    match family {
+        Family::Station => third,
+        Family::Level => {
+            if index < 100 {
+                return third;
+            }
+            0
         }
-        Kind::Text => answer(all(dot(a), free(b), free(c), free(d))),
-        Kind::Angle => answer(all(dot(a), angle_mark(b), mode(c), angle_unit(d))),
-        Kind::Length => answer(all(dot(a), dot(b), mode(c), length_unit(d))),
-        Kind::Constant => answer(all(dot(a), dot(b), mode(c), d == b'6')),
-        Kind::Pair => answer(all(dot(a), dot(b), mode(c), dot(d))),
     }
 }
 

@@ -1,7 +1,15 @@
-// The kind of a word, by its index.
+// The index of a word and its kind, by the family of instruments that a block is from.
 ghost use mathlib.Core.Path.{_≡_};
-ghost use Rattle.units.specs.Kinds.{kindOf, namedBy, indexAt, isTextual};
+ghost use Prim.Native.Nat.{_<_};
+ghost use Rattle.units.specs.Kinds.{stationKind, levelKind, classKind, kindOf, isListed, isTextual, namedBy, levelIndex, levelListed, listed, indexAt};
+use crate::classes::class_of;
 use figures::casts::figure;
+
+// Total stations and digital levels.
+pub enum Family {
+    Station,
+    Level,
+}
 
 pub enum Kind {
     Missing,
@@ -19,14 +27,15 @@ pub enum Named {
     Index(u16),
 }
 
-// What positions 1-2 say: an index of the table with its kind, or none.
+// What positions 1-3 say: an index of the family with its kind, or none.
 pub enum Indexed {
     Not,
     Listed(u16, Kind),
 }
 
-pub fn kind_of(index: u16) -> Kind
-    ensures { λ r. ⌜ r ≡ kindOf index ⌝ }
+// A total station's indexes.
+fn station_kind(index: u16) -> Kind
+    ensures { λ r. ⌜ r ≡ stationKind index ⌝ }
 {
     match index {
         11 | 41 => Kind::Numbered,
@@ -39,6 +48,48 @@ pub fn kind_of(index: u16) -> Kind
         58 | 59 => Kind::Constant,
         51 => Kind::Pair,
         _ => Kind::Missing,
+    }
+}
+
+// A level's indexes of two digits.
+fn level_kind(index: u16) -> Kind
+    ensures { λ r. ⌜ r ≡ levelKind index ⌝ }
+{
+    match index {
+        11 | 41 => Kind::Numbered,
+        42..=49 => Kind::Text,
+        52 | 57 => Kind::Text,
+        32 | 83 => Kind::Length,
+        _ => Kind::Missing,
+    }
+}
+
+// The kind that a class of three digits gives a record.
+fn class_kind(class: u8) -> Kind
+    ensures { λ r. ⌜ r ≡ classKind class ⌝ }
+{
+    match class {
+        b'1' => Kind::Length,
+        b'2' => Kind::Text,
+        _ => Kind::Missing,
+    }
+}
+
+// The kind of a record's index.
+pub fn kind_of(family: Family, index: u16) -> Kind
+    ensures { λ r. ⌜ r ≡ kindOf family index ⌝ }
+{
+    match family {
+        Family::Station => station_kind(index),
+        Family::Level => {
+            if index < 100 {
+                return level_kind(index);
+            }
+            if 999 < index {
+                return Kind::Missing;
+            }
+            class_kind(class_of(index))
+        }
     }
 }
 
@@ -66,16 +117,55 @@ pub fn named_by(tens: u8, ones: u8) -> Named
     Named::Index(figure(tens - b'0') * 10 + figure(ones - b'0'))
 }
 
-// Positions 1-2.
-pub fn index_at(tens: u8, ones: u8) -> Indexed
-    ensures { λ r. ⌜ r ≡ indexAt tens ones ⌝ }
+// An index that has a kind.
+fn listed_as(index: u16, kind: Kind) -> Indexed
+    ensures { λ r. ⌜ r ≡ listed (isListed kind) index kind ⌝ }
 {
-    let Named::Index(index) = named_by(tens, ones) else {
-        return Indexed::Not;
-    };
-    let kind = kind_of(index);
     if let Kind::Missing = kind {
         return Indexed::Not;
     }
     Indexed::Listed(index, kind)
+}
+
+// A level's index: position 3 decides whether two digits or three are looked up.
+fn level_at(two: u16, third: u8) -> Indexed
+    requires { ⌜ two < 100 ⌝ }
+    ensures { λ r. ⌜ r ≡ listed (levelListed two third) (levelIndex two third) (kindOf Family.Level (levelIndex two third)) ⌝ }
+{
+    if !figures::digit(third) {
+        let kind = level_kind(two);
+        return listed_as(two, kind);
+    }
+    let three = two * 10 + figure(third - b'0');
+    match class_of(three) {
+        b'1' => {
+            let kind = Kind::Length;
+            Indexed::Listed(three, kind)
+        }
+        b'2' => {
+            let kind = Kind::Text;
+            Indexed::Listed(three, kind)
+        }
+        b'3' => {
+            let kind = Kind::Numbered;
+            Indexed::Listed(two, kind)
+        }
+        _ => Indexed::Not,
+    }
+}
+
+// Positions 1-3.
+pub fn index_at(family: Family, tens: u8, ones: u8, third: u8) -> Indexed
+    ensures { λ r. ⌜ r ≡ indexAt family tens ones third ⌝ }
+{
+    let Named::Index(two) = named_by(tens, ones) else {
+        return Indexed::Not;
+    };
+    match family {
+        Family::Station => {
+            let kind = station_kind(two);
+            listed_as(two, kind)
+        }
+        Family::Level => level_at(two, third),
+    }
 }

@@ -13,11 +13,12 @@ use Rattle.figures.specs.Bytes.{every}
 use Rattle.figures.specs.Decimal.{isDigit, numberOf, numberIn}
 use Rattle.figures.specs.declared.Said.{Said}
 use Rattle.figures.specs.declared.Said.the-variants as said
-use Rattle.units.specs.Kinds.{isTextual, kindOf, indexOf, indexRight, indexAt}
+use Rattle.units.specs.Kinds.{isTextual, kindOf, indexBy, indexRight, indexAt}
 use Rattle.units.specs.Information.{signRight, signOf, signAt}
 use Rattle.words.specs.Records.{width, textRight, isGraphic, isZero}
 use Rattle.words.specs.Reading.{wordSize, dataIn, dataRight, ppmIn, underIn, mmIn, figuresIn}
 use Rattle.words.specs.Keeping.{pairAt, spelledAt}
+use Rattle.units.specs.declared.kinds.Family.{Family}
 use Rattle.units.specs.declared.kinds.Kind.{Kind}
 use Rattle.units.specs.declared.kinds.Indexed.{Indexed}
 use Rattle.units.specs.declared.counts.Figures.{Figures}
@@ -56,13 +57,16 @@ parted-not {b} e f = refused b parted.Blank parted.Not (λ q. clash (cc)) e f
 pub parted-blank : {b : Bool} {r : Parted} → r ≡ cond b parted.Blank parted.Not → r ≡ parted.Blank → b ≡ true
 parted-blank {b} e f = granted b parted.Blank parted.Not (λ q. clash (cc)) e f .0
 
-pub index-not : (t o : ℕ) {r : Indexed} → r ≡ indexAt t o → r ≡ indexed.Not → indexRight t o ≡ false
-index-not t o e f = refused (indexRight t o) (indexed.Listed (indexOf t o) (kindOf (indexOf t o))) indexed.Not (λ q. clash (cc)) e f
+pub index-not : (f : Family) (t o c : ℕ) {r : Indexed} → r ≡ indexAt f t o c → r ≡ indexed.Not → indexRight f t o c ≡ false
+index-not f t o c e is =
+    let i = indexBy f t o c in
+    refused (indexRight f t o c) (indexed.Listed i (kindOf f i)) indexed.Not (λ q. clash (cc)) e is
 
-pub index-is : (t o : ℕ) {r : Indexed} {i : ℕ} {k : Kind} → r ≡ indexAt t o → r ≡ indexed.Listed i k
-    → (indexRight t o ≡ true) × (i ≡ indexOf t o) × (k ≡ kindOf (indexOf t o))
-index-is t o e f =
-    let ok = granted (indexRight t o) (indexed.Listed (indexOf t o) (kindOf (indexOf t o))) indexed.Not (λ q. clash (cc)) e f in
+pub index-is : (f : Family) (t o c : ℕ) {r : Indexed} {i : ℕ} {k : Kind} → r ≡ indexAt f t o c → r ≡ indexed.Listed i k
+    → (indexRight f t o c ≡ true) × (i ≡ indexBy f t o c) × (k ≡ kindOf f (indexBy f t o c))
+index-is f t o c e is =
+    let n = indexBy f t o c in
+    let ok = granted (indexRight f t o c) (indexed.Listed n (kindOf f n)) indexed.Not (λ q. clash (cc)) e is in
     (ok .0, cc (ok .1), cc (ok .1))
 
 -- what `number` takes: no more than 16 digits

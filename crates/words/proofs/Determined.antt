@@ -8,6 +8,7 @@ use Rattle.figures.proofs.Determined.{by-equation}
 use Rattle.words.specs.Records.{width, blank, isRight, typedOf}
 use Rattle.words.specs.Reading.{faultNumber, wordOf}
 use Rattle.words.specs.Keeping.{spellingOf}
+use Rattle.units.specs.declared.kinds.Family.{Family}
 use Rattle.units.specs.declared.counts.Count.{Count}
 use Rattle.words.specs.declared.records.Word.{Word}
 use Rattle.words.specs.declared.reading.Fault.{Fault}
@@ -17,11 +18,11 @@ use Rattle.words.specs.declared.writing.Spelling.{Spelling}
 pub blank-word-determined : Determined (Unit {0}) Word (λ i r. r ≡ blank)
 blank-word-determined = by-equation (Unit {0}) Word (λ i. blank)
 
-pub right-determined : Determined (Word × Bool) Bool (λ i r. r ≡ isRight (i .1) (i .0))
-right-determined = by-equation (Word × Bool) Bool (λ i. isRight (i .1) (i .0))
+pub right-determined : Determined (Word × (Family × Bool)) Bool (λ i r. r ≡ isRight (i .1 .0) (i .1 .1) (i .0))
+right-determined = by-equation (Word × (Family × Bool)) Bool (λ i. isRight (i .1 .0) (i .1 .1) (i .0))
 
-pub count-determined : Determined Word Count (λ i r. r ≡ typedOf i)
-count-determined = by-equation Word Count typedOf
+pub count-determined : Determined (Word × Family) Count (λ i r. r ≡ typedOf (i .1) (i .0))
+count-determined = by-equation (Word × Family) Count (λ i. typedOf (i .1) (i .0))
 
 pub fault-number-determined : Determined Fault ℕ (λ i r. r ≡ faultNumber i)
 fault-number-determined = by-equation Fault ℕ faultNumber
@@ -29,8 +30,8 @@ fault-number-determined = by-equation Fault ℕ faultNumber
 pub width-of-determined : Determined Bool ℕ (λ i r. r ≡ width i)
 width-of-determined = by-equation Bool ℕ width
 
-pub read-word-determined : Determined (List ℕ × Bool) OneWord (λ i r. r ≡ wordOf (i .1) (i .0))
-read-word-determined = by-equation (List ℕ × Bool) OneWord (λ i. wordOf (i .1) (i .0))
+pub read-word-determined : Determined (List ℕ × (Family × Bool)) OneWord (λ i r. r ≡ wordOf (i .1 .0) (i .1 .1) (i .0))
+read-word-determined = by-equation (List ℕ × (Family × Bool)) OneWord (λ i. wordOf (i .1 .0) (i .1 .1) (i .0))
 
-pub spell-determined : Determined (Word × Bool) Spelling (λ i r. r ≡ spellingOf (i .1) (i .0))
-spell-determined = by-equation (Word × Bool) Spelling (λ i. spellingOf (i .1) (i .0))
+pub spell-determined : Determined (Word × (Family × Bool)) Spelling (λ i r. r ≡ spellingOf (i .1 .0) (i .1 .1) (i .0))
+spell-determined = by-equation (Word × (Family × Bool)) Spelling (λ i. spellingOf (i .1 .0) (i .1 .1) (i .0))

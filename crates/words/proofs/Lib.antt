@@ -4,6 +4,7 @@ pub mod Values
 pub mod Places
 pub mod RoundTrip
 pub mod Given
+pub mod Apart
 pub mod Typed
 pub mod Writes
 pub mod Determined

@@ -1,19 +1,19 @@
 -- Where a word's positions stand in its bytes: the bytes of a word are its positions in order, and a word looks at no byte past its own.
 use Prim.Native.Nat.{ℕ, suc, _+_, _<_, _≤_}
 use mathlib.Core.Path.{_≡_, sym, ap, _∙_}
-use mathlib.Core.Bool.{Bool, _&&_}
+use mathlib.Core.Bool.{Bool}
 use mathlib.Core.List.{List, [], _∷_, _++_, append-assoc}
 use native.Mathlib.Omega.{arith}
 use borrow.Author.Tests.{le-leb}
 use lib.Dec.{eqb}
 use lib.ListN.{length, getD, take, drop, length-append, take-append-drop}
 use lib.Seq.{take-at, getD-at, getD-drop, drop-drop, drop-cons, length-take-le}
-use Rattle.figures.specs.Decimal.{isDigit}
-use Rattle.units.specs.Kinds.{kindOf, isListed, indexOf}
-use Rattle.units.specs.Information.{infoRight, signOf, signRight}
+use Rattle.units.specs.Kinds.{kindOf, indexBy, indexRight}
+use Rattle.units.specs.Information.{infoRight, leadOf, signOf, signRight}
 use Rattle.units.specs.Counts.{valueAt}
 use Rattle.words.specs.Records.{width, recordOf}
 use Rattle.words.specs.Reading.{wordSize, pos, dataIn, dataRight, figuresIn, textField, isCounted, countOr, rightWord, unless, wordOf}
+use Rattle.units.specs.declared.kinds.Family.{Family}
 use Rattle.units.specs.declared.counts.Count.{Count}
 use Rattle.units.specs.declared.counts.Valued.{Valued}
 use Rattle.words.specs.declared.records.Word.{Word}
@@ -33,8 +33,8 @@ pub record Places : Type 0 where
   pub letters : List ℕ
   pub end : ℕ
 
-abbrev pub indexBy : Places → ℕ
-indexBy p = indexOf (p .tens) (p .ones)
+abbrev pub indexFrom : Family → Places → ℕ
+indexFrom f p = indexBy f (p .tens) (p .ones) (p .first)
 
 -- the bytes of a word, and then the rest
 abbrev pub spread : Places → List ℕ → List ℕ
@@ -59,27 +59,27 @@ rules index info sign letters end value r =
     unless index Index (unless info Information (unless sign Sign (unless letters Characters (unless end Separator (unless value Value r)))))
 
 -- what the places count, by the index that they say
-abbrev pub valueBy : ℕ → Places → Valued
-valueBy i p = valueAt (kindOf i) i (p .unit) (signOf (p .sign)) (figuresIn (kindOf i) (p .letters))
+abbrev pub valueBy : Family → ℕ → Places → Valued
+valueBy f i p = valueAt (kindOf f i) i (p .unit) (signOf (p .sign)) (figuresIn (kindOf f i) (p .letters))
 
-abbrev pub recordBy : ℕ → Places → Count → Word
-recordBy i p c = recordOf i (p .first ∷ p .second ∷ p .mode ∷ p .unit ∷ []) c (textField (kindOf i) (p .letters))
+abbrev pub recordBy : Family → ℕ → Places → Count → Word
+recordBy f i p c = recordOf i (leadOf f i (p .first) ∷ p .second ∷ p .mode ∷ p .unit ∷ []) c (textField (kindOf f i) (p .letters))
 
-abbrev pub wordAt : ℕ → Places → OneWord
-wordAt i p =
-    rules (isDigit (p .tens) && (isDigit (p .ones) && isListed (kindOf i)))
-    (infoRight (kindOf i) (p .first) (p .second) (p .mode) (p .unit))
-    (signRight (kindOf i) (p .sign))
-    (dataRight (kindOf i) (p .letters))
+abbrev pub wordAt : Family → ℕ → Places → OneWord
+wordAt f i p =
+    rules (indexRight f (p .tens) (p .ones) (p .first))
+    (infoRight f i (kindOf f i) (leadOf f i (p .first)) (p .second) (p .mode) (p .unit))
+    (signRight (kindOf f i) (p .sign))
+    (dataRight (kindOf f i) (p .letters))
     (eqb (p .end) 32)
-    (isCounted (valueBy i p))
-    (rightWord (recordBy i p (countOr (valueBy i p))))
+    (isCounted (valueBy f i p))
+    (rightWord (recordBy f i p (countOr (valueBy f i p))))
 
-abbrev pub wordBy : Places → OneWord
-wordBy p = wordAt (indexBy p) p
+abbrev pub wordBy : Family → Places → OneWord
+wordBy f p = wordAt f (indexFrom f p) p
 
-long-word : (wide : Bool) (s : List ℕ) → wordSize wide ≤ length s → wordOf wide s ≡ wordBy (placesIn wide s)
-long-word wide s h = rw (le-leb (wordSize wide) (length s) h)
+long-word : (f : Family) (wide : Bool) (s : List ℕ) → wordSize wide ≤ length s → wordOf f wide s ≡ wordBy f (placesIn wide s)
+long-word f wide s h = rw (le-leb (wordSize wide) (length s) h)
 
 -- a list that is long enough is its places, and then the rest
 pub spread-places : (wide : Bool) (s : List ℕ) → wordSize wide ≤ length s → s ≡ spread (placesIn wide s) (drop (wordSize wide) s)
@@ -98,12 +98,12 @@ module _ (wide : Bool) (p : Places) (l : length (p .letters) ≡ width wide) whe
   spread-length : (rest : List ℕ) → length (spread p rest) ≡ wordSize wide + length rest
   spread-length rest = omega (arith, length-append (p .letters) (p .end ∷ rest))
 
-  pub word-spread : (rest : List ℕ) → wordOf wide (spread p rest) ≡ wordBy p
-  word-spread rest =
+  pub word-spread : (f : Family) (rest : List ℕ) → wordOf f wide (spread p rest) ≡ wordBy f p
+  word-spread f rest =
       let letters-are : dataIn wide (spread p rest) ≡ p .letters = take-at (p .letters) (p .end ∷ rest) (width wide) l in
       let end-is : getD (spread p rest) (7 + width wide) 0 ≡ p .end =
       sym (getD-drop 7 (spread p rest) (width wide) 0) ∙ getD-at (p .letters) (p .end) rest 0 (width wide) l in
-      long-word wide (spread p rest) (omega (arith, spread-length rest)) ∙ rw (letters-are, end-is)
+      long-word f wide (spread p rest) (omega (arith, spread-length rest)) ∙ rw (letters-are, end-is)
 
   pub size-spread : length (spread p []) ≡ wordSize wide
   size-spread = spread-length [] ∙ omega arith
@@ -112,15 +112,15 @@ module _ (wide : Bool) (p : Places) (l : length (p .letters) ≡ width wide) whe
   take-spread rest = rw (← spread-on p [] rest) (take-at (spread p []) rest (wordSize wide) size-spread)
 
 -- a word looks at no byte past its own
-pub never-past : (wide : Bool) (s rest : List ℕ) → wordSize wide ≤ length s → wordOf wide (s ++ rest) ≡ wordOf wide s
-never-past wide s rest h =
+pub never-past : (f : Family) (wide : Bool) (s rest : List ℕ) → wordSize wide ≤ length s → wordOf f wide (s ++ rest) ≡ wordOf f wide s
+never-past f wide s rest h =
     let p = placesIn wide s in
     let more = drop (wordSize wide) s in
     let is : s ++ rest ≡ spread p (more ++ rest) = ap (λ r. r ++ rest) (spread-places wide s h) ∙ spread-on p more rest in
-    ap (wordOf wide) is ∙ word-spread wide p (data-length wide s h) (more ++ rest) ∙ sym (long-word wide s h)
+    ap (wordOf f wide) is ∙ word-spread wide p (data-length wide s h) f (more ++ rest) ∙ sym (long-word f wide s h)
 
-pub never-short : (wide : Bool) (s : List ℕ) → wordSize wide ≤ length s → wordOf wide (take (wordSize wide) s) ≡ wordOf wide s
-never-short wide s h =
+pub never-short : (f : Family) (wide : Bool) (s : List ℕ) → wordSize wide ≤ length s → wordOf f wide (take (wordSize wide) s) ≡ wordOf f wide s
+never-short f wide s h =
     let own = take (wordSize wide) s in
     let long = length-take-le (wordSize wide) s h in
-    sym (never-past wide own (drop (wordSize wide) s) (omega arith)) ∙ ap (wordOf wide) (take-append-drop (wordSize wide) s)
+    sym (never-past f wide own (drop (wordSize wide) s) (omega arith)) ∙ ap (wordOf f wide) (take-append-drop (wordSize wide) s)

@@ -16,7 +16,7 @@ use Rattle.units.specs.declared.kinds.Kind.{Kind}
 use Rattle.units.specs.declared.kinds.Kind.the-variants as kind
 use Rattle.units.specs.declared.counts.Whole.{Whole}
 use Rattle.units.specs.declared.counts.Count.{Count}
-use Rattle.units.specs.declared.counts.Count.the-variants.{Gon, Degree, Tenth, Mil, Metre, Feet, Ppm}
+use Rattle.units.specs.declared.counts.Count.the-variants.{Gon, Degree, Tenth, Mil, Metre, Feet, Inch, Ppm}
 use Rattle.units.specs.declared.counts.Count.the-variants as count
 use Rattle.units.specs.declared.counts.Figures.{Figures}
 use Rattle.units.specs.declared.counts.Figures.the-variants as figures
@@ -71,22 +71,27 @@ by-unit P gon degree tenth mil u = go (eqb u 50) (eqb u 51) (eqb u 52)
     go false false true = tenth
     go false false false = mil
 
--- metres, and feet, of so many decimals
+-- metres, and feet, of so many decimals, and inches
 abbrev inMetres : ℕ → Whole → Count
 inMetres d x = Metre (record { 0 = x; 1 = d })
 
 abbrev inFeet : ℕ → Whole → Count
 inFeet d x = Feet (record { 0 = x; 1 = d })
 
-by-length : (P : (Whole → Count) → Type 0) → ((d : ℕ) → P (inMetres d)) → ((d : ℕ) → P (inFeet d)) → (u : ℕ) → P (lengthOf u)
-by-length P metre feet u = go (eqb u 48) (eqb u 49) (eqb u 54) (eqb u 55)
+abbrev inInches : Whole → Count
+inInches x = Inch (record { 0 = x })
+
+by-length : (P : (Whole → Count) → Type 0) → ((d : ℕ) → P (inMetres d)) → ((d : ℕ) → P (inFeet d)) → P inInches → (u : ℕ) → P (lengthOf u)
+by-length P metre feet inch u = go (eqb u 48) (eqb u 49) (eqb u 54) (eqb u 55) (eqb u 57)
   where
-    go : (x y z v : Bool) → P (λ w. cond x (inMetres 3 w) (cond y (inFeet 3 w) (cond z (inMetres 4 w) (cond v (inFeet 4 w) (inMetres 5 w)))))
-    go true y z v = metre 3
-    go false true z v = feet 3
-    go false false true v = metre 4
-    go false false false true = feet 4
-    go false false false false = metre 5
+    go : (x y z v t : Bool)
+        → P (λ w. cond x (inMetres 3 w) (cond y (inFeet 3 w) (cond z (inMetres 4 w) (cond v (inFeet 4 w) (cond t (inInches w) (inMetres 5 w))))))
+    go true y z v t = metre 3
+    go false true z v t = feet 3
+    go false false true v t = metre 4
+    go false false false true t = feet 4
+    go false false false false true = inch
+    go false false false false false = metre 5
 
 -- a count whose size is what its digits say, below a limit
 record Plain (wide : Bool) (limit : ℕ) (of : Whole → Count) (x : Whole) : Type 0 where
@@ -97,7 +102,7 @@ record Plain (wide : Bool) (limit : ℕ) (of : Whole → Count) (x : Whole) : Ty
 length-plain : (wide : Bool) (u : ℕ) (x : Whole) → Plain wide (10 ^ width wide) (lengthOf u) x
 length-plain wide u x =
     by-length (λ of. Plain wide (10 ^ width wide) of x) (λ d. record { first = refl; right = refl; says = refl })
-    (λ d. record { first = refl; right = refl; says = refl }) u
+    (λ d. record { first = refl; right = refl; says = refl }) (record { first = refl; right = refl; says = refl }) u
 
 constant-plain : (wide : Bool) (i : ℕ) (x : Whole) → Plain wide (10 ^ width wide) (constantOf i) x
 constant-plain wide i x = go (eqb i 58)

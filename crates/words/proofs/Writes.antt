@@ -7,18 +7,21 @@ use native.Mathlib.Omega.{arith}
 use borrow.Author.Tests.{ltb-true, eqb-true}
 use borrow.Rule.Slice.PartMut.{putMid, midOf, same-len-mid}
 use lib.Dec.{eqb, leb, ltb}
-use lib.ListN.{length, getD, set, drop, replicate, length-append, length-set, drop-of-length-le}
+use lib.ListN.{length, getD, set, drop, replicate, length-append, length-set, length-drop, drop-of-length-le}
 use lib.Seq.{take-all, append-snoc}
 use Rattle.figures.specs.Decimal.{digitsOf}
 use Rattle.figures.specs.Bytes.{laid}
 use Rattle.figures.proofs.Bytes.{length-on, length-mid, laid-cut, fill-on, store-on}
 use Rattle.figures.proofs.Decimal.{digits-on, digits-length}
+use Rattle.figures.proofs.Tests.{by-test}
 use Rattle.units.specs.Counts.{whole, minusZero, angleOf, lengthOf, constantOf, firstOf, secondOf, figuresOf}
-use Rattle.units.specs.Information.{infoRight, signByte}
+use Rattle.units.specs.Information.{infoRight, headOf, signByte}
 use Rattle.words.specs.Records.{width, kindIn, unitIn, countBy, countOf, tenTo, wholeRight, countRight, textRight, sameWhole, isRight}
 use Rattle.words.specs.Reading.{wordSize}
 use Rattle.words.specs.Writing.{dataOf}
 use Rattle.words.specs.Keeping.{bytesIn}
+use Rattle.units.specs.declared.kinds.Family.{Family}
+use Rattle.units.specs.declared.kinds.Family.the-variants.{Station, Level}
 use Rattle.units.specs.declared.kinds.Kind.{Kind}
 use Rattle.units.specs.declared.counts.Whole.{Whole}
 use Rattle.units.specs.declared.counts.Count.{Count}
@@ -60,53 +63,64 @@ pair-on out ppm mm p sign q h ep eq =
     let same = signed-length out ppm sign long in
     three-parts out ppm mm (length out - 4) (length out - 4 - 0) (length room - (length out - 4 + 1)) p sign q (omega arith) (omega arith) (omega arith) ep eq
 
--- a word's room once its index, its information and its sign stand in it
-abbrev pub headedIn : List ℕ → List ℕ → List ℕ → ℕ → List ℕ
-headedIn room index info sign = set (putMid 2 4 (putMid 0 2 room index) info) 6 sign
+-- positions 1-6: k digits of an index, and then what comes of the information
+pub digits-then : (room index laidInfo info : List ℕ) (i k j : ℕ) → k + j ≡ length room → length info ≡ j → index ≡ digitsOf (length (midOf 0 k room)) i
+    → laidInfo ≡ laid info (midOf k j (putMid 0 k room index)) → putMid k j (putMid 0 k room index) laidInfo ≡ digitsOf k i ++ info
+digits-then room index laidInfo info i k j h hi ei el =
+    let r₁ = putMid 0 k room index in
+    let first = digits-on [] room room index 0 k i refl (omega arith) refl ei in
+    let long = digits-length k i in
+    let kept = length-on (digitsOf k i) room r₁ (omega arith) first in
+    let part = length-mid k j r₁ (omega arith) in
+    let is : laidInfo ≡ info = el ∙ laid-cut info (midOf k j r₁) (omega arith) ∙ take-all (length (midOf k j r₁)) info (omega arith) in
+    let all = digitsOf k i ++ info in
+    let full : length room ≤ length all = omega (arith, length-append (digitsOf k i) info) in
+    let put = fill-on (digitsOf k i) room r₁ info k j (omega arith) first hi in
+    rw is (put ∙ rw (drop-of-length-le room {i = length all} full, append-nil))
 
-pub headed-length : (room index info : List ℕ) (sign : ℕ) → length index ≡ length (midOf 0 2 room)
-    → length info ≡ length (midOf 2 4 (putMid 0 2 room index)) → length (headedIn room index info sign) ≡ length room
-headed-length room index info sign h g =
-    length-set (putMid 2 4 (putMid 0 2 room index) info) 6 sign ∙ same-len-mid 2 4 (putMid 0 2 room index) info g ∙ same-len-mid 0 2 room index h
+pub head-length : (f : Family) (i : ℕ) (info : List ℕ) → length info ≡ 4 → length (headOf f i info) ≡ 6
+head-length f i info h = by-family f
+  where
+    two : length (digitsOf 2 i ++ info) ≡ 6
+    two = omega (arith, length-append (digitsOf 2 i) info, digits-length 2 i)
+
+    three : length (digitsOf 3 i ++ drop 1 info) ≡ 6
+    three = omega (arith, length-append (digitsOf 3 i) (drop 1 info), digits-length 3 i, length-drop 1 info)
+
+    by-family : (f : Family) → length (headOf f i info) ≡ 6
+    by-family Station = two
+    by-family Level = by-test (ltb i 100) (λ q. rw q two) (λ q. rw q three)
+
+-- a word's room once its positions 1-6 and its sign stand in it
+abbrev pub headedIn : List ℕ → List ℕ → ℕ → List ℕ
+headedIn room head sign = set (putMid 0 6 room head) 6 sign
+
+pub headed-length : (room head : List ℕ) (sign : ℕ) → length head ≡ length (midOf 0 6 room) → length (headedIn room head sign) ≡ length room
+headed-length room head sign h = length-set (putMid 0 6 room head) 6 sign ∙ same-len-mid 0 6 room head h
 
 -- the room of the data
 pub data-room : (room : List ℕ) (n : ℕ) → 7 + n ≤ length room → length (midOf 7 (7 + n - 7) room) ≡ n
 data-room room n h = length-mid 7 (7 + n - 7) room (omega arith) ∙ omega arith
 
-abbrev headOf : ℕ → List ℕ → ℕ → List ℕ
-headOf i info sign = (digitsOf 2 i ++ info) ++ (sign ∷ [])
+head-on : (room laidHead head : List ℕ) (sign : ℕ) → 7 ≤ length room → length head ≡ 6 → laidHead ≡ laid head (midOf 0 6 room)
+    → headedIn room laidHead sign ≡ (head ++ (sign ∷ [])) ++ drop (length (head ++ (sign ∷ []))) room
+head-on room laidHead head sign h six el =
+    let part = length-mid 0 6 room (omega arith) in
+    let is : laidHead ≡ head = el ∙ laid-cut head (midOf 0 6 room) (omega arith) ∙ take-all (length (midOf 0 6 room)) head (omega arith) in
+    rw is (store-on head room (putMid 0 6 room head) 6 sign (omega arith) (omega arith) (fill-on [] room room head 0 6 refl refl six))
 
-head-length : (i : ℕ) (info : List ℕ) (sign : ℕ) → length info ≡ 4 → length (headOf i info sign) ≡ 7
-head-length i info sign h =
-    omega (arith, length-append (digitsOf 2 i ++ info) (sign ∷ []), length-append (digitsOf 2 i) info, digits-length 2 i)
-
-head-on : (room index laidInfo info : List ℕ) (i sign : ℕ) → 7 ≤ length room → length info ≡ 4 → index ≡ digitsOf (length (midOf 0 2 room)) i
-    → laidInfo ≡ laid info (midOf 2 4 (putMid 0 2 room index))
-    → headedIn room index laidInfo sign ≡ headOf i info sign ++ drop (length (headOf i info sign)) room
-head-on room index laidInfo info i sign h hi ei el =
-    let r₁ = putMid 0 2 room index in
-    let first = digits-on [] room room index 0 2 i refl (omega arith) refl ei in
-    let two = digits-length 2 i in
-    let kept = length-on (digitsOf 2 i) room r₁ (omega arith) first in
-    let four = length-mid 2 4 r₁ (omega arith) in
-    let is : laidInfo ≡ info = el ∙ laid-cut info (midOf 2 4 r₁) (omega arith) ∙ take-all (length (midOf 2 4 r₁)) info (omega arith) in
-    let second = fill-on (digitsOf 2 i) room r₁ info 2 4 (omega arith) first hi in
-    let six = length-append (digitsOf 2 i) info in
-    rw is (store-on (digitsOf 2 i ++ info) room (putMid 2 4 r₁ info) 6 sign (omega arith) (omega arith) second)
-
-pub word-on : (room index laidInfo info figures : List ℕ) (i sign n : ℕ) → 8 + n ≤ length room → length info ≡ 4
-    → index ≡ digitsOf (length (midOf 0 2 room)) i → laidInfo ≡ laid info (midOf 2 4 (putMid 0 2 room index)) → length figures ≡ n
-    → set (putMid 7 (7 + n - 7) (headedIn room index laidInfo sign) figures) (7 + n) 32
-    ≡ (digitsOf 2 i ++ (info ++ (sign ∷ (figures ++ (32 ∷ []))))) ++ drop (n + 8) room
-word-on room index laidInfo info figures i sign n h hi ei el hf =
-    let head = headOf i info sign in
-    let seven = head-length i info sign hi in
-    let third = head-on room index laidInfo info i sign (omega arith) hi ei el in
-    let fourth = fill-on head room (headedIn room index laidInfo sign) figures 7 (7 + n - 7) (omega arith) third (omega arith) in
-    let long = length-append head figures in
-    let all = length-append (head ++ figures) (32 ∷ []) in
-    let end : length ((head ++ figures) ++ (32 ∷ [])) ≡ n + 8 = omega arith in
-    store-on (head ++ figures) room (putMid 7 (7 + n - 7) (headedIn room index laidInfo sign) figures) (7 + n) 32 (omega arith) (omega arith) fourth
+pub word-on : (room laidHead head figures : List ℕ) (sign n : ℕ) → 8 + n ≤ length room → length head ≡ 6 → laidHead ≡ laid head (midOf 0 6 room)
+    → length figures ≡ n
+    → set (putMid 7 (7 + n - 7) (headedIn room laidHead sign) figures) (7 + n) 32 ≡ (head ++ (sign ∷ (figures ++ (32 ∷ [])))) ++ drop (n + 8) room
+word-on room laidHead head figures sign n h six el hf =
+    let signed = head ++ (sign ∷ []) in
+    let seven = length-append head (sign ∷ []) in
+    let third = head-on room laidHead head sign (omega arith) six el in
+    let fourth = fill-on signed room (headedIn room laidHead sign) figures 7 (7 + n - 7) (omega arith) third (omega arith) in
+    let long = length-append signed figures in
+    let all = length-append (signed ++ figures) (32 ∷ []) in
+    let end : length ((signed ++ figures) ++ (32 ∷ [])) ≡ n + 8 = omega arith in
+    store-on (signed ++ figures) room (putMid 7 (7 + n - 7) (headedIn room laidHead sign) figures) (7 + n) 32 (omega arith) (omega arith) fourth
     ∙ rw end (simp append-assoc)
 
 -- the bytes that are not a word's are left 0
@@ -114,10 +128,10 @@ rest-zero : (wide : Bool) → drop {A = ℕ} (width wide + 8) (replicate 24 0) �
 rest-zero true = refl
 rest-zero false = refl
 
-pub word-is : (wide : Bool) (w : Word) (i sign n : ℕ) (figures : List ℕ) → i ≡ w .index → sign ≡ signByte (w .minus) → n ≡ width wide
-    → figures ≡ dataOf n (figuresOf (countOf w)) (w .text)
-    → (digitsOf 2 i ++ (w .info ++ (sign ∷ (figures ++ (32 ∷ []))))) ++ drop (n + 8) (replicate 24 0) ≡ bytesIn wide w
-word-is wide w i sign n figures ei es en ef = rw (ef, ei, es, en, rest-zero wide)
+pub word-is : (f : Family) (wide : Bool) (w : Word) (sign n : ℕ) (head figures : List ℕ) → head ≡ headOf f (w .index) (w .info) → sign ≡ signByte (w .minus)
+    → n ≡ width wide → figures ≡ dataOf n (figuresOf (countOf f w)) (w .text)
+    → (head ++ (sign ∷ (figures ++ (32 ∷ [])))) ++ drop (n + 8) (replicate 24 0) ≡ bytesIn f wide w
+word-is f wide w sign n head figures eh es en ef = rw (ef, eh, es, en, rest-zero wide)
 
 -- the size of a count is a record's, where the count has one
 either : (b : Bool) (x : Whole) (c d : Count) → firstOf c ≡ x → firstOf d ≡ x → firstOf (cond b c d) ≡ x
@@ -129,7 +143,8 @@ first-angle u x = either (eqb u 50) x _ _ refl (either (eqb u 51) x _ _ refl (ei
 
 first-length : (u : ℕ) (x : Whole) → firstOf (lengthOf u x) ≡ x
 first-length u x =
-    either (eqb u 48) x _ _ refl (either (eqb u 49) x _ _ refl (either (eqb u 54) x _ _ refl (either (eqb u 55) x _ _ refl refl)))
+    either (eqb u 48) x _ _ refl
+    (either (eqb u 49) x _ _ refl (either (eqb u 54) x _ _ refl (either (eqb u 55) x _ _ refl (either (eqb u 57) x _ _ refl refl))))
 
 first-constant : (i : ℕ) (x : Whole) → firstOf (constantOf i x) ≡ x
 first-constant i x = either (eqb i 58) x _ _ refl refl
@@ -165,6 +180,7 @@ count-below wide (count.Tenth c) e = whole-below (c .0) 12960000 (omega arith) e
 count-below wide (count.Mil c) e = whole-below (c .0) 64000000 (omega arith) e
 count-below wide (count.Metre c) e = whole-below (c .0) (tenTo wide false) (ten-below wide false) e
 count-below wide (count.Feet c) e = whole-below (c .0) (tenTo wide false) (ten-below wide false) e
+count-below wide (count.Inch c) e = whole-below (c .0) (tenTo wide false) (ten-below wide false) e
 count-below wide (count.Ppm c) e = whole-below (c .0) (tenTo wide false) (ten-below wide false) e
 count-below wide (count.Pair p q) e =
     whole-below p (tenTo wide true) (ten-below wide true) (and-eq-true-iff (wholeRight p (tenTo wide true)) (wholeRight q 1000) .0 e .0)
@@ -176,13 +192,13 @@ third-and-fourth true true false d r e = absurd (false≢true e)
 third-and-fourth true false c d r e = absurd (false≢true e)
 third-and-fourth false b c d r e = absurd (false≢true e)
 
-pub right-size : (wide : Bool) (w : Word) → isRight wide w ≡ true → w .size < 10 ^ 16
-right-size wide w e =
+pub right-size : (f : Family) (wide : Bool) (w : Word) → isRight f wide w ≡ true → w .size < 10 ^ 16
+right-size f wide w e =
     let long = eqb (length (w .info)) 4 && eqb (length (w .text)) 16 in
-    let informed = infoRight (kindIn w) (getD (w .info) 0 0) (getD (w .info) 1 0) (getD (w .info) 2 0) (unitIn w) in
-    let first = firstOf (countOf w) in
+    let informed = infoRight f (w .index) (kindIn f w) (getD (w .info) 0 0) (getD (w .info) 1 0) (getD (w .info) 2 0) (unitIn w) in
+    let first = firstOf (countOf f w) in
     let same = sameWhole first (w .minus) (w .size) in
-    let rest = sameWhole (secondOf (countOf w)) (w .mmminus) (w .mm) && textRight wide (kindIn w) (w .text) in
-    let both = third-and-fourth long informed (countRight wide (countOf w)) same rest e in
+    let rest = sameWhole (secondOf (countOf f w)) (w .mmminus) (w .mm) && textRight wide (kindIn f w) (w .text) in
+    let both = third-and-fourth long informed (countRight wide (countOf f w)) same rest e in
     let size = and-eq-true-iff (eqb (first .minus) (w .minus)) (eqb (first .size) (w .size)) .0 (both .1) .1 in
-    omega (arith, eqb-true (first .size) (w .size) size, count-below wide (countOf w) (both .0))
+    omega (arith, eqb-true (first .size) (w .size) size, count-below wide (countOf f w) (both .0))

@@ -7,6 +7,7 @@ use lib.ListN.{length, replicate}
 use Rattle.figures.specs.Bytes.{every}
 use Rattle.figures.specs.Decimal.{isDigit, numberOf}
 use Rattle.words.specs.Records.{isGraphic, isRight}
+use Rattle.units.specs.declared.kinds.Family.{Family}
 use Rattle.units.specs.declared.kinds.Kind.{Kind}
 use Rattle.units.specs.declared.kinds.Kind.the-variants as kind
 use Rattle.units.specs.declared.counts.Figures.the-variants as figures
@@ -42,9 +43,9 @@ abbrev pub partedAt : ℕ → Parted
 partedAt b = cond (eqb b 32) parted.Blank parted.Not
 
 -- from the start of 24 bytes, the rest 0
-abbrev pub bytesIn : Bool → Word → List ℕ
-bytesIn wide w = bytesOf wide w ++ replicate (24 - wordSize wide) 0
+abbrev pub bytesIn : Family → Bool → Word → List ℕ
+bytesIn f wide w = bytesOf f wide w ++ replicate (24 - wordSize wide) 0
 
-abbrev pub spellingOf : Bool → Word → Spelling
-spellingOf wide w =
-    cond (isRight wide w) (record { answer = Right; bytes = bytesIn wide w }) (record { answer = Not; bytes = replicate 24 0 })
+abbrev pub spellingOf : Family → Bool → Word → Spelling
+spellingOf f wide w =
+    cond (isRight f wide w) (record { answer = Right; bytes = bytesIn f wide w }) (record { answer = Not; bytes = replicate 24 0 })

@@ -1,4 +1,5 @@
--- One word: "positions 1-2 index; 3-6 information; 7 sign; 8-15 (or 8-23) data; one blank, also after the last word."
+-- One word: "positions 1-2 index; 3-6 information; 7 sign; 8-15 (or 8-23) data; one blank, also after the last word." The family says what
+-- positions 1-6 may be.
 use Prim.Native.Nat.{ℕ, _+_, _-_}
 use mathlib.Core.Bool.{Bool, true, false, cond, _&&_}
 use mathlib.Core.List.{List, [], _∷_}
@@ -6,10 +7,11 @@ use lib.Dec.{eqb, leb}
 use lib.ListN.{length, getD, take, drop, replicate}
 use Rattle.figures.specs.Bytes.{every, laid}
 use Rattle.figures.specs.Decimal.{isDigit, numberOf}
-use Rattle.units.specs.Kinds.{kindOf, indexOf, indexRight, isTextual}
-use Rattle.units.specs.Information.{infoRight, isSign, signOf, signRight}
+use Rattle.units.specs.Kinds.{kindOf, indexBy, indexRight, isTextual}
+use Rattle.units.specs.Information.{infoRight, leadOf, isSign, signOf, signRight}
 use Rattle.units.specs.Counts.{valueAt}
 use Rattle.words.specs.Records.{width, blank, recordOf, isGraphic}
+use Rattle.units.specs.declared.kinds.Family.{Family}
 use Rattle.units.specs.declared.kinds.Kind.{Kind}
 use Rattle.units.specs.declared.kinds.Kind.the-variants as kind
 use Rattle.units.specs.declared.counts.Count.{Count}
@@ -46,14 +48,17 @@ pos p s = getD s (p - 1) 0
 abbrev pub dataIn : Bool → List ℕ → List ℕ
 dataIn wide s = take (width wide) (drop 7 s)
 
-abbrev pub indexIn : List ℕ → ℕ
-indexIn s = indexOf (pos 1 s) (pos 2 s)
+abbrev pub indexIn : Family → List ℕ → ℕ
+indexIn f s = indexBy f (pos 1 s) (pos 2 s) (pos 3 s)
 
-abbrev pub kindAt : List ℕ → Kind
-kindAt s = kindOf (indexIn s)
+abbrev pub kindAt : Family → List ℕ → Kind
+kindAt f s = kindOf f (indexIn f s)
 
-abbrev pub infoIn : List ℕ → List ℕ
-infoIn s = pos 3 s ∷ pos 4 s ∷ pos 5 s ∷ pos 6 s ∷ []
+abbrev pub leadIn : Family → List ℕ → ℕ
+leadIn f s = leadOf f (indexIn f s) (pos 3 s)
+
+abbrev pub infoIn : Family → List ℕ → List ℕ
+infoIn f s = leadIn f s ∷ pos 4 s ∷ pos 5 s ∷ pos 6 s ∷ []
 
 -- "A pair is 4 digits (12 when wide), a sign, 3 digits: ppm, then mm"
 abbrev pub ppmIn : List ℕ → List ℕ
@@ -90,8 +95,8 @@ abbrev pub textField : Kind → List ℕ → List ℕ
 textField k d = cond (isTextual k) (laid d (replicate 16 0)) (replicate 16 0)
 
 -- the count of a word whose positions 1-7 and data are right, or that it is refused by 10
-abbrev pub valueIn : Bool → List ℕ → Valued
-valueIn wide s = valueAt (kindAt s) (indexIn s) (pos 6 s) (signOf (pos 7 s)) (figuresIn (kindAt s) (dataIn wide s))
+abbrev pub valueIn : Family → Bool → List ℕ → Valued
+valueIn f wide s = valueAt (kindAt f s) (indexIn f s) (pos 6 s) (signOf (pos 7 s)) (figuresIn (kindAt f s) (dataIn wide s))
 
 abbrev pub isCounted : Valued → Bool
 isCounted valued.Not = false
@@ -101,8 +106,8 @@ abbrev pub countOr : Valued → Count
 countOr valued.Not = count.Nothing
 countOr (valued.Counted c) = c
 
-abbrev pub recordIn : Bool → List ℕ → Word
-recordIn wide s = recordOf (indexIn s) (infoIn s) (countOr (valueIn wide s)) (textField (kindAt s) (dataIn wide s))
+abbrev pub recordIn : Family → Bool → List ℕ → Word
+recordIn f wide s = recordOf (indexIn f s) (infoIn f s) (countOr (valueIn f wide s)) (textField (kindAt f s) (dataIn wide s))
 
 abbrev pub faulty : Fault → OneWord
 faulty f = record { answer = Wrong f; word = blank }
@@ -115,13 +120,13 @@ abbrev pub unless : Bool → Fault → OneWord → OneWord
 unless holds f r = cond holds r (faulty f)
 
 -- "then 5 to 10 in order"
-abbrev pub wordOf : Bool → List ℕ → OneWord
-wordOf wide s =
+abbrev pub wordOf : Family → Bool → List ℕ → OneWord
+wordOf f wide s =
     unless (leb (wordSize wide) (length s)) Short
-    (unless (indexRight (pos 1 s) (pos 2 s)) Index
-    (unless (infoRight (kindAt s) (pos 3 s) (pos 4 s) (pos 5 s) (pos 6 s)) Information
-    (unless (signRight (kindAt s) (pos 7 s)) Sign
-    (unless (dataRight (kindAt s) (dataIn wide s)) Characters
+    (unless (indexRight f (pos 1 s) (pos 2 s) (pos 3 s)) Index
+    (unless (infoRight f (indexIn f s) (kindAt f s) (leadIn f s) (pos 4 s) (pos 5 s) (pos 6 s)) Information
+    (unless (signRight (kindAt f s) (pos 7 s)) Sign
+    (unless (dataRight (kindAt f s) (dataIn wide s)) Characters
     (unless (eqb (getD s (7 + width wide) 0) 32) Separator
-    (unless (isCounted (valueIn wide s)) Value
-    (rightWord (recordIn wide s))))))))
+    (unless (isCounted (valueIn f wide s)) Value
+    (rightWord (recordIn f wide s))))))))

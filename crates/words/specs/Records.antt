@@ -8,11 +8,12 @@ use Rattle.figures.specs.Bytes.{within, every}
 use Rattle.units.specs.Kinds.{kindOf, isTextual}
 use Rattle.units.specs.Information.{infoRight}
 use Rattle.units.specs.Counts.{whole, minusZero, angleOf, lengthOf, constantOf, firstOf, secondOf}
+use Rattle.units.specs.declared.kinds.Family.{Family}
 use Rattle.units.specs.declared.kinds.Kind.{Kind}
 use Rattle.units.specs.declared.kinds.Kind.the-variants as kind
 use Rattle.units.specs.declared.counts.Whole.{Whole}
 use Rattle.units.specs.declared.counts.Count.{Count}
-use Rattle.units.specs.declared.counts.Count.the-variants.{Nothing, Text, Gon, Degree, Tenth, Mil, Metre, Feet, Ppm, Pair}
+use Rattle.units.specs.declared.counts.Count.the-variants.{Nothing, Text, Gon, Degree, Tenth, Mil, Metre, Feet, Inch, Ppm, Pair}
 use Rattle.words.specs.declared.records.Word.{Word}
 
 -- "With `*` the words are 16 wide, otherwise 8 wide."
@@ -33,8 +34,8 @@ recordOf i info c t = record {
   text = t;
 }
 
-abbrev pub kindIn : Word → Kind
-kindIn w = kindOf (w .index)
+abbrev pub kindIn : Family → Word → Kind
+kindIn f w = kindOf f (w .index)
 
 abbrev pub unitIn : Word → ℕ
 unitIn w = getD (w .info) 3 0
@@ -49,8 +50,8 @@ countBy kind.Length w = lengthOf (unitIn w) (whole (w .minus) (w .size))
 countBy kind.Constant w = constantOf (w .index) (whole (w .minus) (w .size))
 countBy kind.Pair w = Pair (whole (w .minus) (w .size)) (whole (w .mmminus) (w .mm))
 
-abbrev pub countOf : Word → Count
-countOf w = countBy (kindIn w) w
+abbrev pub countOf : Family → Word → Count
+countOf f w = countBy (kindIn f w) w
 
 -- the first number with more digits than a word of the width has, or than the ppm of its pair
 abbrev pub tenTo : Bool → Bool → ℕ
@@ -69,6 +70,7 @@ countRight wide (Tenth c) = wholeRight (c .0) 12960000
 countRight wide (Mil c) = wholeRight (c .0) 64000000
 countRight wide (Metre c) = wholeRight (c .0) (tenTo wide false)
 countRight wide (Feet c) = wholeRight (c .0) (tenTo wide false)
+countRight wide (Inch c) = wholeRight (c .0) (tenTo wide false)
 countRight wide (Ppm c) = wholeRight (c .0) (tenTo wide false)
 countRight wide (Pair p q) = wholeRight p (tenTo wide true) && wholeRight q 1000
 
@@ -85,16 +87,16 @@ textRight wide k t = cond (isTextual k) (every isGraphic (take (width wide) t) &
 abbrev pub sameWhole : Whole → ℕ → ℕ → Bool
 sameWhole w m n = eqb (w .minus) m && eqb (w .size) n
 
--- a record that some word of the width gives: `Given`, in proofs/Given.antt, shows that this is just what it says
-abbrev pub isRight : Bool → Word → Bool
-isRight wide w =
+-- a record that some word of the family and width gives: `Given`, in proofs/Given.antt, shows that this is just what it says
+abbrev pub isRight : Family → Bool → Word → Bool
+isRight f wide w =
     (eqb (length (w .info)) 4 && eqb (length (w .text)) 16)
-    && (infoRight (kindIn w) (getD (w .info) 0 0) (getD (w .info) 1 0) (getD (w .info) 2 0) (unitIn w)
-    && (countRight wide (countOf w)
-    && (sameWhole (firstOf (countOf w)) (w .minus) (w .size)
-    && (sameWhole (secondOf (countOf w)) (w .mmminus) (w .mm)
-    && textRight wide (kindIn w) (w .text)))))
+    && (infoRight f (w .index) (kindIn f w) (getD (w .info) 0 0) (getD (w .info) 1 0) (getD (w .info) 2 0) (unitIn w)
+    && (countRight wide (countOf f w)
+    && (sameWhole (firstOf (countOf f w)) (w .minus) (w .size)
+    && (sameWhole (secondOf (countOf f w)) (w .mmminus) (w .mm)
+    && textRight wide (kindIn f w) (w .text)))))
 
--- the typed count of a record that some word of either width gives
-abbrev pub typedOf : Word → Count
-typedOf w = cond (isRight false w || isRight true w) (countOf w) Nothing
+-- the typed count of a record that some word of the family gives, of either width
+abbrev pub typedOf : Family → Word → Count
+typedOf f w = cond (isRight f false w || isRight f true w) (countOf f w) Nothing

@@ -13,7 +13,9 @@ use units::counts::value_at;
 use units::information::Informed;
 use units::information::Signed;
 use units::information::informed_by;
+use units::information::lead_of;
 use units::information::sign_at;
+use units::kinds::Family;
 use units::kinds::Indexed;
 use units::kinds::Kind;
 use units::kinds::index_at;
@@ -158,18 +160,19 @@ fn text_of(kind: Kind, s: &[u8]) -> [u8; 16]
     text
 }
 
-// The word that stands at the start of s; Short where s has fewer bytes than a word of the width.
-pub fn read_word(s: &[u8], wide: bool) -> OneWord
-    ensures { λ r. ⌜ r ≡ wordOf wide (now (s .entry)) ⌝ }
+// The word of the family that stands at the start of s; Short where s has fewer bytes than a word of the width.
+pub fn read_word(s: &[u8], family: Family, wide: bool) -> OneWord
+    ensures { λ r. ⌜ r ≡ wordOf family wide (now (s .entry)) ⌝ }
 {
     let end = 7 + width_of(wide);
     if s.len() <= end {
         return wrong(Fault::Short);
     }
-    let Indexed::Listed(index, kind) = index_at(s[0], s[1]) else {
+    let Indexed::Listed(index, kind) = index_at(family, s[0], s[1], s[2]) else {
         return wrong(Fault::Index);
     };
-    let Informed::Right = informed_by(kind, s[2], s[3], s[4], s[5]) else {
+    let lead = lead_of(family, index, s[2]);
+    let Informed::Right = informed_by(family, index, kind, lead, s[3], s[4], s[5]) else {
         return wrong(Fault::Information);
     };
     let Signed::Sign(minus) = sign_at(kind, s[6]) else {
@@ -185,7 +188,7 @@ pub fn read_word(s: &[u8], wide: bool) -> OneWord
         return wrong(Fault::Value);
     };
     let text = text_of(kind, &s[7..end]);
-    let word = record_of(index, [s[2], s[3], s[4], s[5]], count, text);
+    let word = record_of(index, [lead, s[3], s[4], s[5]], count, text);
     let answer = Judged::Right;
     OneWord {
         answer: answer,

@@ -10,11 +10,12 @@ use units::counts::length_of;
 use units::counts::second_of;
 use units::information::Informed;
 use units::information::informed_by;
+use units::kinds::Family;
 use units::kinds::Kind;
 use units::kinds::kind_of;
 use units::kinds::textual;
 
-// index, information, the value's sign and size, mm's sign and size, text. A sign is 0 or 1; what a word doesn't use is 0.
+// index, information (its first byte 0 where position 3 belongs to the index), the value's sign and size, mm's sign and size, text. A sign is 0 or 1; what a word doesn't use is 0.
 #[repr(C)]
 pub struct Word {
     pub index: u16,
@@ -61,8 +62,8 @@ pub(crate) fn record_of(index: u16, info: [u8; 4], count: Count, text: [u8; 16])
 }
 
 // The count that a record says, by its kind and unit.
-pub(crate) fn count_of(w: Word) -> Count
-    ensures { λ r. ⌜ r ≡ countOf w ⌝ }
+pub(crate) fn count_of(w: Word, family: Family) -> Count
+    ensures { λ r. ⌜ r ≡ countOf family w ⌝ }
 {
     let info = w.info;
     let unit = info[3];
@@ -70,7 +71,7 @@ pub(crate) fn count_of(w: Word) -> Count
         minus: w.minus,
         size: w.size,
     };
-    let kind = kind_of(w.index);
+    let kind = kind_of(family, w.index);
     match kind {
         Kind::Missing => Count::Nothing,
         Kind::Numbered => Count::Text,
@@ -131,6 +132,7 @@ fn count_right(count: Count, wide: bool) -> bool
         Count::Mil(c) => whole_right(c.0, 64_000_000),
         Count::Metre(c) => whole_right(c.0, ten_to(wide, false)),
         Count::Feet(c) => whole_right(c.0, ten_to(wide, false)),
+        Count::Inch(c) => whole_right(c.0, ten_to(wide, false)),
         Count::Ppm(c) => whole_right(c.0, ten_to(wide, false)),
         Count::Pair(ppm, mm) => {
             if !whole_right(ppm, ten_to(wide, true)) {
@@ -166,17 +168,18 @@ fn same_whole(w: Whole, minus: u8, size: u64) -> bool
     false
 }
 
-// Whether some word of the width gives the record.
-pub fn right(w: Word, wide: bool) -> bool
-    ensures { λ r. ⌜ r ≡ isRight wide w ⌝ }
+// Whether some word of the family and width gives the record.
+pub fn right(w: Word, family: Family, wide: bool) -> bool
+    ensures { λ r. ⌜ r ≡ isRight family wide w ⌝ }
 {
-    let kind = kind_of(w.index);
+    let kind = kind_of(family, w.index);
     let info = w.info;
     let text = w.text;
-    let Informed::Right = informed_by(kind, info[0], info[1], info[2], info[3]) else {
+    let Informed::Right = informed_by(family, w.index, kind, info[0], info[1], info[2], info[3])
+    else {
         return false;
     };
-    let count = count_of(w);
+    let count = count_of(w, family);
     if !count_right(count, wide) {
         return false;
     }
@@ -189,15 +192,15 @@ pub fn right(w: Word, wide: bool) -> bool
     text_right(kind, text, wide)
 }
 
-// The typed count of a record; Nothing where no word of either width gives the record.
-pub fn count(w: Word) -> Count
-    ensures { λ r. ⌜ r ≡ typedOf w ⌝ }
+// The typed count of a record; Nothing where no word of the family gives the record, of either width.
+pub fn count(w: Word, family: Family) -> Count
+    ensures { λ r. ⌜ r ≡ typedOf family w ⌝ }
 {
-    if right(w, false) {
-        return count_of(w);
+    if right(w, family, false) {
+        return count_of(w, family);
     }
-    if right(w, true) {
-        return count_of(w);
+    if right(w, family, true) {
+        return count_of(w, family);
     }
     Count::Nothing
 }

@@ -1,8 +1,11 @@
 // The bytes of a record, by value.
 ghost use mathlib.Core.Path.{_≡_};
 ghost use Prim.Native.Nat.{_<_, _≤_, _^_};
-ghost use lib.ListN.{length};
+ghost use mathlib.Core.List.{_++_};
+ghost use lib.ListN.{length, drop};
+ghost use Rattle.figures.specs.Decimal.{digitsOf};
 ghost use Rattle.units.specs.Counts.{firstOf, figuresOf};
+ghost use Rattle.units.specs.Information.{headOf};
 ghost use Rattle.words.specs.Writing.{dataOf};
 ghost use Rattle.words.specs.Keeping.{spellingOf, bytesIn};
 use crate::reading::width_of;
@@ -14,14 +17,15 @@ use units::counts::Count;
 use units::counts::Figures;
 use units::counts::first_of;
 use units::information::sign_byte;
+use units::kinds::Family;
 
-// Whether a word of the width gives the record.
+// Whether a word of the family and width gives the record.
 pub enum Spelt {
     Not,
     Right,
 }
 
-// The answer, and the word's 16 or 24 bytes from the start of 24; the rest is 0, and all where no word of the width gives the record.
+// The answer, and the word's 16 or 24 bytes from the start of 24; the rest is 0, and all where no such word gives the record.
 pub struct Spelling {
     pub answer: Spelt,
     pub bytes: [u8; 24],
@@ -70,30 +74,65 @@ fn figures_of(count: Count) -> Figures
     }
 }
 
-// The bytes of a record that some word of the width gives.
-fn bytes_of(w: Word, wide: bool) -> [u8; 24]
+// Two digits and the information.
+fn two_digits(index: u16, info: [u8; 4]) -> [u8; 6]
+    ensures { λ r. ⌜ r ≡ digitsOf 2 index ++ info ⌝ }
+{
+    let mut head = [0; 6];
+    figures::put_number(wide_index(index), &mut head[0..2]);
+    figures::lay(&info, &mut head[2..6]);
+    head
+}
+
+// Three digits, and the information but for its first byte.
+fn three_digits(index: u16, info: [u8; 4]) -> [u8; 6]
+    ensures { λ r. ⌜ r ≡ digitsOf 3 index ++ drop 1 info ⌝ }
+{
+    let mut head = [0; 6];
+    figures::put_number(wide_index(index), &mut head[0..3]);
+    figures::lay(&info[1..4], &mut head[3..6]);
+    head
+}
+
+// Positions 1-6.
+fn head_of(family: Family, index: u16, info: [u8; 4]) -> [u8; 6]
+    ensures { λ r. ⌜ r ≡ headOf family index info ⌝ }
+{
+    match family {
+        Family::Station => two_digits(index, info),
+        Family::Level => {
+            if index < 100 {
+                return two_digits(index, info);
+            }
+            three_digits(index, info)
+        }
+    }
+}
+
+// The bytes of a record that some word of the family and width gives.
+fn bytes_of(w: Word, family: Family, wide: bool) -> [u8; 24]
     requires { ⌜ w .size < 10 ^ 16 ⌝ }
-    ensures { λ r. ⌜ r ≡ bytesIn wide w ⌝ }
+    ensures { λ r. ⌜ r ≡ bytesIn family wide w ⌝ }
 {
     let info = w.info;
     let text = w.text;
-    let count = count_of(w);
+    let count = count_of(w, family);
     let says = figures_of(count);
     let end = 7 + width_of(wide);
     let mut bytes = [0; 24];
-    figures::put_number(wide_index(w.index), &mut bytes[0..2]);
-    figures::lay(&info, &mut bytes[2..6]);
+    let head = head_of(family, w.index, info);
+    figures::lay(&head, &mut bytes[0..6]);
     bytes[6] = sign_byte(w.minus);
     put_figures(says, text, &mut bytes[7..end]);
     bytes[end] = b' ';
     bytes
 }
 
-// The word of that width that gives the record.
-pub fn spell(w: Word, wide: bool) -> Spelling
-    ensures { λ r. ⌜ r ≡ spellingOf wide w ⌝ }
+// The word of that family and width that gives the record.
+pub fn spell(w: Word, family: Family, wide: bool) -> Spelling
+    ensures { λ r. ⌜ r ≡ spellingOf family wide w ⌝ }
 {
-    if !right(w, wide) {
+    if !right(w, family, wide) {
         let answer = Spelt::Not;
         let none = [0; 24];
         return Spelling {
@@ -102,7 +141,7 @@ pub fn spell(w: Word, wide: bool) -> Spelling
         };
     }
     let answer = Spelt::Right;
-    let bytes = bytes_of(w, wide);
+    let bytes = bytes_of(w, family, wide);
     Spelling {
         answer: answer,
         bytes: bytes,

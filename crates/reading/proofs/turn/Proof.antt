@@ -9,15 +9,17 @@ use Rattle.reading.proofs.turn.Tie as tie
 close-requires : tie.Need-close-requires
 close-requires c κs =
     let at = c .before .before .before .before .before .before .before .before .before .before .before .before in
-    reached-kept (at .args .room .now) (at .args .progress) (at .args .text .now) (at .pre)
+    reached-kept (at .args .family) (at .args .room .now) (at .args .progress) (at .args .text .now) (at .pre)
 
 print-requires : tie.Need-print-requires
 print-requires c κs =
     let close = c .before .before .before in
     let at = close .before .before .before .before .before .before .before .before .before .before .before .before .before in
     let a = at .args in
-    let is = close .close .ensures in
-    (closes-fits (a .room .now) (a .progress) (a .text .now) _ _ is, end-due (a .room .now) (a .progress) (a .text .now) (at .pre) _ _ is)
+    let is = close .close .ensures in (
+      closes-fits (a .family) (a .room .now) (a .progress) (a .text .now) _ _ is,
+      end-due (a .family) (a .room .now) (a .progress) (a .text .now) (at .pre) _ _ is,
+    )
 
 pub turn-spec : {M : Type 1} → statement M
 turn-spec =

@@ -21,7 +21,7 @@ returns c =
     let start = c .before .before .before in
     let a = start .args in
     let count = listed (a .b) _ (start .good .0) (start .pre) in
-    c .refuse-list .ensures ∙ sym (composed-none (a .wide) (a .crlf) (take (a .b .n) (a .b .words)) (count ∙ c .before .if1 .taken))
+    c .refuse-list .ensures ∙ sym (composed-none (a .family) (a .wide) (a .crlf) (take (a .b .n) (a .b .words)) (count ∙ c .before .if1 .taken))
 
 some-words : (c : tie.Else1) → let b = c .before .before .args .b in length (take (b .n) (b .words)) ≡ 0 → ⊥
 some-words c e =
@@ -42,20 +42,20 @@ returns-2 c =
     let a = c .before .before .before .before .before .args in
     let ws = take (a .b .n) (a .b .words) in
     let put = c .before .before .put-words in
-    let done = starBytes (a .wide) ++ wordsBytes (a .wide) ws in
-    let all = blockBytes (a .wide) (a .crlf) ws in
+    let done = starBytes (a .wide) ++ wordsBytes (a .family) (a .wide) ws in
+    let all = blockBytes (a .family) (a .wide) (a .crlf) ws in
     let told = c .enum-told .given in
-    put-same (replicate 771 0) (a .wide) ws done (put .result) (put .ensures) (told .0 .0) (told .1) all
-    ∙ sym (composed-some (a .wide) (a .crlf) ws (some-words (c .before .before .before)))
+    put-same (a .family) (replicate 771 0) (a .wide) ws done (put .result) (put .ensures) (told .0 .0) (told .1) all
+    ∙ sym (composed-some (a .family) (a .wide) (a .crlf) ws (some-words (c .before .before .before)))
 
 -- the words are right, and end before the terminator's place
 abbrev Put : tie.After-answer → Type 0
 Put c =
     let a = c .before .before .before .before .before .args in
     let ws = take (a .b .n) (a .b .words) in
-    let done = starBytes (a .wide) ++ wordsBytes (a .wide) ws in
+    let done = starBytes (a .wide) ++ wordsBytes (a .family) (a .wide) ws in
     let at = c .answer .given .0 .0 in
-    (firstWrong (a .wide) 0 ws ≡ none)
+    (firstWrong (a .family) (a .wide) 0 ws ≡ none)
     × (at ≡ length done)
     × (c .before .before .put-words .result .bytes ≡ laid done (replicate 771 0))
     × (at + 2 ≤ length (replicate {A = ℕ} 771 0))
@@ -67,10 +67,10 @@ words-put c =
     let ws = take (a .b .n) (a .b .words) in
     let put = c .before .before .put-words in
     let count = listed (a .b) _ (start .good .0) (start .pre) in
-    let done = starBytes (a .wide) ++ wordsBytes (a .wide) ws in
+    let done = starBytes (a .wide) ++ wordsBytes (a .family) (a .wide) ws in
     let answer = c .answer .given in
-    let told = put-written (replicate 771 0) (a .wide) ws done (put .result) (put .ensures) (answer .0 .0) (answer .1) in
-    let fits = words-end (a .wide) ws (omega (arith, start .pre)) (told .0) in
+    let told = put-written (a .family) (replicate 771 0) (a .wide) ws done (put .result) (put .ensures) (answer .0 .0) (answer .1) in
+    let fits = words-end (a .family) (a .wide) ws (omega (arith, start .pre)) (told .0) in
     (told .0, told .1, told .2, omega (arith, told .1, room-size))
 
 array-write-bytes : tie.Need-array-write-bytes
@@ -82,8 +82,8 @@ add-past c = omega (arith, words-put (c .before .before) .3, room-size)
 array-write-bytes-2 : tie.Need-array-write-bytes-2
 array-write-bytes-2 c = omega (arith, words-put (c .before .before .before) .3, room-size)
 
-add-t17 : tie.Need-add-t17
-add-t17 c = omega (arith, words-put (c .before .before .before) .3, room-size)
+add-t18 : tie.Need-add-t18
+add-t18 c = omega (arith, words-put (c .before .before .before) .3, room-size)
 
 returns-3 : tie.Need-returns-3
 returns-3 c =
@@ -93,8 +93,8 @@ returns-3 c =
     let put = words-put here in
     let bytes = here .before .before .put-words .result .bytes in
     let at = here .answer .given .0 .0 in
-    ends-crlf (starBytes (a .wide)) (wordsBytes (a .wide) ws) (replicate 771 0) bytes at (a .crlf) (put .1) (put .3) (put .2) (c .if2 .taken)
-    ∙ sym (composed-right (a .wide) (a .crlf) ws (some-words (here .before .before .before)) (put .0))
+    ends-crlf (starBytes (a .wide)) (wordsBytes (a .family) (a .wide) ws) (replicate 771 0) bytes at (a .crlf) (put .1) (put .3) (put .2) (c .if2 .taken)
+    ∙ sym (composed-right (a .family) (a .wide) (a .crlf) ws (some-words (here .before .before .before)) (put .0))
 
 returns-4 : tie.Need-returns-4
 returns-4 c =
@@ -104,8 +104,8 @@ returns-4 c =
     let put = words-put here in
     let bytes = here .before .before .put-words .result .bytes in
     let at = here .answer .given .0 .0 in
-    ends-cr (starBytes (a .wide)) (wordsBytes (a .wide) ws) (replicate 771 0) bytes at (a .crlf) (put .1) (put .3) (put .2) (c .if2 .left)
-    ∙ sym (composed-right (a .wide) (a .crlf) ws (some-words (here .before .before .before)) (put .0))
+    ends-cr (starBytes (a .wide)) (wordsBytes (a .family) (a .wide) ws) (replicate 771 0) bytes at (a .crlf) (put .1) (put .3) (put .2) (c .if2 .left)
+    ∙ sym (composed-right (a .family) (a .wide) (a .crlf) ws (some-words (here .before .before .before)) (put .0))
 
 pub compose-spec : {M : Type 1} → statement M
 compose-spec =
@@ -120,6 +120,6 @@ compose-spec =
     array-write-bytes
     add-past
     array-write-bytes-2
-    add-t17
+    add-t18
     returns-3
     returns-4)

@@ -19,7 +19,7 @@ returns : tie.Need-returns
 returns c =
     let a = c .before .before .before .args in
     let out = a .out .now in
-    writes-as (listOf (a .b)) (replicate 33 blank) (a .wide) (a .crlf) out out (Refused Count) (listed-many (a .b) (c .if1 .taken)) refl
+    writes-as (a .family) (listOf (a .b)) (replicate 33 blank) (a .wide) (a .crlf) out out (Refused Count) (listed-many (a .b) (c .if1 .taken)) refl
 
 compose-requires : tie.Need-compose-requires
 compose-requires c κs = search needs
@@ -44,9 +44,9 @@ returns-2 c =
     let ws = take (a .b .n) (a .b .words) in
     let composed = c .before .before .compose in
     let told = c .enum-told .given in
-    let refused = composed-refused (a .wide) (a .crlf) ws (few here) out (composed .result) (composed .ensures) (told .0 .0) (told .1) in
+    let refused = composed-refused (a .family) (a .wide) (a .crlf) ws (few here) out (composed .result) (composed .ensures) (told .0 .0) (told .1) in
     let list = listed-few (a .b) (here .if1 .left) in
-    writes-as (listOf (a .b)) ws (a .wide) (a .crlf) out out (composed .result .answer) list (rw (told .1) refused)
+    writes-as (a .family) (listOf (a .b)) ws (a .wide) (a .crlf) out out (composed .result .answer) list (rw (told .1) refused)
 
 -- the bytes composed, and that writing is then by whether they fit
 abbrev Ready : tie.After-answer → Type 0
@@ -54,11 +54,11 @@ Ready c =
     let a = c .before .before .before .before .before .before .args in
     let ws = take (a .b .n) (a .b .words) in
     let n = c .answer .given .0 .0 in
-    let bytes = blockBytes (a .wide) (a .crlf) ws in
+    let bytes = blockBytes (a .family) (a .wide) (a .crlf) ws in
     (n ≡ length bytes)
     × (c .before .before .compose .result .bytes ≡ laid bytes (replicate 771 0))
     × (n ≤ 771)
-    × (written ws (a .wide) (a .crlf) (a .out .now) ≡ blockInRoom bytes (a .out .now))
+    × (written (a .family) ws (a .wide) (a .crlf) (a .out .now) ≡ blockInRoom bytes (a .out .now))
 
 ready : (c : tie.After-answer) → Ready c
 ready c =
@@ -66,7 +66,8 @@ ready c =
     let composed = c .before .before .compose in
     let ws = take (a .b .n) (a .b .words) in
     let told = c .answer .given in
-    composed-written (a .wide) (a .crlf) ws (few (c .before .before .before)) (a .out .now) (composed .result) (composed .ensures) (told .0 .0) (told .1)
+    composed-written (a .family) (a .wide) (a .crlf) ws (few (c .before .before .before)) (a .out .now) (composed .result) (composed .ensures)
+    (told .0 .0) (told .1)
 
 returns-3 : tie.Need-returns-3
 returns-3 c =
@@ -77,8 +78,8 @@ returns-3 c =
     let n = here .answer .given .0 .0 in
     let there = ready here in
     let list = listed-few (a .b) (here .before .before .before .if1 .left) in
-    let none = fitted-not (blockBytes (a .wide) (a .crlf) ws) out n (there .0) (c .if2 .taken) in
-    writes-as (listOf (a .b)) ws (a .wide) (a .crlf) out out (Refused (Room n)) list (there .3 ∙ none)
+    let none = fitted-not (blockBytes (a .family) (a .wide) (a .crlf) ws) out n (there .0) (c .if2 .taken) in
+    writes-as (a .family) (listOf (a .b)) ws (a .wide) (a .crlf) out out (Refused (Room n)) list (there .3 ∙ none)
 
 sub-lay : tie.Need-sub-lay
 sub-lay c = search needs
@@ -90,7 +91,7 @@ part-lay-end : tie.Need-part-lay-end
 part-lay-end c =
     let a = c .before .before .before .before .before .before .before .before .before .before .args in
     let there = ready (c .before .before .before .before) in
-    omega (arith, there .2, ap length (there .1), room-length (blockBytes (a .wide) (a .crlf) (take (a .b .n) (a .b .words))))
+    omega (arith, there .2, ap length (there .1), room-length (blockBytes (a .family) (a .wide) (a .crlf) (take (a .b .n) (a .b .words))))
 
 lay-requires : tie.Need-lay-requires
 lay-requires c κs = search needs
@@ -111,9 +112,9 @@ returns-4 c =
     let kept = here .before .before .compose .result .bytes in
     let fits = c .before .before .before .before .before .before .before .if2 .left in
     let all =
-    fitted-laid (blockBytes (a .wide) (a .crlf) ws) out n (there .0) (replicate 771 0) kept (lay .last .1 .0) (n - 0) (omega arith)
+    fitted-laid (blockBytes (a .family) (a .wide) (a .crlf) ws) out n (there .0) (replicate 771 0) kept (lay .last .1 .0) (n - 0) (omega arith)
     (omega (arith, there .2, room-size)) fits (there .1) (lay .ensures) in
-    writes-as (listOf (a .b)) ws (a .wide) (a .crlf) out (lay .last .1 .0) (Written n) list (there .3 ∙ all)
+    writes-as (a .family) (listOf (a .b)) ws (a .wide) (a .crlf) out (lay .last .1 .0) (Written n) list (there .3 ∙ all)
 
 pub emit-spec : {M : Type 1} → statement M
 emit-spec =

@@ -26,15 +26,15 @@ use Rattle.blocks.proofs.composing.put_words.Statement.{statement}
 use Rattle.blocks.proofs.composing.put_words.Tie as tie
 
 abbrev Inv-loop : tie.InvT-loop
-Inv-loop wide words n size bytes₀ at₀ i₀ bytes at i =
+Inv-loop family wide words n size bytes₀ at₀ i₀ bytes at i =
     (i ≤ n)
     × (at ≤ 1 + 24 * i)
-    × (at ≡ length (putBytes wide (take n words) i))
-    × (bytes ≡ putBytes wide (take n words) i ++ drop (length (putBytes wide (take n words) i)) bytes₀)
-    × (firstWrong wide 0 (take n words) ≡ firstWrong wide i (drop i (take n words)))
+    × (at ≡ length (putBytes family wide (take n words) i))
+    × (bytes ≡ putBytes family wide (take n words) i ++ drop (length (putBytes family wide (take n words) i)) bytes₀)
+    × (firstWrong family wide 0 (take n words) ≡ firstWrong family wide i (drop i (take n words)))
 
 abbrev μ-loop : tie.MeasureT-loop
-μ-loop wide words n size bytes₀ at₀ i₀ bytes at i = n - i
+μ-loop family wide words n size bytes₀ at₀ i₀ bytes at i = n - i
 
 width-of-requires : tie.Need-width-of-requires Inv-loop μ-loop
 width-of-requires c κs = search needs
@@ -57,7 +57,7 @@ loop-holds c =
     let start = c .start-of in
     let bytes = c .before .«open» in
     let star = starBytes (a .wide) in
-    let none = put-none (a .wide) (take (a .b .n) (a .b .words)) in
+    let none = put-none (a .family) (a .wide) (take (a .b .n) (a .b .words)) in
     let same = star-length (a .wide) in
     let opened = opened-on star (replicate 771 0) (bytes .result) (star-fits (a .wide)) (bytes .ensures) in
     (omega arith, omega (arith, star-small (a .wide), start .ensures, same), rw none (start .ensures ∙ sym same), rw none opened, refl)
@@ -68,7 +68,7 @@ held c =
     let a = opened .before .before .before .args in
     let l = c .before .loop in
     let whole = opened-length opened in
-    length-on (putBytes (a .wide) (take (a .b .n) (a .b .words)) (l .i)) (opened .«open» .result) (l .bytes) (omega arith) (l .inv .3) ∙ whole
+    length-on (putBytes (a .family) (a .wide) (take (a .b .n) (a .b .words)) (l .i)) (opened .«open» .result) (l .bytes) (omega arith) (l .inv .3) ∙ whole
 
 -- what an index past the end would read
 abbrev empty : Word
@@ -90,7 +90,7 @@ place c = c .before .before .before .loop .i
 abbrev spelt-word : tie.After-spell Inv-loop μ-loop → Word
 spelt-word c = getD (list c) (place c) empty
 
-spelling : (c : tie.After-spell Inv-loop μ-loop) → c .spell .result ≡ spellingOf (begun c .args .wide) (spelt-word c)
+spelling : (c : tie.After-spell Inv-loop μ-loop) → c .spell .result ≡ spellingOf (begun c .args .family) (begun c .args .wide) (spelt-word c)
 spelling c =
     let b = begun c .args .b in
     rw (getD-take (b .n) (b .words) (place c) empty (c .before .before .loop-test .taken)) (c .spell .ensures)
@@ -103,10 +103,11 @@ in-list c =
 
 right : (c : tie.After-enum-told Inv-loop μ-loop) →
     let spelled = c .before .before in
-    isRight (begun spelled .args .wide) (spelt-word spelled) ≡ true
+    isRight (begun spelled .args .family) (begun spelled .args .wide) (spelt-word spelled) ≡ true
 right c =
     let spelled = c .before .before in
-    spelt-right (begun spelled .args .wide) (spelt-word spelled) (spelled .spell .result) (spelling spelled) (c .enum-told .given .1)
+    spelt-right (begun spelled .args .family) (begun spelled .args .wide) (spelt-word spelled) (spelled .spell .result) (spelling spelled)
+    (c .enum-told .given .1)
 
 mul-word : tie.Need-mul-word Inv-loop μ-loop
 mul-word c = omega arith
@@ -132,10 +133,10 @@ returns c =
     let a = begun spelled .args in
     let l = spelled .before .before .before .loop in
     let ws = list spelled in
-    let done = wroteList (starBytes (a .wide) ++ wordsBytes (a .wide) ws) in
-    let wrong = spelt-not (a .wide) (spelt-word spelled) (spelled .spell .result) (spelling spelled) (c .before .enum-told2 .given .1) in
-    let first = l .inv .4 ∙ first-wrong (a .wide) (l .i) ws empty (in-list spelled) wrong in
-    c .refuse-list .ensures ∙ sym (unless-wrong (a .wide) ws (λ i. refusedList (Record i)) done (l .i) first)
+    let done = wroteList (starBytes (a .wide) ++ wordsBytes (a .family) (a .wide) ws) in
+    let wrong = spelt-not (a .family) (a .wide) (spelt-word spelled) (spelled .spell .result) (spelling spelled) (c .before .enum-told2 .given .1) in
+    let first = l .inv .4 ∙ first-wrong (a .family) (a .wide) (l .i) ws empty (in-list spelled) wrong in
+    c .refuse-list .ensures ∙ sym (unless-wrong (a .family) (a .wide) ws (λ i. refusedList (Record i)) done (l .i) first)
 
 sub-lay : tie.Need-sub-lay Inv-loop μ-loop
 sub-lay c = omega arith
@@ -147,7 +148,7 @@ part-lay-end : tie.Need-part-lay-end Inv-loop μ-loop
 part-lay-end c =
     let spelled = c .before .before .before .before in
     let wide = begun spelled .args .wide in
-    let long = spelt-long wide (spelt-word spelled) (spelled .spell .result) (spelling spelled) (right (c .before .before)) in
+    let long = spelt-long (begun spelled .args .family) wide (spelt-word spelled) (spelled .spell .result) (spelling spelled) (right (c .before .before)) in
     omega (arith, long, spelled .before .before .before .before .before .before .width-of .ensures)
 
 sub-lay-2 : tie.Need-sub-lay-2 Inv-loop μ-loop
@@ -186,20 +187,20 @@ loop-again c =
     let listed-there = in-list spelled in
     let is-right = right (c .before .before .before .before .before .before) in
     let size : width .result + 8 - 0 ≡ wordSize (a .wide) = omega (arith, width .ensures) in
-    let word = spelt-bytes (a .wide) w (spelled .spell .result) (spelling spelled) (width .result + 8 - 0) size is-right in
-    let laid-there : lay .last .1 .0 ≡ laid (bytesOf (a .wide) w) (midOf (l .at) (771 - l .at) (l .bytes)) =
+    let word = spelt-bytes (a .family) (a .wide) w (spelled .spell .result) (spelling spelled) (width .result + 8 - 0) size is-right in
+    let laid-there : lay .last .1 .0 ≡ laid (bytesOf (a .family) (a .wide) w) (midOf (l .at) (771 - l .at) (l .bytes)) =
     lay .ensures ∙ ap (λ (x : List ℕ). laid x (midOf (l .at) (771 - l .at) (l .bytes))) word in
-    let longer = put-length (a .wide) ws (l .i) empty listed-there is-right in
+    let longer = put-length (a .family) (a .wide) ws (l .i) empty listed-there is-right in
     let whole = opened-length opened in
     let held-there = sym (held (spelled .before .before)) in
     let more =
-    put-more (a .wide) ws (l .i) empty listed-there is-right (opened .«open» .result) (l .bytes) (lay .last .1 .0) (l .at) 771 (l .inv .2)
+    put-more (a .family) (a .wide) ws (l .i) empty listed-there is-right (opened .«open» .result) (l .bytes) (lay .last .1 .0) (l .at) 771 (l .inv .2)
     (omega arith) held-there (l .inv .3) laid-there in (
       omega arith,
       omega (arith, width-small (a .wide), width .ensures),
       omega (arith, longer, width .ensures),
       more,
-      l .inv .4 ∙ first-more (a .wide) (l .i) ws empty listed-there is-right,
+      l .inv .4 ∙ first-more (a .family) (a .wide) (l .i) ws empty listed-there is-right,
     )
 
 returns-2 : tie.Need-returns-2 Inv-loop μ-loop
@@ -210,17 +211,17 @@ returns-2 c =
     let opened = c .before .before .before .«open» in
     let ws = take (a .b .n) (a .b .words) in
     let star = starBytes (a .wide) in
-    let words = wordsBytes (a .wide) ws in
+    let words = wordsBytes (a .family) (a .wide) ws in
     let count = listed (a .b) _ (start .good .0) (start .pre) in
     let past : length ws ≤ l .i = omega (arith, c .loop-test .left) in
-    let none = l .inv .4 ∙ first-none (a .wide) (l .i) ws past in
+    let none = l .inv .4 ∙ first-none (a .family) (a .wide) (l .i) ws past in
     let all : take (l .i) ws ≡ ws = take-all (l .i) ws past in
     let at : l .at ≡ length (star ++ words) = rw all at (l .inv .2) in
     let bytes : l .bytes ≡ (star ++ words) ++ drop (length (star ++ words)) (opened .result) = rw all at (l .inv .3) in
     let fits : length (star ++ words) ≤ length (replicate {A = ℕ} 771 0) = omega (arith, room-size) in
     let whole = opened-whole star (replicate 771 0) (opened .result) (star-fits (a .wide)) (opened .ensures) words (l .bytes) fits bytes in
     wrote-as (l .at) (l .bytes) (star ++ words) (replicate 771 0) at whole
-    ∙ sym (unless-right (a .wide) ws (λ i. refusedList (Record i)) (wroteList (star ++ words)) none)
+    ∙ sym (unless-right (a .family) (a .wide) ws (λ i. refusedList (Record i)) (wroteList (star ++ words)) none)
 
 pub put-words-spec : {M : Type 1} → statement M
 put-words-spec =

@@ -14,7 +14,7 @@ refuse-requires c κs = search needs
 returns : tie.Need-returns
 returns c =
     let a = c .before .before .before .args in
-    c .refuse .ensures ∙ sym (ap keptOf (judged-empty (a .s .now) (a .places) (c .before .if1 .taken)))
+    c .refuse .ensures ∙ sym (ap keptOf (judged-empty (a .family) (a .s .now) (a .places) (c .before .if1 .taken)))
 
 shared-slice-read-wide : tie.Need-shared-slice-read-wide
 shared-slice-read-wide c = search needs
@@ -35,7 +35,7 @@ returns-2 c =
     let a = here .before .before .before .before .before .args in
     let byte = sym (here .is-at .ensures) ∙ c .before .if2 .taken in
     let some = here .before .before .before .if1 .left in
-    c .refuse2 .ensures ∙ sym (ap keptOf (judged-no-word (a .s .now) (a .places) (start .result) some (start .ensures) byte))
+    c .refuse2 .ensures ∙ sym (ap keptOf (judged-no-word (a .family) (a .s .now) (a .places) (start .result) some (start .ensures) byte))
 
 words-from-requires : tie.Need-words-from-requires
 words-from-requires c κs =
@@ -49,7 +49,7 @@ returns-3 c =
     let a = here .before .before .before .before .before .args in
     let byte = sym (here .is-at .ensures) ∙ c .before .if2 .left in
     let some = here .before .before .before .if1 .left in
-    c .words-from .ensures ∙ sym (ap keptOf (judged-words (a .s .now) (a .places) (start .result) some (start .ensures) byte))
+    c .words-from .ensures ∙ sym (ap keptOf (judged-words (a .family) (a .s .now) (a .places) (start .result) some (start .ensures) byte))
 
 pub judge-spec : {M : Type 1} → statement M
 judge-spec =

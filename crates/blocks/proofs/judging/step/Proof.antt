@@ -25,13 +25,13 @@ blank-word-requires c κs = search needs
 abbrev next : tie.After-is-at → Stepped
 next c =
     let a = c .before .before .args in
-    nextOf (a .wide) (a .places) (a .count) (a .at) (drop (a .at) (a .s .now))
+    nextOf (a .family) (a .wide) (a .places) (a .count) (a .at) (drop (a .at) (a .s .now))
 
 returns : tie.Need-returns
 returns c =
     let a = c .before .before .before .before .args in
     let ended = sym (c .before .before .is-at .ensures) ∙ c .before .if1 .taken in
-    rw (c .blank-word .ensures) (sym (next-ends (a .wide) (a .places) (a .count) (a .at) (drop (a .at) (a .s .now)) ended))
+    rw (c .blank-word .ensures) (sym (next-ends (a .family) (a .wide) (a .places) (a .count) (a .at) (drop (a .at) (a .s .now)) ended))
 
 no-end : (c : tie.Else1) → isAt 13 (drop (c .before .before .before .args .at) (c .before .before .before .args .s .now)) ≡ false
 no-end c = sym (c .before .is-at .ensures) ∙ c .if1 .left
@@ -43,7 +43,7 @@ returns-2 : tie.Need-returns-2
 returns-2 c =
     let a = c .before .before .before .before .before .args in
     let rest = drop (a .at) (a .s .now) in
-    c .stops .ensures ∙ sym (next-full (a .wide) (a .places) (a .count) (a .at) rest (no-end (c .before .before)) (c .before .if2 .taken))
+    c .stops .ensures ∙ sym (next-full (a .family) (a .wide) (a .places) (a .count) (a .at) rest (no-end (c .before .before)) (c .before .if2 .taken))
 
 sub-rest : tie.Need-sub-rest
 sub-rest c = search needs
@@ -69,7 +69,7 @@ returns-3 c =
     let left = length-drop (a .at) (a .s .now) in
     let rest = drop (a .at) (a .s .now) in
     let more = no-end (c .before .before .before .before .before) in
-    c .stops2 .ensures ∙ sym (next-short (a .wide) (a .places) (a .count) (a .at) rest more (omega arith) (omega arith))
+    c .stops2 .ensures ∙ sym (next-short (a .family) (a .wide) (a .places) (a .count) (a .at) rest more (omega arith) (omega arith))
 
 stops-requires-3 : tie.Need-stops-requires-3
 stops-requires-3 c κs = search needs
@@ -80,7 +80,7 @@ returns-4 c =
     let left = length-drop (a .at) (a .s .now) in
     let rest = drop (a .at) (a .s .now) in
     let more = no-end (c .before .before .before .before .before .before) in
-    c .stops3 .ensures ∙ sym (next-no-place (a .wide) (a .places) (a .count) (a .at) rest more (omega arith) (omega arith) (omega arith))
+    c .stops3 .ensures ∙ sym (next-no-place (a .family) (a .wide) (a .places) (a .count) (a .at) rest more (omega arith) (omega arith) (omega arith))
 
 read-word-requires : tie.Need-read-word-requires
 read-word-requires c κs = search needs
@@ -105,9 +105,9 @@ found c =
     let rest = drop (a .at) s in
     let left = length-drop (a .at) s in
     let all : take (length s - a .at) rest ≡ rest = take-all (length s - a .at) rest (omega arith) in
-    let read : c .read-word .result ≡ wordOf (a .wide) rest = c .read-word .ensures ∙ ap (wordOf (a .wide)) all in
+    let read : c .read-word .result ≡ wordOf (a .family) (a .wide) rest = c .read-word .ensures ∙ ap (wordOf (a .family) (a .wide)) all in
     let more = no-end (c .before .before .before .before .before .before) in
-    next-word (a .wide) (a .places) (a .count) (a .at) rest more (omega arith) (omega arith) (omega arith)
+    next-word (a .family) (a .wide) (a .places) (a .count) (a .at) rest more (omega arith) (omega arith) (omega arith)
     ∙ ap (λ (o : OneWord). stepOf (a .at) o (o .answer)) (sym read)
 
 returns-5 : tie.Need-returns-5

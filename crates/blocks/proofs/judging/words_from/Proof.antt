@@ -8,6 +8,7 @@ use lib.ListN.{length, take, drop, length-set}
 use lib.Seq.{length-take-le}
 use Rattle.words.specs.Reading.{wordSize}
 use Rattle.blocks.specs.declared.judging.Block.{Block}
+use Rattle.blocks.specs.declared.judging.JudgedBlock.{JudgedBlock}
 use Rattle.blocks.specs.Judging.{blockFrom}
 use Rattle.blocks.specs.Keeping.{keptOf}
 use Rattle.blocks.proofs.Steps.{width-small, walk-ends, walk-stops, walk-goes, walk-on, ends-inside, goes-inside, kept-more, kept-judged}
@@ -15,15 +16,15 @@ use Rattle.blocks.proofs.judging.words_from.Statement.{statement}
 use Rattle.blocks.proofs.judging.words_from.Tie as tie
 
 abbrev Inv-loop : tie.InvT-loop
-Inv-loop s wide start places size words₀ n₀ at₀ words n at =
+Inv-loop s family wide start places size words₀ n₀ at₀ words n at =
     (n ≤ 32)
     × (at ≤ length s)
     × (length words ≡ 32)
     × (drop n words ≡ drop n words₀)
-    × (blockFrom 32 wide places start (drop start s) [] ≡ blockFrom (32 - n) wide places at (drop at s) (take n words))
+    × (blockFrom family 32 wide places start (drop start s) [] ≡ blockFrom family (32 - n) wide places at (drop at s) (take n words))
 
 abbrev μ-loop : tie.MeasureT-loop
-μ-loop s wide start places size words₀ n₀ at₀ words n at = 32 - n
+μ-loop s family wide start places size words₀ n₀ at₀ words n at = 32 - n
 
 width-of-requires : tie.Need-width-of-requires Inv-loop μ-loop
 width-of-requires c κs = search needs
@@ -48,7 +49,7 @@ ended-requires c κs =
     let here = c .before .before in
     let l = here .before .loop in
     let a = here .before .before .before .before .before .before .args in
-    ends-inside (a .wide) (a .places) (l .n) (l .at) (a .s .now) (here .step .result) (here .step .ensures) (c .enum-told .given .1)
+    ends-inside (a .family) (a .wide) (a .places) (l .n) (l .at) (a .s .now) (here .step .result) (here .step .ensures) (c .enum-told .given .1)
 
 -- the n records kept are as many
 kept : (c : tie.At-loop Inv-loop μ-loop) → length (take (c .loop .n) (c .loop .words)) ≡ c .loop .n
@@ -60,15 +61,17 @@ returns c =
     let l = here .before .loop in
     let a = here .before .before .before .before .before .before .args in
     let none = l .inv .3 ∙ ap (λ (b : Block). drop (l .n) (b .words)) (here .before .before .before .no-block .ensures) in
-    let judged = kept-judged (c .ended .result) (l .words) (l .n) (omega arith) none (c .ended .ensures .0) in
+    let found : JudgedBlock = record { answer = c .ended .result; block = record { words = l .words; n = l .n } } in
+    let judged = kept-judged found (l .words) (l .n) (omega arith) none refl in
     let rest = drop (l .at) (a .s .now) in
     let ws = take (l .n) (l .words) in
     let few = l .inv .0 in
     let step = here .step in
     let block =
     l .inv .4
-    ∙ walk-ends (a .wide) (a .places) (l .n) (l .at) rest ws few (kept (here .before)) (step .result) (step .ensures) (c .before .enum-told .given .1) in
-    rw block (judged ∙ rw (c .ended .ensures .1))
+    ∙ walk-ends (a .family) (a .wide) (a .places) (l .n) (l .at) rest ws few (kept (here .before)) (step .result) (step .ensures)
+    (c .before .enum-told .given .1) in
+    rw block (judged ∙ rw (c .ended .ensures))
 
 enum-known-next : tie.Need-enum-known-next Inv-loop μ-loop
 enum-known-next c = search needs
@@ -87,7 +90,8 @@ returns-2 c =
     let step = here .step in
     let block =
     l .inv .4
-    ∙ walk-stops (a .wide) (a .places) (l .n) (l .at) rest ws few (kept (here .before)) (step .result) (step .ensures) _ (c .before .before .next .given .1) in
+    ∙ walk-stops (a .family) (a .wide) (a .places) (l .n) (l .at) rest ws few (kept (here .before)) (step .result) (step .ensures) _
+    (c .before .before .next .given .1) in
     c .refuse .ensures ∙ sym (ap keptOf block)
 
 enum-told-2 : tie.Need-enum-told-2 Inv-loop μ-loop
@@ -102,7 +106,8 @@ goes c =
     let here = c .before .before .before in
     let l = here .before .loop in
     let a = here .before .before .before .before .before .before .args in
-    goes-inside (a .wide) (a .places) (l .n) (l .at) (a .s .now) (here .step .result) (here .step .ensures) (l .inv .1) (c .before .enum-told2 .given .1)
+    goes-inside (a .family) (a .wide) (a .places) (l .n) (l .at) (a .s .now) (here .step .result) (here .step .ensures) (l .inv .1)
+    (c .before .enum-told2 .given .1)
 
 mul-words : tie.Need-mul-words Inv-loop μ-loop
 mul-words c = omega arith
@@ -137,8 +142,9 @@ loop-again c =
     let step = here .step in
     let block =
     l .inv .4
-    ∙ walk-goes (a .wide) (a .places) (l .n) (l .at) rest ws few (kept (here .before)) (step .result) (step .ensures) (c .before .enum-told2 .given .1) in
-    let on = walk-on (32 - (l .n + 1)) (l .n) (l .at) (width .result + 8) (a .wide) (a .places) (a .s .now) (l .words) w room size in
+    ∙ walk-goes (a .family) (a .wide) (a .places) (l .n) (l .at) rest ws few (kept (here .before)) (step .result) (step .ensures)
+    (c .before .enum-told2 .given .1) in
+    let on = walk-on (a .family) (32 - (l .n + 1)) (l .n) (l .at) (width .result + 8) (a .wide) (a .places) (a .s .now) (l .words) w room size in
     let long = length-set (l .words) (l .n) w ∙ l .inv .2 in
     (omega (arith, goes c .0), omega (arith, goes c .1, size), long, kept-more (l .words) first (l .n) w (l .inv .3), block ∙ on)
 

@@ -8,7 +8,7 @@ use lib.Dec.{leb}
 use lib.ListN.{length}
 use Rattle.figures.specs.Bytes.{every}
 use Rattle.figures.specs.Decimal.{isDigit, numberOf}
-use Rattle.units.specs.Kinds.{kindOf}
+use Rattle.units.specs.Kinds.{stationKind}
 use Rattle.units.specs.Counts.{valueAt}
 use Rattle.units.specs.declared.counts.Figures.the-variants.{Number}
 use Rattle.words.specs.Reading.{isCounted}
@@ -27,7 +27,7 @@ returns c =
 
 value : (c : tie.After-value-at) →
     let a = c .before .before .before .before .before .before .before .args in
-    let v = valueAt (kindOf (a .index)) (a .index) (a .unit) (a .minus) (Number (numberOf (a .t4))) in
+    let v = valueAt (stationKind (a .index)) (a .index) (a .unit) (a .minus) (Number (numberOf (a .t4))) in
     (every isDigit (a .t4) && isCounted v) ≡ isCounted (c .value-at .result)
 value c =
     let at = c .before .before .before in

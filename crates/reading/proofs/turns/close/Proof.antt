@@ -6,16 +6,18 @@ use Rattle.reading.proofs.turns.close.Tie as tie
 
 sub-tally : tie.Need-sub-tally
 sub-tally c =
-    let f = c .before .before .before in
-    let a = f .before .before .before .before .args in
-    finish-fits (a .room .now) (a .progress) (a .text .now) (f .finish .result) (f .finish .last .1 .1 .0) (f .finish .ensures .0) (f .finish .kept .1 .1 .0)
+    let at = c .before .before .before in
+    let a = at .before .before .before .before .args in
+    let end = at .finish in
+    finish-fits (a .family) (a .room .now) (a .progress) (a .text .now) (end .result) (end .last .1 .1 .1 .0) (end .ensures .0) (end .kept .1 .1 .1 .0)
 
 returns : tie.Need-returns
 returns c =
-    let f = c .before .before .before .before .before .before .before in
-    let a = f .before .before .before .before .args in
-    let is = f .finish .ensures in
-    closes-so (a .room .now) (a .progress) (a .text .now) (f .finish .result) (f .finish .last .1 .1 .0) (is .0) _ _ (is .1) (f .finish .kept .1 .1 .0)
+    let at = c .before .before .before .before .before .before .before in
+    let a = at .before .before .before .before .args in
+    let end = at .finish in
+    let is = end .ensures in
+    closes-so (a .family) (a .room .now) (a .progress) (a .text .now) (end .result) (end .last .1 .1 .1 .0) (is .0) _ _ (is .1) (end .kept .1 .1 .1 .0)
     (c .before .before .tally .ensures)
 
 pub close-spec : {M : Type 1} → statement M

@@ -11,7 +11,8 @@ returns c =
     let joins = join .before .before .before in
     let a = joins .before .before .before .args in
     let is = join .join .ensures in
-    feeds-on (a .room .now) (a .progress) (a .b) (a .text .now) _ _ _ (sym (joins .joins .ensures) ∙ join .before .before .if1 .taken) (is .0) refl (is .1) refl
+    let on = sym (joins .joins .ensures) ∙ join .before .before .if1 .taken in
+    feeds-on (a .family) (a .room .now) (a .progress) (a .b) (a .text .now) _ _ _ on (is .0) refl (is .1) refl
 
 returns-2 : tie.Need-returns-2
 returns-2 c =
@@ -22,7 +23,7 @@ returns-2 c =
     let apart = sym (joins .joins .ensures) ∙ tell .before .before .before .if1 .left in
     let is = join .join2 .ensures in
     let told = tell .tell .ensures in
-    feeds-next (a .room .now) (a .progress) (a .b) (a .text .now) _ _ _ (tell .tell .result) apart (told .0) (rw (is .0)) (is .1) (told .1)
+    feeds-next (a .family) (a .room .now) (a .progress) (a .b) (a .text .now) _ _ _ (tell .tell .result) apart (told .0) (rw (is .0)) (is .1) (told .1)
 
 pub feed-spec : {M : Type 1} → statement M
 feed-spec =

@@ -16,8 +16,9 @@ returns c =
     let more = report .before .before .before .more .ensures in
     let t = c .before .if1 .taken in
     let r = report .report in (
-      told-so (a .room .now) (a .progress) (a .text .now) _ more (r .result) _ _ (r .ensures .0 .0) (r .ensures .1) (rw t (c .more2 .ensures)) (rw t),
-      told-text-so (a .room .now) (a .progress) (a .text .now) _ more _ (r .ensures .0 .1),
+      told-so (a .family) (a .room .now) (a .progress) (a .text .now) _ more (r .result) _ _ (r .ensures .0 .0) (r .ensures .1)
+          (rw t (c .more2 .ensures)) (rw t),
+      told-text-so (a .family) (a .room .now) (a .progress) (a .text .now) _ more _ (r .ensures .0 .1),
     )
 
 returns-2 : tie.Need-returns-2
@@ -27,8 +28,9 @@ returns-2 c =
     let more = report .before .before .before .more .ensures in
     let t = c .before .if1 .left in
     let r = report .report in (
-      told-so (a .room .now) (a .progress) (a .text .now) _ more (r .result) _ _ (r .ensures .0 .0) (r .ensures .1) (rw t) (rw t (c .more3 .ensures)),
-      told-text-so (a .room .now) (a .progress) (a .text .now) _ more _ (r .ensures .0 .1),
+      told-so (a .family) (a .room .now) (a .progress) (a .text .now) _ more (r .result) _ _ (r .ensures .0 .0) (r .ensures .1)
+          (rw t) (rw t (c .more3 .ensures)),
+      told-text-so (a .family) (a .room .now) (a .progress) (a .text .now) _ more _ (r .ensures .0 .1),
     )
 
 pub tell-spec : {M : Type 1} → statement M

@@ -13,7 +13,7 @@ use Rattle.reports.proofs.measures.put_value.Tie as tie
 
 -- the text of what is counted is the word's
 shown : (c : tie.After-count) {k : Count} {room′ : List ℕ} {r : ℕ} → let a = c .before .before .args in c .count .result ≡ k
-    → Puts (a .room .now) (a .at) (countText (a .wide) (a .w) k) r room′ → Puts (a .room .now) (a .at) (valueText (a .wide) (a .w)) r room′
+    → Puts (a .room .now) (a .at) (countText (a .wide) (a .w) k) r room′ → Puts (a .room .now) (a .at) (valueText (a .family) (a .wide) (a .w)) r room′
 shown c e p =
     let a = c .before .before .args in
     puts-as (a .room .now) (a .at) _ _ (ap (countText (a .wide) (a .w)) (sym (c .count .ensures) ∙ e)) refl refl p
@@ -73,13 +73,18 @@ returns-9 c =
 
 returns-10 : tie.Need-returns-10
 returns-10 c =
-    let counted = c .before .before .before .before .before .before in
-    shown (counted .before .before) (counted .counted7 .given .1) (c .before .before .put-measure7 .ensures)
+    let counted = c .before .before .before .before .before in
+    shown (counted .before .before) (counted .counted7 .given .1) (c .before .before .put-inches .ensures)
 
 returns-11 : tie.Need-returns-11
 returns-11 c =
+    let counted = c .before .before .before .before .before .before in
+    shown (counted .before .before) (counted .counted8 .given .1) (c .before .before .put-measure7 .ensures)
+
+returns-12 : tie.Need-returns-12
+returns-12 c =
     let counted = c .before .before .before .before .before in
-    shown (counted .before .before) (counted .counted8 .given .1) (c .before .before .put-pair .ensures)
+    shown (counted .before .before) (counted .counted9 .given .1) (c .before .before .put-pair .ensures)
 
 pub put-value-spec : {M : Type 1} → statement M
 put-value-spec =
@@ -115,6 +120,8 @@ put-value-spec =
     (λ c. search needs)
     (λ c κs. search needs)
     (λ c. search needs)
+    (λ c κs. search needs)
+    (λ c. search needs)
     (λ c. search needs)
     (λ c κs. search needs)
     (λ c. search needs)
@@ -138,4 +145,6 @@ put-value-spec =
     (λ c. search needs)
     returns-10
     (λ c. search needs)
-    returns-11)
+    returns-11
+    (λ c. search needs)
+    returns-12)

@@ -14,10 +14,10 @@ use Rattle.reports.proofs.piece.put_words.Statement.{statement}
 use Rattle.reports.proofs.piece.put_words.Tie as tie
 
 abbrev Inv-loop : tie.InvT-loop
-Inv-loop room₀ at n wide words next₀ i₀ room next i = (i ≤ n) × Puts room₀ at (wordsText 1 wide (take i words)) next room
+Inv-loop room₀ at n family wide words next₀ i₀ room next i = (i ≤ n) × Puts room₀ at (wordsText family 1 wide (take i words)) next room
 
 abbrev μ-loop : tie.MeasureT-loop
-μ-loop room₀ at n wide words next₀ i₀ room next i = n - i
+μ-loop room₀ at n family wide words next₀ i₀ room next i = n - i
 
 loop-holds : tie.Need-loop-holds Inv-loop μ-loop
 loop-holds c =
@@ -37,7 +37,7 @@ loop-again c =
     let start = c .before .before .before .before .before .before .before .before in
     let a = start .args in
     let long = all start in
-    (omega arith, words-more (a .room .now) (a .at) (a .wide) (a .t3) (l .i) empty (omega arith) (l .inv .1) (c .before .before .put-word .ensures))
+    (omega arith, words-more (a .family) (a .room .now) (a .at) (a .wide) (a .t3) (l .i) empty (omega arith) (l .inv .1) (c .before .before .put-word .ensures))
 
 same-length : tie.Need-same-length Inv-loop μ-loop
 same-length c = puts-long _ _ _ (c .before .loop .inv .1)

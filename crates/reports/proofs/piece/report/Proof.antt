@@ -9,7 +9,8 @@ use Rattle.reports.proofs.piece.report.Tie as tie
 put-words-requires : tie.Need-put-words-requires
 put-words-requires c κs =
     let judge = c .before .before .before .before .before .before .before .before .before .before .before .before .before .before in
-    let few = few-kept (judge .before .before .before .args .piece .now) (judge .judge .result) (judge .judge .ensures) in
+    let a = judge .before .before .before .args in
+    let few = few-kept (a .family) (a .piece .now) (judge .judge .result) (judge .judge .ensures) in
     (puts-within _ _ _ (c .before .before .before .before .put-reading .ensures), few)
 
 returns : tie.Need-returns
@@ -18,7 +19,7 @@ returns c =
     let head = answer .before .before .before .before in
     let judge = head .before .before .before in
     let a = judge .before .before .before .args in
-    refused-on (judged (a .piece .now) 32) (judge .judge .result) (judge .judge .ensures) (a .number) (a .place) (a .room .now)
+    refused-on (a .family) (judged (a .family) (a .piece .now) 32) (judge .judge .result) (judge .judge .ensures) (a .number) (a .place) (a .room .now)
     (head .put-head .ensures) (answer .answer .given .0 .0) (answer .answer .given .1) (c .before .before .put-refusal .ensures)
 
 returns-2 : tie.Need-returns-2
@@ -28,7 +29,7 @@ returns-2 c =
     let head = answer .before .before .before .before in
     let judge = head .before .before .before in
     let a = judge .before .before .before .args in
-    read-on (judged (a .piece .now) 32) (judge .judge .result) (judge .judge .ensures) (a .number) (a .place) (a .room .now)
+    read-on (a .family) (judged (a .family) (a .piece .now) 32) (judge .judge .result) (judge .judge .ensures) (a .number) (a .place) (a .room .now)
     (head .put-head .ensures) (answer .answer2 .given .0 .0) (answer .answer2 .given .1) (reading .put-reading .ensures)
     (c .before .before .put-words .ensures)
 

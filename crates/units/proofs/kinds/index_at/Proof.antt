@@ -1,28 +1,12 @@
--- `index_at` meets its contract: two digits name an index, and the first arm refuses one that has no kind.
-use mathlib.Core.Path.{_≡_, refl}
-use mathlib.Core.Bool.{true, cond, and-assoc}
-use mathlib.Core.List.{[], _∷_}
-use types.Run.{OneOf, miss}
-use denote.Enum.Declared.{tagOf}
+-- `index_at` meets its contract: two digits say an index, and the family decides what it is.
+use mathlib.Core.Path.{_≡_}
+use mathlib.Core.Bool.{and-assoc}
 use borrow.Author.Needs.{needs}
 use Rattle.figures.specs.Decimal.{isDigit}
-use Rattle.units.specs.Kinds.{indexAt, isListed}
-use Rattle.units.specs.declared.kinds.Kind.{Kind}
-use Rattle.units.specs.declared.kinds.Kind.the-variants.{Missing, Numbered, Text, Angle, Length, Constant, Pair}
-use Rattle.units.specs.declared.kinds.Indexed.the-variants.{Not, Listed}
-use Rattle.units.proofs.Positions.{named-not, named-is}
-use Rattle.units.proofs.kinds.Kind.{the-type}
+use Rattle.units.specs.Kinds.{listedBy, indexBy, kindOf, listed, indexAt}
+use Rattle.units.proofs.Positions.{named-not, named-is, two-digits}
 use Rattle.units.proofs.kinds.index_at.Statement.{statement}
 use Rattle.units.proofs.kinds.index_at.Tie as tie
-
-is-listed : (k : Kind) → OneOf (1 ∷ 2 ∷ 3 ∷ 4 ∷ 5 ∷ 6 ∷ []) (tagOf the-type k) → isListed k ≡ true
-is-listed Missing h = absurd (miss (1 ∷ 2 ∷ 3 ∷ 4 ∷ 5 ∷ 6 ∷ []) 0 tt h)
-is-listed Numbered h = refl
-is-listed Text h = refl
-is-listed Angle h = refl
-is-listed Length h = refl
-is-listed Constant h = refl
-is-listed Pair h = refl
 
 returns : tie.Need-returns
 returns c =
@@ -32,19 +16,36 @@ returns c =
       named-not (a .tens) (a .ones) (c .before .before .named-by .ensures) (c .enum-told .given .1),
     )
 
--- what is left once the two digits' index has its kind
-left : (c : tie.After-kind-of) → let a = c .before .before .before .before .before .args in let k = c .kind-of .result in
-    indexAt (a .tens) (a .ones) ≡ cond (isListed k) (Listed (c .before .before .index .given .0 .0) k) Not
+-- what is left once the two digits are there
+left : (c : tie.After-known-told) →
+    let a = c .before .before .before .before .args in
+    let i = indexBy (a .family) (a .tens) (a .ones) (a .third) in
+    indexAt (a .family) (a .tens) (a .ones) (a .third) ≡ listed (listedBy (a .family) (a .tens) (a .ones) (a .third)) i (kindOf (a .family) i)
 left c =
-    let a = c .before .before .before .before .before .args in
-    let told = named-is (a .tens) (a .ones) (c .before .before .before .before .named-by .ensures) (c .before .before .index .given .1) in
-    rw (told .0, told .1, ← told .2, ← c .kind-of .ensures)
+    let a = c .before .before .before .before .args in
+    let told = named-is (a .tens) (a .ones) (c .before .before .before .named-by .ensures) (c .before .two .given .1) in
+    rw (told .0, told .1)
+
+level-at-requires : tie.Need-level-at-requires
+level-at-requires c κs =
+    let told = c .before .before in
+    let a = told .before .before .before .before .args in
+    let is = named-is (a .tens) (a .ones) (told .before .before .before .named-by .ensures) (told .before .two .given .1) in
+    rw (is .2) (two-digits (a .tens) (a .ones) (is .0) (is .1))
 
 returns-2 : tie.Need-returns-2
-returns-2 c = rw (left (c .before .before), c .enum-told2 .given .1)
+returns-2 c =
+    let told = c .before .before .before .before in
+    let a = told .before .before .before .before .args in
+    let is = named-is (a .tens) (a .ones) (told .before .before .before .named-by .ensures) (told .before .two .given .1) in
+    rw (left told, c .before .before .enum-told2 .given .1, ← is .2, ← c .before .station-kind .ensures) (c .listed-as .ensures)
 
 returns-3 : tie.Need-returns-3
-returns-3 c = rw (left (c .before), is-listed (c .before .kind-of .result) (c .match2 .keys2))
+returns-3 c =
+    let told = c .before .before .before in
+    let a = told .before .before .before .before .args in
+    let is = named-is (a .tens) (a .ones) (told .before .before .before .named-by .ensures) (told .before .two .given .1) in
+    rw (left told, c .before .enum-told3 .given .1, ← is .2) (c .level-at .ensures)
 
 pub index-at-spec : {M : Type 1} → statement M
 index-at-spec =
@@ -54,7 +55,10 @@ index-at-spec =
     (λ c. search needs)
     (λ c. search needs)
     returns
+    (λ c. search needs)
+    (λ c κs. search needs)
     (λ c κs. search needs)
     (λ c. search needs)
+    level-at-requires
     returns-2
     returns-3)

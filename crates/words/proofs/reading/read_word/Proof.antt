@@ -8,12 +8,12 @@ use borrow.Author.Tests.{lt-leb}
 use borrow.Author.Needs.{needs}
 use lib.Dec.{eqb}
 use lib.ListN.{length, getD}
-use Rattle.units.specs.Information.{infoRight}
 use Rattle.words.specs.Records.{width}
 use Rattle.words.specs.Reading.{wordSize, pos, kindAt, dataIn, isCounted, textField, recordIn, rightWord}
 use Rattle.words.proofs.Checks.{index-not, informed-not, sign-not, spelled-not, parted-not, width-bounds, data-part}
-use Rattle.words.proofs.reading.read_word.Proof.Passed.{by-index, by-info, by-sign, by-data, by-blank, by-value, bytes, wide, long}
-use Rattle.words.proofs.reading.read_word.Proof.Passed.{sized, indexed, informs, informed, signs, signed, spells, spelt, parts, parted, values, valued}
+use Rattle.words.proofs.reading.read_word.Proof.Passed.{by-index, by-info, by-sign, by-data, by-blank, by-value, bytes, family, wide, long}
+use Rattle.words.proofs.reading.read_word.Proof.Passed.{sized, indexed, led, infoIs, informs, informed, signs, signed}
+use Rattle.words.proofs.reading.read_word.Proof.Passed.{spells, spelt, parts, parted, values, valued}
 use Rattle.words.proofs.reading.read_word.Statement.{statement}
 use Rattle.words.proofs.reading.read_word.Tie as tie
 
@@ -38,6 +38,9 @@ shared-slice-read-index-at c = search needs
 shared-slice-read-index-at-2 : tie.Need-shared-slice-read-index-at-2
 shared-slice-read-index-at-2 c = search needs
 
+shared-slice-read-index-at-3 : tie.Need-shared-slice-read-index-at-3
+shared-slice-read-index-at-3 c = search needs
+
 index-at-requires : tie.Need-index-at-requires
 index-at-requires c κs = search needs
 
@@ -52,10 +55,16 @@ wrong-requires-2 c κs = search needs
 
 returns-2 : tie.Need-returns-2
 returns-2 c =
-    let at = c .before .before .before .before .before .before in
+    let at = c .before .before .before .before .before .before .before in
     let s = bytes at in
-    let bad = index-not (pos 1 s) (pos 2 s) (c .before .before .before .index-at .ensures) (c .before .enum-told .given .1) in
+    let bad = index-not (family at) (pos 1 s) (pos 2 s) (pos 3 s) (c .before .before .before .index-at .ensures) (c .before .enum-told .given .1) in
     rw (sized at, bad) (c .wrong2 .ensures)
+
+shared-slice-read-lead-of : tie.Need-shared-slice-read-lead-of
+shared-slice-read-lead-of c = search needs
+
+lead-of-requires : tie.Need-lead-of-requires
+lead-of-requires c κs = search needs
 
 shared-slice-read-informed-by : tie.Need-shared-slice-read-informed-by
 shared-slice-read-informed-by c = search needs
@@ -65,9 +74,6 @@ shared-slice-read-informed-by-2 c = search needs
 
 shared-slice-read-informed-by-3 : tie.Need-shared-slice-read-informed-by-3
 shared-slice-read-informed-by-3 c = search needs
-
-shared-slice-read-informed-by-4 : tie.Need-shared-slice-read-informed-by-4
-shared-slice-read-informed-by-4 c = search needs
 
 informed-by-requires : tie.Need-informed-by-requires
 informed-by-requires c κs = search needs
@@ -83,9 +89,8 @@ wrong-requires-3 c κs = search needs
 
 returns-3 : tie.Need-returns-3
 returns-3 c =
-    let index = c .before .before .before .before .before .before .before .before in
-    let s = bytes (by-index index) in
-    let bad : infoRight (kindAt s) (pos 3 s) (pos 4 s) (pos 5 s) (pos 6 s) ≡ false =
+    let index = c .before .before .before .before .before .before .before .before .before in
+    let bad : infoIs (by-index index) ≡ false =
     informed-not (informs (c .before .before .before)) (c .before .enum-told3 .given .1) in
     rw (sized (by-index index), indexed index .0, bad) (c .wrong3 .ensures)
 
@@ -108,8 +113,8 @@ returns-4 : tie.Need-returns-4
 returns-4 c =
     let info = c .before .before .before .before .before in
     let index = by-info info in
-    let s = bytes (by-index index) in
-    let bad = sign-not (kindAt s) (pos 7 s) (signs (c .before .before .before)) (c .before .enum-told4 .given .1) in
+    let at = by-index index in
+    let bad = sign-not (kindAt (family at) (bytes at)) (pos 7 (bytes at)) (signs (c .before .before .before)) (c .before .enum-told4 .given .1) in
     rw (sized (by-index index), indexed index .0, informed info, bad) (c .wrong4 .ensures)
 
 sub-spelled-at : tie.Need-sub-spelled-at
@@ -139,7 +144,8 @@ returns-5 c =
     let info = by-sign sign in
     let index = by-info info in
     let at = by-index index in
-    let bad = spelled-not (kindAt (bytes at)) (wide at) (bytes at) (long at) (spells (c .before .before .before)) (c .before .enum-told5 .given .1) in
+    let bad = spelled-not (kindAt (family at) (bytes at)) (wide at) (bytes at) (long at) (spells (c .before .before .before))
+    (c .before .enum-told5 .given .1) in
     rw (sized at, indexed index .0, informed info, signed sign .0, bad) (c .wrong5 .ensures)
 
 shared-slice-read-parted-at : tie.Need-shared-slice-read-parted-at
@@ -168,7 +174,7 @@ returns-6 c =
     rw (sized at, indexed index .0, informed info, signed sign .0, spelt figures .0, bad) (c .wrong6 .ensures)
 
 shared-slice-read-value-at : tie.Need-shared-slice-read-value-at
-shared-slice-read-value-at c = search needs
+shared-slice-read-value-at c = omega (arith, by-index (by-info (by-sign (by-data (by-blank (c .before))))) .if1 .left)
 
 value-at-requires : tie.Need-value-at-requires
 value-at-requires c κs = search needs
@@ -209,34 +215,33 @@ part-text-of-end c = omega (arith, sizes c .if1 .left)
 text-of-requires : tie.Need-text-of-requires
 text-of-requires c κs = search needs
 
-shared-slice-read-t27 : tie.Need-shared-slice-read-t27
-shared-slice-read-t27 c = omega (arith, sizes (c .before .before .before) .if1 .left)
-
-shared-slice-read-t17 : tie.Need-shared-slice-read-t17
-shared-slice-read-t17 c = omega (arith, sizes (c .before .before .before .before) .if1 .left)
-
-shared-slice-read-t25 : tie.Need-shared-slice-read-t25
-shared-slice-read-t25 c = omega (arith, sizes (c .before .before .before .before .before) .if1 .left)
+shared-slice-read-t21 : tie.Need-shared-slice-read-t21
+shared-slice-read-t21 c = omega (arith, sizes (c .before .before .before) .if1 .left)
 
 shared-slice-read-t19 : tie.Need-shared-slice-read-t19
-shared-slice-read-t19 c = omega (arith, sizes (c .before .before .before .before .before .before) .if1 .left)
+shared-slice-read-t19 c = omega (arith, sizes (c .before .before .before .before) .if1 .left)
+
+shared-slice-read-t23 : tie.Need-shared-slice-read-t23
+shared-slice-read-t23 c = omega (arith, sizes (c .before .before .before .before .before) .if1 .left)
 
 record-of-requires : tie.Need-record-of-requires
 record-of-requires c κs = search needs
 
 returns-8 : tie.Need-returns-8
 returns-8 c =
-    let value = c .before .before .before .before .before .before .before in
+    let value = c .before .before .before .before .before .before in
     let blank = by-value value in
     let figures = by-blank blank in
     let sign = by-data figures in
     let info = by-sign sign in
     let index = by-info info in
     let at = by-index index in
-    let text = c .before .before .before .before .before .text-of in
+    let text = c .before .before .before .before .text-of in
+    let lead = info .before .before .before .before .before .before in
     let part = data-part (wide at) (bytes at) (at .before .width-of .result) (at .before .width-of .ensures) in
-    let says : text .result ≡ textField (kindAt (bytes at)) (dataIn (wide at) (bytes at)) = rw (← indexed index .2, ← part) (text .ensures) in
-    let word : c .record-of .result ≡ recordIn (wide at) (bytes at) = rw (← says, valued value .1, ← indexed index .1) (c .record-of .ensures) in
+    let says : text .result ≡ textField (kindAt (family at) (bytes at)) (dataIn (wide at) (bytes at)) = rw (← indexed index .2, ← part) (text .ensures) in
+    let word : c .record-of .result ≡ recordIn (family at) (wide at) (bytes at) =
+    rw (← says, valued value .1, ← led lead, ← indexed index .1) (c .record-of .ensures) in
     rw (sized at, indexed index .0, informed info, signed sign .0, spelt figures .0, parted blank, valued value .0) (ap rightWord word)
 
 pub read-word-spec : {M : Type 1} → statement M
@@ -249,15 +254,17 @@ read-word-spec =
     returns
     shared-slice-read-index-at
     shared-slice-read-index-at-2
+    shared-slice-read-index-at-3
     index-at-requires
     enum-known-index
     enum-told
     wrong-requires-2
     returns-2
+    shared-slice-read-lead-of
+    lead-of-requires
     shared-slice-read-informed-by
     shared-slice-read-informed-by-2
     shared-slice-read-informed-by-3
-    shared-slice-read-informed-by-4
     informed-by-requires
     enum-told-2
     enum-told-3
@@ -293,9 +300,8 @@ read-word-spec =
     part-text-of-start
     part-text-of-end
     text-of-requires
-    shared-slice-read-t27
-    shared-slice-read-t17
-    shared-slice-read-t25
+    shared-slice-read-t21
     shared-slice-read-t19
+    shared-slice-read-t23
     record-of-requires
     returns-8)

@@ -70,13 +70,22 @@ ten-to-requires-4 c κs = search needs
 whole-right-requires-8 : tie.Need-whole-right-requires-8
 whole-right-requires-8 c κs = search needs
 
-returns : tie.Need-returns
-returns c =
-    let size = c .before .before .ten-to4 in
-    rw (c .before .before .before .before .count8 .given .1, ← size .ensures, failed (c .before .whole-right8 .ensures) (c .if1 .taken))
+enum-known-count-9 : tie.Need-enum-known-count-9
+enum-known-count-9 c = search needs
+
+ten-to-requires-5 : tie.Need-ten-to-requires-5
+ten-to-requires-5 c κs = search needs
 
 whole-right-requires-9 : tie.Need-whole-right-requires-9
 whole-right-requires-9 c κs = search needs
+
+returns : tie.Need-returns
+returns c =
+    let size = c .before .before .ten-to5 in
+    rw (c .before .before .before .before .count9 .given .1, ← size .ensures, failed (c .before .whole-right9 .ensures) (c .if1 .taken))
+
+whole-right-requires-10 : tie.Need-whole-right-requires-10
+whole-right-requires-10 c κs = search needs
 
 returns-2 : tie.Need-returns-2
 returns-2 c = search needs
@@ -106,10 +115,13 @@ returns-10 : tie.Need-returns-10
 returns-10 c = rw (c .before .before .before .count7 .given .1, ← c .before .ten-to3 .ensures) (c .whole-right7 .ensures)
 
 returns-11 : tie.Need-returns-11
-returns-11 c =
-    let size = c .before .before .before .ten-to4 in
-    let first = passed (c .before .before .whole-right8 .ensures) (c .before .if1 .left) in
-    rw (c .before .before .before .before .before .count8 .given .1, ← size .ensures, first) (c .whole-right9 .ensures)
+returns-11 c = rw (c .before .before .before .count8 .given .1, ← c .before .ten-to4 .ensures) (c .whole-right8 .ensures)
+
+returns-12 : tie.Need-returns-12
+returns-12 c =
+    let size = c .before .before .before .ten-to5 in
+    let first = passed (c .before .before .whole-right9 .ensures) (c .before .if1 .left) in
+    rw (c .before .before .before .before .before .count9 .given .1, ← size .ensures, first) (c .whole-right10 .ensures)
 
 pub count-right-spec : {M : Type 1} → statement M
 count-right-spec =
@@ -137,8 +149,11 @@ count-right-spec =
     enum-known-count-8
     ten-to-requires-4
     whole-right-requires-8
-    returns
+    enum-known-count-9
+    ten-to-requires-5
     whole-right-requires-9
+    returns
+    whole-right-requires-10
     returns-2
     returns-3
     returns-4
@@ -148,4 +163,5 @@ count-right-spec =
     returns-8
     returns-9
     returns-10
-    returns-11)
+    returns-11
+    returns-12)

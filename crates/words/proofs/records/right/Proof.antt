@@ -5,6 +5,7 @@ use borrow.Author.Tests.{eq-eqb}
 use borrow.Author.Needs.{needs}
 use lib.Dec.{eqb}
 use lib.ListN.{length, getD}
+use Rattle.units.specs.declared.kinds.Family.{Family}
 use Rattle.words.specs.declared.records.Word.{Word}
 use Rattle.units.specs.Information.{infoRight}
 use Rattle.units.specs.declared.information.Informed.the-variants.{Not, Right}
@@ -16,8 +17,8 @@ use Rattle.words.proofs.records.right.Statement.{statement}
 use Rattle.words.proofs.records.right.Tie as tie
 
 -- positions 3-6 as `right` reads them
-abbrev infoIs : Word → Bool
-infoIs w = infoRight (kindIn w) (getD (w .info) 0 0) (getD (w .info) 1 0) (getD (w .info) 2 0) (unitIn w)
+abbrev infoIs : Family → Word → Bool
+infoIs f w = infoRight f (w .index) (kindIn f w) (getD (w .info) 0 0) (getD (w .info) 1 0) (getD (w .info) 2 0) (unitIn w)
 
 kind-of-requires : tie.Need-kind-of-requires
 kind-of-requires c κs = search needs
@@ -58,41 +59,41 @@ abbrev by-first : tie.Else2 → tie.Else1
 by-first c = c .before .before .before
 
 -- what each check answers
-informs : (c : tie.After-informed-by) → let w = c .before .before .before .before .args .w in c .informed-by .result ≡ cond (infoIs w) Right Not
+informs : (c : tie.After-informed-by) → let a = c .before .before .before .before .args in c .informed-by .result ≡ cond (infoIs (a .family) (a .w)) Right Not
 informs c = rw (← c .before .before .before .kind-of .ensures) (c .informed-by .ensures)
 
 counts : (c : tie.After-count-right) →
     let a = by-info (c .before .before) .args in
-    c .count-right .result ≡ countRight (a .wide) (countOf (a .w))
+    c .count-right .result ≡ countRight (a .wide) (countOf (a .family) (a .w))
 counts c = rw (← c .before .count-of .ensures) (c .count-right .ensures)
 
 firsts : (c : tie.After-same-whole) →
-    let w = by-info (by-count (c .before .before)) .args .w in
-    c .same-whole .result ≡ sameWhole (firstOf (countOf w)) (w .minus) (w .size)
+    let a = by-info (by-count (c .before .before)) .args in
+    c .same-whole .result ≡ sameWhole (firstOf (countOf (a .family) (a .w))) (a .w .minus) (a .w .size)
 firsts c = rw (← c .before .before .before .before .count-of .ensures, ← c .before .first-of .ensures) (c .same-whole .ensures)
 
 seconds : (c : tie.After-same-whole2) →
-    let w = by-info (by-count (by-first (c .before .before))) .args .w in
-    c .same-whole2 .result ≡ sameWhole (secondOf (countOf w)) (w .mmminus) (w .mm)
+    let a = by-info (by-count (by-first (c .before .before))) .args in
+    c .same-whole2 .result ≡ sameWhole (secondOf (countOf (a .family) (a .w))) (a .w .mmminus) (a .w .mm)
 seconds c =
     rw (← by-first (c .before .before) .before .before .count-of .ensures, ← c .before .second-of .ensures) (c .same-whole2 .ensures)
 
 -- and what one that is passed says
-informed : (c : tie.After-enum-told) → infoIs (by-info c .args .w) ≡ true
+informed : (c : tie.After-enum-told) → infoIs (by-info c .args .family) (by-info c .args .w) ≡ true
 informed c = informed-right (informs (c .before .before)) (c .enum-told .given .1)
 
-counted : (c : tie.Else1) → let a = by-info (by-count c) .args in countRight (a .wide) (countOf (a .w)) ≡ true
+counted : (c : tie.Else1) → let a = by-info (by-count c) .args in countRight (a .wide) (countOf (a .family) (a .w)) ≡ true
 counted c = passed (counts (c .before)) (c .if1 .left)
 
 same-first : (c : tie.Else2) →
-    let w = by-info (by-count (by-first c)) .args .w in
-    sameWhole (firstOf (countOf w)) (w .minus) (w .size) ≡ true
+    let a = by-info (by-count (by-first c)) .args in
+    sameWhole (firstOf (countOf (a .family) (a .w))) (a .w .minus) (a .w .size) ≡ true
 same-first c = passed (firsts (c .before)) (c .if2 .left)
 
 returns : tie.Need-returns
 returns c =
     let start = c .before .before .before .before .before .before in
-    let bad : infoIs (start .args .w) ≡ false = informed-not (informs (c .before .before)) (c .enum-told2 .given .1) in
+    let bad : infoIs (start .args .family) (start .args .w) ≡ false = informed-not (informs (c .before .before)) (c .enum-told2 .given .1) in
     rw (long start, bad)
 
 count-of-requires : tie.Need-count-of-requires

@@ -14,7 +14,7 @@ returns c = rw (failed (c .before .right .ensures) (c .if1 .taken))
 bytes-of-requires : tie.Need-bytes-of-requires
 bytes-of-requires c κs =
     let a = c .before .before .args in
-    right-size (a .wide) (a .w) (passed (c .before .right .ensures) (c .if1 .left))
+    right-size (a .family) (a .wide) (a .w) (passed (c .before .right .ensures) (c .if1 .left))
 
 returns-2 : tie.Need-returns-2
 returns-2 c = rw (passed (c .before .before .right .ensures) (c .before .if1 .left), c .bytes-of .ensures)
