@@ -1,12 +1,12 @@
--- `judging::judge` meets its contract: each return is a law of the block's start.
+-- `judging::judge_whole` meets its contract: each return is a law of the block's start.
 use mathlib.Core.Path.{sym, ap, _∙_}
 use native.Mathlib.Omega.{arith}
 use borrow.Author.Needs.{needs}
 use Rattle.blocks.specs.Judging.{isWide}
 use Rattle.blocks.specs.Keeping.{keptOf}
 use Rattle.blocks.proofs.Steps.{start-small, judged-empty, judged-no-word, judged-words}
-use Rattle.blocks.proofs.judging.judge.Statement.{statement}
-use Rattle.blocks.proofs.judging.judge.Tie as tie
+use Rattle.blocks.proofs.judging.judge_whole.Statement.{statement}
+use Rattle.blocks.proofs.judging.judge_whole.Tie as tie
 
 refuse-requires : tie.Need-refuse-requires
 refuse-requires c κs = search needs
@@ -51,8 +51,8 @@ returns-3 c =
     let some = here .before .before .before .if1 .left in
     c .words-from .ensures ∙ sym (ap keptOf (judged-words (a .family) (a .s .now) (a .places) (start .result) some (start .ensures) byte))
 
-pub judge-spec : {M : Type 1} → statement M
-judge-spec =
+pub judge-whole-spec : {M : Type 1} → statement M
+judge-whole-spec =
     tie.close
     (tie.spec
     refuse-requires
