@@ -3,10 +3,8 @@ use Prim.Native.Nat.{ℕ, suc}
 use mathlib.Core.Path.{_≡_}
 use mathlib.Core.Bool.{Bool, true, false, cond}
 use mathlib.Core.List.{List, [], _∷_, _++_}
-use lib.Dec.{ltb}
-use lib.ListN.{drop}
 use Rattle.figures.specs.Text.{codes}
-use Rattle.figures.specs.Decimal.{digitsOf, decimalOf}
+use Rattle.figures.specs.Decimal.{decimalOf}
 use Rattle.units.specs.declared.kinds.Family.{Family}
 use Rattle.words.specs.declared.records.Word.{Word}
 use Rattle.blocks.specs.Answers.{refusalNumber, refusalTells}
@@ -16,12 +14,8 @@ use Rattle.blocks.specs.declared.answers.Reading.{Reading}
 use Rattle.blocks.specs.declared.answers.Answer.{Answer}
 use Rattle.blocks.specs.declared.answers.Answer.the-variants.{Refused, Read}
 use Rattle.figures.specs.Rooms.{Puts}
-use Rattle.reports.specs.Measures.{valueText}
+use Rattle.measures.specs.Measures.{indexText, valueText}
 use Rattle.reports.specs.declared.piece.Reported.{Reported}
-
--- index and information as positions 1-6 have them: `31 info=..01`, `331 info=106`
-abbrev pub indexText : ℕ → List ℕ → List ℕ
-indexText i info = cond (ltb i 100) (digitsOf 2 i ++ (codes " info=" ++ info)) (digitsOf 3 i ++ (codes " info=" ++ drop 1 info))
 
 -- `word=4 index=31 info=..01 count=+265965 step=1/1000ft reads=265.965ft` and LF
 abbrev pub wordText : Family → ℕ → Bool → Word → List ℕ

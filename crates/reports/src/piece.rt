@@ -3,9 +3,7 @@ ghost use mathlib.Core.Path.{_≡_};
 ghost use Prim.Native.Nat.{_≤_};
 ghost use lib.ListN.{take, length};
 ghost use Rattle.figures.specs.Rooms.{Puts};
-ghost use Rattle.reports.specs.Piece.{indexText, wordText, wordsText, headText, readingText, refusalText, tallyText, Reports};
-use crate::measures::put_digits;
-use crate::measures::put_value;
+ghost use Rattle.reports.specs.Piece.{wordText, wordsText, headText, readingText, refusalText, tallyText, Reports};
 use blocks::answers::Answer;
 use blocks::answers::Reading;
 use blocks::answers::Refusal;
@@ -13,9 +11,10 @@ use blocks::answers::refusal_number;
 use blocks::answers::refusal_tells;
 use blocks::judging::judge;
 use figures::casts::wide_count;
-use figures::casts::wide_index;
 use figures::rooms::put;
 use figures::rooms::put_decimal;
+use measures::put_index;
+use measures::put_value;
 use units::kinds::Family;
 use words::records::Word;
 
@@ -26,20 +25,6 @@ pub const ENOUGH: usize = 5_280;
 pub struct Reported {
     pub count: usize,
     pub accepted: bool,
-}
-
-// Index and information as positions 1-6 have them.
-fn put_index(room: &mut [u8], at: usize, index: u16, info: [u8; 4]) -> usize
-    ensures { λ r. ⌜ Puts (now (room .entry)) at (indexText index info) r (now (room .exit)) ⌝ }
-{
-    if index < 100 {
-        let after_digits = put_digits(room, at, wide_index(index), 2);
-        let after_key = put(room, after_digits, b" info=");
-        return put(room, after_key, &info);
-    }
-    let after_digits = put_digits(room, at, wide_index(index), 3);
-    let after_key = put(room, after_digits, b" info=");
-    put(room, after_key, &info[1..4])
 }
 
 // One word's line.

@@ -5,7 +5,7 @@ use Prim.Native.Nat.{ℕ}
 use Rattle.figures.specs.Promises.{Determined}
 use Rattle.figures.proofs.Determined.{by-equation}
 use Rattle.units.specs.Kinds.{kindOf, isTextual, namedBy, indexAt}
-use Rattle.units.specs.Information.{informedOf, leadOf, signByte, signAt}
+use Rattle.units.specs.Information.{infoRight, informedOf, leadOf, signByte, signAt}
 use Rattle.units.specs.Counts.{angleOf, lengthOf, constantOf, valueAt, firstOf, secondOf}
 use Rattle.units.specs.declared.kinds.Family.{Family}
 use Rattle.units.specs.declared.kinds.Kind.{Kind}
@@ -36,6 +36,12 @@ index-at-determined = by-equation (Family × (ℕ × (ℕ × ℕ))) Indexed inde
 -- family, index, kind and the four bytes
 abbrev Information : Type 0
 Information = Family × (ℕ × (Kind × (ℕ × (ℕ × (ℕ × ℕ)))))
+
+abbrev infoRightBy : Information → Bool
+infoRightBy i = infoRight (i .0) (i .1 .0) (i .1 .1 .0) (i .1 .1 .1 .0) (i .1 .1 .1 .1 .0) (i .1 .1 .1 .1 .1 .0) (i .1 .1 .1 .1 .1 .1)
+
+pub info-right-determined : Determined Information Bool (λ i r. r ≡ infoRightBy i)
+info-right-determined = by-equation Information Bool infoRightBy
 
 abbrev informedBy : Information → Informed
 informedBy i = informedOf (i .0) (i .1 .0) (i .1 .1 .0) (i .1 .1 .1 .0) (i .1 .1 .1 .1 .0) (i .1 .1 .1 .1 .1 .0) (i .1 .1 .1 .1 .1 .1)

@@ -2,7 +2,7 @@
 ghost use mathlib.Core.Path.{_≡_};
 ghost use mathlib.Core.Bool.{cond, _&&_, _||_};
 ghost use Rattle.units.specs.Information.{isDot, isMode, isDotOrDigit, isAngleMark, isAngleUnit, isLengthUnit};
-ghost use Rattle.units.specs.Information.{isFlag, isLevelMode, isLevelUnit, isLead, stationInfo, levelInfo, leadOf, informedOf, signByte, signAt};
+ghost use Rattle.units.specs.Information.{isFlag, isLevelMode, isLevelUnit, isLead, stationInfo, levelInfo, infoRight, leadOf, informedOf, signByte, signAt};
 use crate::kinds::Family;
 use crate::kinds::Kind;
 use crate::kinds::textual;
@@ -168,6 +168,16 @@ fn level_info(index: u16, kind: Kind, a: u8, b: u8, c: u8, d: u8) -> bool
     }
 }
 
+// Whether a word of that index and kind can have the information.
+pub fn info_right(family: Family, index: u16, kind: Kind, a: u8, b: u8, c: u8, d: u8) -> bool
+    ensures { λ r. ⌜ r ≡ infoRight family index kind a b c d ⌝ }
+{
+    match family {
+        Family::Station => station_info(kind, a, b, c, d),
+        Family::Level => level_info(index, kind, a, b, c, d),
+    }
+}
+
 fn answer(right: bool) -> Informed
     ensures { λ r. ⌜ r ≡ cond right Informed.Right Informed.Not ⌝ }
 {
@@ -178,7 +188,8 @@ fn answer(right: bool) -> Informed
     }
 }
 
-// The information of a word of that index and kind.
+// The information of a word of that index and kind. It doesn't call `info_right`: so the compiler joins the choice of the family with the reader
+// (docs/BENCHMARK.md).
 pub fn informed_by(family: Family, index: u16, kind: Kind, a: u8, b: u8, c: u8, d: u8) -> Informed
     ensures { λ r. ⌜ r ≡ informedOf family index kind a b c d ⌝ }
 {

@@ -1,6 +1,6 @@
 // The record that a word gives, as a host in C lends it, and the count that a record holds.
 ghost use mathlib.Core.Path.{_≡_};
-ghost use Rattle.words.specs.Records.{blank, recordOf, countOf, tenTo, wholeRight, countRight, textRight, sameWhole, isRight, typedOf};
+ghost use Rattle.words.specs.Records.{blank, recordOf, countBy, countOf, tenTo, wholeRight, countRight, textRight, sameWhole, isRight, typedOf};
 use units::counts::Count;
 use units::counts::Whole;
 use units::counts::angle_of;
@@ -8,8 +8,7 @@ use units::counts::constant_of;
 use units::counts::first_of;
 use units::counts::length_of;
 use units::counts::second_of;
-use units::information::Informed;
-use units::information::informed_by;
+use units::information::info_right;
 use units::kinds::Family;
 use units::kinds::Kind;
 use units::kinds::kind_of;
@@ -61,9 +60,9 @@ pub(crate) fn record_of(index: u16, info: [u8; 4], count: Count, text: [u8; 16])
     }
 }
 
-// The count that a record says, by its kind and unit.
-pub(crate) fn count_of(w: Word, family: Family) -> Count
-    ensures { λ r. ⌜ r ≡ countOf family w ⌝ }
+// What a record of that kind counts, by its unit.
+pub(crate) fn count_by(w: Word, kind: Kind) -> Count
+    ensures { λ r. ⌜ r ≡ countBy kind w ⌝ }
 {
     let info = w.info;
     let unit = info[3];
@@ -71,7 +70,6 @@ pub(crate) fn count_of(w: Word, family: Family) -> Count
         minus: w.minus,
         size: w.size,
     };
-    let kind = kind_of(family, w.index);
     match kind {
         Kind::Missing => Count::Nothing,
         Kind::Numbered => Count::Text,
@@ -87,6 +85,14 @@ pub(crate) fn count_of(w: Word, family: Family) -> Count
             Count::Pair(whole, mm)
         }
     }
+}
+
+// The count that a record says.
+pub(crate) fn count_of(w: Word, family: Family) -> Count
+    ensures { λ r. ⌜ r ≡ countOf family w ⌝ }
+{
+    let kind = kind_of(family, w.index);
+    count_by(w, kind)
 }
 
 // The first number that has more digits than a word of the width, or than the ppm of its pair.
@@ -175,11 +181,10 @@ pub fn right(w: Word, family: Family, wide: bool) -> bool
     let kind = kind_of(family, w.index);
     let info = w.info;
     let text = w.text;
-    let Informed::Right = informed_by(family, w.index, kind, info[0], info[1], info[2], info[3])
-    else {
+    if !info_right(family, w.index, kind, info[0], info[1], info[2], info[3]) {
         return false;
-    };
-    let count = count_of(w, family);
+    }
+    let count = count_by(w, kind);
     if !count_right(count, wide) {
         return false;
     }

@@ -1,9 +1,10 @@
 -- `class_of` meets its contract: the table's rule is one test at each of its thousand entries, which is computed.
-use Prim.Native.Nat.{ℕ, zero, suc, _+_, _<_}
+use Prim.Native.Nat.{ℕ, zero, suc, _+_, _*_, _/_, _%_, _<_}
 use mathlib.Core.Path.{_≡_, refl, ap, _∙_}
-use mathlib.Core.List.{List, _++_}
-use native.Mathlib.Nat.{add-zero, zero-add, add-suc, suc-add}
+use mathlib.Core.List.{List, [], _∷_}
+use native.Mathlib.Nat.{add-zero, add-suc, suc-add}
 use native.Mathlib.Omega.{arith}
+use borrow.Author.Needs.{needs}
 use lib.ListN.{getD}
 use Rattle.figures.specs.Text.{codes}
 use Rattle.figures.specs.Bytes.{among}
@@ -12,36 +13,130 @@ use Rattle.figures.proofs.Tests.{run}
 use Rattle.units.proofs.classes.class_of.Statement.{statement}
 use Rattle.units.proofs.classes.class_of.Tie as tie
 
--- the table of src/classes.rt, a hundred to a line
-classes : List ℕ
+-- the table of src/classes.rt, a hundred to a row
+classes : List (List ℕ)
 classes =
     codes "0000000000000000000000000000000000000000000000000000000000000000000000000000000000000000000000000000"
-    ++ (codes "0000000000333333333300000000000000000000000000000000000000000000000000000000000000000000000000000000"
-    ++ (codes "0000000000000000000000000000000000000000000000000000000000000000000000000000000000000000000000000000"
-    ++ (codes "0000000000000000000000000000001111111000000000000000000000000000000000000010000000000000000000000000"
-    ++ (codes "0000000000333333333300000000000000000000000000000000000000000000000000000000000000000000000000000000"
-    ++ (codes "0000000000000000000002000000000000000000000000000000000000000000000000011110000000000000000000000000"
-    ++ (codes "0000000000000000000000000000000000000000000000000000000000000000000000000000000000000000000000000000"
-    ++ (codes "0000000000000000000000000000000000000000000000000000000000000000000000000000000000000000000000000000"
-    ++ (codes "0000000000000000000000000000000000000000000000000000000000000000000000000000000000000000000000000000"
-    ++ (codes "0000000000000000000000000000000000000000000000000000000000000000000000000000000000000000000000000000")))))))))
+    ∷ codes "0000000000333333333300000000000000000000000000000000000000000000000000000000000000000000000000000000"
+    ∷ codes "0000000000000000000000000000000000000000000000000000000000000000000000000000000000000000000000000000"
+    ∷ codes "0000000000000000000000000000001111111000000000000000000000000000000000000010000000000000000000000000"
+    ∷ codes "0000000000333333333300000000000000000000000000000000000000000000000000000000000000000000000000000000"
+    ∷ codes "0000000000000000000002000000000000000000000000000000000000000000000000011110000000000000000000000000"
+    ∷ codes "0000000000000000000000000000000000000000000000000000000000000000000000000000000000000000000000000000"
+    ∷ codes "0000000000000000000000000000000000000000000000000000000000000000000000000000000000000000000000000000"
+    ∷ codes "0000000000000000000000000000000000000000000000000000000000000000000000000000000000000000000000000000"
+    ∷ codes "0000000000000000000000000000000000000000000000000000000000000000000000000000000000000000000000000000"
+    ∷ []
 
-run-at : (f : ℕ → ℕ) (low k n : ℕ) → n < k → getD (run f low k) n 0 ≡ f (low + n)
-run-at f low zero n h = absurd (omega arith)
-run-at f low (suc k) zero h = rw add-zero
-run-at f low (suc k) (suc n) h = run-at f (suc low) k n (omega arith) ∙ rw (add-suc, suc-add)
+-- the hundred that a row should have
+hundred : ℕ → List ℕ
+hundred row = run classOf (row * 100) 100
 
 -- the test: at each of a thousand numbers the table has what the rule says
-rule : classes ≡ run classOf 0 1000
-unfolding classes among
+rule : classes ≡ run hundred 0 10
+unfolding classes among hundred
 rule = refl
 
-array-read-result : tie.Need-array-read-result
-array-read-result c = c .pre
+run-at : {A : Type 0} (f : ℕ → A) (a : A) (low k n : ℕ) → n < k → getD (run f low k) n a ≡ f (low + n)
+run-at f a low zero n h = absurd (omega arith)
+run-at f a low (suc k) zero h = rw add-zero
+run-at f a low (suc k) (suc n) h = run-at f a (suc low) k n (omega arith) ∙ rw (add-suc, suc-add)
+
+-- the class of three digits stands in the row of their hundred
+class-at : (three row : ℕ) → row < 10 → three / 100 ≡ row → getD (getD classes row []) (three % 100) 0 ≡ classOf three
+unfolding hundred
+class-at three row h e =
+    let at : (0 + row) * 100 + three % 100 ≡ three = omega arith in
+    ap (λ l. getD (getD l row []) (three % 100) 0) rule
+    ∙ ap (λ l. getD l (three % 100) 0) (run-at hundred [] 0 10 row h)
+    ∙ run-at classOf 0 ((0 + row) * 100) 100 (three % 100) (omega arith)
+    ∙ ap classOf at
 
 returns : tie.Need-returns
 unfolding classes
-returns c = let n = c .args .three in ap (λ l. getD l n 0) rule ∙ run-at classOf 0 1000 n (c .pre) ∙ rw zero-add
+returns c = c .class-in .ensures ∙ class-at (c .before .before .before .args .three) 0 (omega arith) (c .before .before .match .keys1)
+
+returns-2 : tie.Need-returns-2
+unfolding classes
+returns-2 c = c .class-in2 .ensures ∙ class-at (c .before .before .before .args .three) 1 (omega arith) (c .before .before .match .keys2)
+
+returns-3 : tie.Need-returns-3
+unfolding classes
+returns-3 c = c .class-in3 .ensures ∙ class-at (c .before .before .before .args .three) 2 (omega arith) (c .before .before .match .keys3)
+
+returns-4 : tie.Need-returns-4
+unfolding classes
+returns-4 c = c .class-in4 .ensures ∙ class-at (c .before .before .before .args .three) 3 (omega arith) (c .before .before .match .keys4)
+
+returns-5 : tie.Need-returns-5
+unfolding classes
+returns-5 c = c .class-in5 .ensures ∙ class-at (c .before .before .before .args .three) 4 (omega arith) (c .before .before .match .keys5)
+
+returns-6 : tie.Need-returns-6
+unfolding classes
+returns-6 c = c .class-in6 .ensures ∙ class-at (c .before .before .before .args .three) 5 (omega arith) (c .before .before .match .keys6)
+
+returns-7 : tie.Need-returns-7
+unfolding classes
+returns-7 c = c .class-in7 .ensures ∙ class-at (c .before .before .before .args .three) 6 (omega arith) (c .before .before .match .keys7)
+
+returns-8 : tie.Need-returns-8
+unfolding classes
+returns-8 c = c .class-in8 .ensures ∙ class-at (c .before .before .before .args .three) 7 (omega arith) (c .before .before .match .keys8)
+
+returns-9 : tie.Need-returns-9
+unfolding classes
+returns-9 c = c .class-in9 .ensures ∙ class-at (c .before .before .before .args .three) 8 (omega arith) (c .before .before .match .keys9)
+
+-- what is none of nine rows is the tenth
+past-four : (n : ℕ) → (n ≡ 0 → ⊥) → (n ≡ 1 → ⊥) → (n ≡ 2 → ⊥) → (n ≡ 3 → ⊥) → (n ≡ 4 → ⊥) → 4 < n
+past-four n a b c d e = omega arith
+
+tenth : (n : ℕ) → n < 1000 → 4 < n / 100 → (n / 100 ≡ 5 → ⊥) → (n / 100 ≡ 6 → ⊥) → (n / 100 ≡ 7 → ⊥) → (n / 100 ≡ 8 → ⊥) → n / 100 ≡ 9
+tenth n h p a b c d = omega arith
+
+returns-10 : tie.Need-returns-10
+unfolding classes
+returns-10 c =
+    let start = c .before .before .before in
+    let three = start .args .three in
+    let rest = c .before .before .match .rest in
+    let five = rest .0 .0 .0 .0 in
+    let past = past-four (three / 100) (five .0 .0 .0 .0 .1) (five .0 .0 .0 .1) (five .0 .0 .1) (five .0 .1) (five .1) in
+    c .class-in10 .ensures
+    ∙ class-at three 9 (search needs) (tenth three (start .pre) past (rest .0 .0 .0 .1) (rest .0 .0 .1) (rest .0 .1) (rest .1))
 
 pub class-of-spec : {M : Type 1} → statement M
-class-of-spec = tie.close (tie.spec array-read-result returns)
+class-of-spec =
+    tie.close
+    (tie.spec
+    (λ c. search needs)
+    (λ c κs. search needs)
+    (λ c. search needs)
+    (λ c κs. search needs)
+    (λ c. search needs)
+    (λ c κs. search needs)
+    (λ c. search needs)
+    (λ c κs. search needs)
+    (λ c. search needs)
+    (λ c κs. search needs)
+    (λ c. search needs)
+    (λ c κs. search needs)
+    (λ c. search needs)
+    (λ c κs. search needs)
+    (λ c. search needs)
+    (λ c κs. search needs)
+    (λ c. search needs)
+    (λ c κs. search needs)
+    (λ c. search needs)
+    (λ c κs. search needs)
+    returns
+    returns-2
+    returns-3
+    returns-4
+    returns-5
+    returns-6
+    returns-7
+    returns-8
+    returns-9
+    returns-10)

@@ -1,6 +1,6 @@
 -- `right` meets its contract: each return is what the checks passed so far, and the one that fails, leave of `isRight`.
 use mathlib.Core.Path.{_≡_}
-use mathlib.Core.Bool.{Bool, true, false, cond, _&&_}
+use mathlib.Core.Bool.{Bool, true, _&&_}
 use borrow.Author.Tests.{eq-eqb}
 use borrow.Author.Needs.{needs}
 use lib.Dec.{eqb}
@@ -8,10 +8,8 @@ use lib.ListN.{length, getD}
 use Rattle.units.specs.declared.kinds.Family.{Family}
 use Rattle.words.specs.declared.records.Word.{Word}
 use Rattle.units.specs.Information.{infoRight}
-use Rattle.units.specs.declared.information.Informed.the-variants.{Not, Right}
 use Rattle.words.specs.Records.{kindIn, unitIn, countOf, countRight, sameWhole}
 use Rattle.units.specs.Counts.{firstOf, secondOf}
-use Rattle.words.proofs.Checks.{informed-not, informed-right}
 use Rattle.figures.proofs.Tests.{failed, passed}
 use Rattle.words.proofs.records.right.Statement.{statement}
 use Rattle.words.proofs.records.right.Tie as tie
@@ -23,81 +21,75 @@ infoIs f w = infoRight f (w .index) (kindIn f w) (getD (w .info) 0 0) (getD (w .
 kind-of-requires : tie.Need-kind-of-requires
 kind-of-requires c κs = search needs
 
-array-read-informed-by : tie.Need-array-read-informed-by
-array-read-informed-by c = search needs
+array-read-info-right : tie.Need-array-read-info-right
+array-read-info-right c = search needs
 
-array-read-informed-by-2 : tie.Need-array-read-informed-by-2
-array-read-informed-by-2 c = search needs
+array-read-info-right-2 : tie.Need-array-read-info-right-2
+array-read-info-right-2 c = search needs
 
-array-read-informed-by-3 : tie.Need-array-read-informed-by-3
-array-read-informed-by-3 c = search needs
+array-read-info-right-3 : tie.Need-array-read-info-right-3
+array-read-info-right-3 c = search needs
 
-array-read-informed-by-4 : tie.Need-array-read-informed-by-4
-array-read-informed-by-4 c = search needs
+array-read-info-right-4 : tie.Need-array-read-info-right-4
+array-read-info-right-4 c = search needs
 
-informed-by-requires : tie.Need-informed-by-requires
-informed-by-requires c κs = search needs
-
-enum-told : tie.Need-enum-told
-enum-told c = search needs
-
-enum-told-2 : tie.Need-enum-told-2
-enum-told-2 c = search needs
+info-right-requires : tie.Need-info-right-requires
+info-right-requires c κs = search needs
 
 -- a record's two arrays are as long as its type says
 long : (c : tie.Start) → eqb (length (c .args .w .info)) 4 && eqb (length (c .args .w .text)) 16 ≡ true
 long c = rw (eq-eqb (length (c .args .w .info)) 4 (search needs), eq-eqb (length (c .args .w .text)) 16 (search needs))
 
 -- the places where a check is passed, each by the next
-abbrev by-info : tie.After-enum-told → tie.Start
-by-info c = c .before .before .before .before .before .before
+abbrev by-info : tie.Else1 → tie.Start
+by-info c = c .before .before .before .before .before
 
-abbrev by-count : tie.Else1 → tie.After-enum-told
+abbrev by-count : tie.Else2 → tie.Else1
 by-count c = c .before .before .before
 
-abbrev by-first : tie.Else2 → tie.Else1
+abbrev by-first : tie.Else3 → tie.Else2
 by-first c = c .before .before .before
 
 -- what each check answers
-informs : (c : tie.After-informed-by) → let a = c .before .before .before .before .args in c .informed-by .result ≡ cond (infoIs (a .family) (a .w)) Right Not
-informs c = rw (← c .before .before .before .kind-of .ensures) (c .informed-by .ensures)
+informs : (c : tie.After-info-right) → let a = c .before .before .before .before .args in c .info-right .result ≡ infoIs (a .family) (a .w)
+informs c = rw (← c .before .before .before .kind-of .ensures) (c .info-right .ensures)
+
+tells : (c : tie.After-count-by) → let a = by-info (c .before) .args in c .count-by .result ≡ countOf (a .family) (a .w)
+tells c = rw (← c .before .before .before .before .before .kind-of .ensures) (c .count-by .ensures)
 
 counts : (c : tie.After-count-right) →
     let a = by-info (c .before .before) .args in
     c .count-right .result ≡ countRight (a .wide) (countOf (a .family) (a .w))
-counts c = rw (← c .before .count-of .ensures) (c .count-right .ensures)
+counts c = rw (← tells (c .before)) (c .count-right .ensures)
 
 firsts : (c : tie.After-same-whole) →
     let a = by-info (by-count (c .before .before)) .args in
     c .same-whole .result ≡ sameWhole (firstOf (countOf (a .family) (a .w))) (a .w .minus) (a .w .size)
-firsts c = rw (← c .before .before .before .before .count-of .ensures, ← c .before .first-of .ensures) (c .same-whole .ensures)
+firsts c = rw (← tells (c .before .before .before .before), ← c .before .first-of .ensures) (c .same-whole .ensures)
 
 seconds : (c : tie.After-same-whole2) →
     let a = by-info (by-count (by-first (c .before .before))) .args in
     c .same-whole2 .result ≡ sameWhole (secondOf (countOf (a .family) (a .w))) (a .w .mmminus) (a .w .mm)
 seconds c =
-    rw (← by-first (c .before .before) .before .before .count-of .ensures, ← c .before .second-of .ensures) (c .same-whole2 .ensures)
+    rw (← tells (by-first (c .before .before) .before .before), ← c .before .second-of .ensures) (c .same-whole2 .ensures)
 
 -- and what one that is passed says
-informed : (c : tie.After-enum-told) → infoIs (by-info c .args .family) (by-info c .args .w) ≡ true
-informed c = informed-right (informs (c .before .before)) (c .enum-told .given .1)
+informed : (c : tie.Else1) → infoIs (by-info c .args .family) (by-info c .args .w) ≡ true
+informed c = passed (informs (c .before)) (c .if1 .left)
 
-counted : (c : tie.Else1) → let a = by-info (by-count c) .args in countRight (a .wide) (countOf (a .family) (a .w)) ≡ true
-counted c = passed (counts (c .before)) (c .if1 .left)
+counted : (c : tie.Else2) → let a = by-info (by-count c) .args in countRight (a .wide) (countOf (a .family) (a .w)) ≡ true
+counted c = passed (counts (c .before)) (c .if2 .left)
 
-same-first : (c : tie.Else2) →
+same-first : (c : tie.Else3) →
     let a = by-info (by-count (by-first c)) .args in
     sameWhole (firstOf (countOf (a .family) (a .w))) (a .w .minus) (a .w .size) ≡ true
-same-first c = passed (firsts (c .before)) (c .if2 .left)
+same-first c = passed (firsts (c .before)) (c .if3 .left)
 
 returns : tie.Need-returns
-returns c =
-    let start = c .before .before .before .before .before .before in
-    let bad : infoIs (start .args .family) (start .args .w) ≡ false = informed-not (informs (c .before .before)) (c .enum-told2 .given .1) in
-    rw (long start, bad)
+returns c = rw (long (c .before .before .before .before .before), failed (informs (c .before)) (c .if1 .taken))
 
-count-of-requires : tie.Need-count-of-requires
-count-of-requires c κs = search needs
+count-by-requires : tie.Need-count-by-requires
+count-by-requires c κs = search needs
 
 count-right-requires : tie.Need-count-right-requires
 count-right-requires c κs = search needs
@@ -105,7 +97,7 @@ count-right-requires c κs = search needs
 returns-2 : tie.Need-returns-2
 returns-2 c =
     let info = c .before .before .before in
-    rw (long (by-info info), informed info, failed (counts (c .before)) (c .if1 .taken))
+    rw (long (by-info info), informed info, failed (counts (c .before)) (c .if2 .taken))
 
 first-of-requires : tie.Need-first-of-requires
 first-of-requires c κs = search needs
@@ -117,7 +109,7 @@ returns-3 : tie.Need-returns-3
 returns-3 c =
     let count = c .before .before .before in
     let info = by-count count in
-    rw (long (by-info info), informed info, counted count, failed (firsts (c .before)) (c .if2 .taken))
+    rw (long (by-info info), informed info, counted count, failed (firsts (c .before)) (c .if3 .taken))
 
 second-of-requires : tie.Need-second-of-requires
 second-of-requires c κs = search needs
@@ -130,7 +122,7 @@ returns-4 c =
     let first = c .before .before .before in
     let count = by-first first in
     let info = by-count count in
-    rw (long (by-info info), informed info, counted count, same-first first, failed (seconds (c .before)) (c .if3 .taken))
+    rw (long (by-info info), informed info, counted count, same-first first, failed (seconds (c .before)) (c .if4 .taken))
 
 text-right-requires : tie.Need-text-right-requires
 text-right-requires c κs = search needs
@@ -140,8 +132,8 @@ returns-5 c =
     let first = c .before .before .before .before in
     let count = by-first first in
     let info = by-count count in
-    let second = passed (seconds (c .before .before)) (c .before .if3 .left) in
-    let kind = info .before .before .before .before .before .kind-of in
+    let second = passed (seconds (c .before .before)) (c .before .if4 .left) in
+    let kind = info .before .before .before .before .kind-of in
     rw (long (by-info info), informed info, counted count, same-first first, second, ← kind .ensures)
     (c .text-right .ensures)
 
@@ -150,15 +142,13 @@ right-spec =
     tie.close
     (tie.spec
     kind-of-requires
-    array-read-informed-by
-    array-read-informed-by-2
-    array-read-informed-by-3
-    array-read-informed-by-4
-    informed-by-requires
-    enum-told
-    enum-told-2
+    array-read-info-right
+    array-read-info-right-2
+    array-read-info-right-3
+    array-read-info-right-4
+    info-right-requires
     returns
-    count-of-requires
+    count-by-requires
     count-right-requires
     returns-2
     first-of-requires
