@@ -2,7 +2,7 @@
    processor time. Both are held to the same answers first; then they take turns in one process, in small batches.
    Usage: bench ROUNDS, which run.sh makes tables of; or bench CASE SIDE PASSES (SIDE is library or C), which plays a case
    so often and looks at no clock, for counters and profilers. Compiled with BEFORE, an earlier build of the library
-   (before_gsi_*) stands in the place of the C; it has no level's functions. */
+   (before_gsi_*) stands in the place of the C; where it has no level's functions, a level's blocks are left out. */
 #include "../tests/reference.h"
 
 int printf(const char *, ...);
@@ -30,6 +30,8 @@ uint64_t gsi_sheet_load(uint8_t *image, size_t n, const uint8_t *sheet, size_t m
 #ifdef BEFORE
 uint64_t before_gsi_read(const uint8_t *block, size_t n, ref_word *list, size_t places);
 uint64_t before_gsi_write(const ref_word *list, size_t words, uint64_t wide, uint64_t crlf, uint8_t *block, size_t room);
+__attribute__((weak)) uint64_t before_gsi_read_level(const uint8_t *block, size_t n, ref_word *list, size_t places);
+__attribute__((weak)) uint64_t before_gsi_write_level(const ref_word *list, size_t words, uint64_t wide, uint64_t crlf, uint8_t *block, size_t room);
 uint64_t before_gsi_line(uint8_t *image, size_t n, const uint8_t *line, size_t m, uint8_t *reply, size_t room);
 uint64_t before_gsi_sheet_write(const uint8_t *image, size_t n, uint8_t *sheet, size_t room);
 uint64_t before_gsi_sheet_load(uint8_t *image, size_t n, const uint8_t *sheet, size_t m);
@@ -51,7 +53,7 @@ static const struct side {
 } sides[2] = {
     {{gsi_read, gsi_read_level}, {gsi_write, gsi_write_level}, gsi_line, gsi_sheet_write, gsi_sheet_load},
 #ifdef BEFORE
-    {{before_gsi_read, ref_read_level}, {before_gsi_write, ref_write_level}, before_gsi_line, before_gsi_sheet_write, before_gsi_sheet_load},
+    {{before_gsi_read, before_gsi_read_level}, {before_gsi_write, before_gsi_write_level}, before_gsi_line, before_gsi_sheet_write, before_gsi_sheet_load},
 #else
     {{ref_read, ref_read_level}, {ref_write, ref_write_level}, ref_line, ref_sheet_write, ref_sheet_load},
 #endif
@@ -472,12 +474,14 @@ struct timed {
 static const struct timed wholes[] = {
     {"blocks read", READ, 0, 1},
     {"blocks written", WRITE, 0, 1},
-    {"a level's read", READ, LEVEL, 1},
-    {"a level's written", WRITE, LEVEL, 1},
     {"lines played", PLAY, 0, 1},
     {"sheets written", SHEET_WRITE, 0, 1},
     {"sheets loaded", SHEET_LOAD, 0, 1},
+    {"a level's read", READ, LEVEL, 1},
+    {"a level's written", WRITE, LEVEL, 1},
 };
+
+enum { LEVEL_WHOLES = 2 };
 
 /* Before a batch, outside the time that is measured: the script starts from the factory, and sheets are loaded over the script's images. */
 static void prepare(enum kind kind)
@@ -615,24 +619,28 @@ int main(int words, char **word)
         return 0;
     }
 
-    for (unsigned family = 0; family < 2; family++) {
+    const unsigned families = sides[1].read[LEVEL] ? 2 : 1;
+    const unsigned whole = COUNT_OF(wholes) - (families == 2 ? 0 : LEVEL_WHOLES);
+
+    for (unsigned family = 0; family < families; family++) {
         check_file(&mixed[family]);
         for (unsigned k = 0; k < LENGTHS; k++)
             check_file(&alike[family][k]);
     }
     check_script();
-    printf("Both sides gave the same answers on %u blocks of %u words of each family, %u lines (%u accepted, %u undo entries standing at the average line) and %u sheets.\n",
-           mixed[STATION].blocks, (unsigned)mixed[STATION].words, LINES, accepted, standing / LINES, STATES);
+    printf("Both sides gave the same answers on %u blocks of %u words of %s, %u lines (%u accepted, %u undo entries standing at the average line) and %u sheets.\n",
+           mixed[STATION].blocks, (unsigned)mixed[STATION].words, families == 2 ? "each family" : "a total station", LINES, accepted, standing / LINES, STATES);
 
     rounds = words == 2 ? (unsigned)atoi(word[1]) : 0;
     if (rounds == 0 || rounds > ROUNDS_MOST)
         rounds = 15;
-    measure(wholes, COUNT_OF(wholes));
-    for (unsigned c = 0; c < COUNT_OF(wholes); c++)
+    measure(wholes, whole);
+    for (unsigned c = 0; c < whole; c++)
         print_row("whole", wholes[c].name, 0, times[c][0], times[c][1]);
     grow("a block read, by its words", READ_ALIKE, lengths, LENGTHS);
     grow("a block written, by its words", WRITE_ALIKE, lengths, LENGTHS);
-    beside("a level's block read, by its words", READ_ALIKE);
+    if (families == 2)
+        beside("a level's block read, by its words", READ_ALIKE);
     grow("a line, by the entries in the undo list", PLAY_DEPTH, depths, DEPTHS);
     return 0;
 }

@@ -47,12 +47,12 @@ awk -F '\t' -v under="$under" '
         if ($1 != "whole" && !($1 in named)) { named[$1] = 1; names[++grown] = $1 }
     }
     END {
-        printf "\n%-16s %8s   %-16s %s\n", "library / " under, "ratio", "four places", "all rounds"
+        printf "\n%-17s %8s   %-16s %s\n", "library / " under, "ratio", "four places", "all rounds"
         for (i = 1; i <= all; i++) {
             split(keys[i], part, FS)
             if (part[1] != "whole") continue
             m = middle(keys[i])
-            printf "%-16s %8.2f   %5.2f to %5.2f   %5.2f to %5.2f\n", part[2], m, value[keys[i], 1], value[keys[i], count[keys[i]]], least[keys[i]], most[keys[i]]
+            printf "%-17s %8.2f   %5.2f to %5.2f   %5.2f to %5.2f\n", part[2], m, value[keys[i], 1], value[keys[i], count[keys[i]]], least[keys[i]], most[keys[i]]
         }
         for (g = 1; g <= grown; g++) {
             printf "\n%-39s%s\n", names[g], columns[names[g]]
