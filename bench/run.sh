@@ -1,8 +1,8 @@
 #!/bin/sh
-# run.sh [ROUNDS [LIBRARY]]: the library's time beside that of the second implementation in plain C, as ratios (docs/BENCHMARK.md); or beside an
+# run.sh [ROUNDS [LIBRARY [PLACES]]]: the library's time beside that of the second implementation in plain C, as ratios (docs/BENCHMARK.md); or beside an
 # earlier build of it, LIBRARY, a libhost.a, whose functions are renamed by an objcopy that knows x86-64.
-# The program is linked four times, a quarter of a page further on each time, and every figure is the median of the four: where the code
-# comes to stand moves a ratio by a tenth, more than the rounds do.
+# The program is linked PLACES times, four if not said, each time further on by as much of a page, and every figure is the median over the places: where
+# the code comes to stand moves a ratio by a tenth, more than the rounds do.
 set -eu
 cd "$(dirname "$0")/.."
 work=$(mktemp -d)
@@ -10,7 +10,7 @@ trap 'rm -rf "$work"' EXIT
 echo "bench/run.sh: proving and building the library, where that isn't done yet .." >&2
 rt staticlib host >"$work/log" 2>&1 || { tail -n 5 "$work/log" >&2 && exit 1; }
 against=bench/bench.c under=C
-if [ $# -gt 1 ]; then
+if [ -n "${2:-}" ]; then
     objcopy=$(command -v x86_64-linux-gnu-objcopy || command -v objcopy)
     "$objcopy" --prefix-symbols=before_ "$2" "$work/before.a"
     (mkdir "$work/before" && cd "$work/before" && "${objcopy%objcopy}ar" x ../before.a)
@@ -21,7 +21,8 @@ if [ $# -gt 1 ]; then
     printf '#define BEFORE\n#include "%s/bench/bench.c"\n' "$PWD" >"$work/against.c"
     against="$work/against.c $work/before/*.o" under=before
 fi
-for shift in 16 1040 2064 3088; do
+places=${3:-4}
+for shift in $(seq 16 $((4096 / places)) 4095 | head -n "$places"); do
     printf '__asm__(".text\\n.zero %s\\n");\n' "$shift" >"$work/shift.c"
     # shellcheck disable=SC2086
     sh tests/c.sh "$work/bench" "$work/shift.c" $against tests/reference.c
@@ -29,7 +30,7 @@ for shift in 16 1040 2064 3088; do
 done
 head -n 1 "$work/rows.16"
 [ "$(uname -m)" = x86_64 ] || echo "This machine is $(uname -m): x86-64 code ran under the kit's emulator, where calls and jumps by table weigh more than on a processor."
-awk -F '\t' -v under="$under" '
+awk -F '\t' -v under="$under" -v places="$places" '
     function middle(key,    i, k, v, n) {
         n = count[key]
         for (i = 2; i <= n; i++)
@@ -47,7 +48,7 @@ awk -F '\t' -v under="$under" '
         if ($1 != "whole" && !($1 in named)) { named[$1] = 1; names[++grown] = $1 }
     }
     END {
-        printf "\n%-17s %8s   %-16s %s\n", "library / " under, "ratio", "four places", "all rounds"
+        printf "\n%-17s %8s   %-16s %s\n", "library / " under, "ratio", (places == 4 ? "four" : places) " places", "all rounds"
         for (i = 1; i <= all; i++) {
             split(keys[i], part, FS)
             if (part[1] != "whole") continue
