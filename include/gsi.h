@@ -20,7 +20,10 @@ extern "C" {
 #define GSI_TOLD(answer) ((uint64_t)((answer) & 0xffffffffu))
 
 /* One word of a block. Signs are 0 for plus and 1 for minus; the value is sign and size, in steps of the unit at info[3]. ppm of a pair is the
-   value, mm stands beside it. Text stands from the start of text, 8 or 16 bytes. What a word doesn't use is 0.
+   value, mm stands beside it. Text stands from the start of text, 8 or 16 bytes. What a word doesn't use is 0, its sign too.
+
+   A minus before zero is kept: `-00000000` is minus 1 and size 0, `+00000000` minus 0 and size 0, and each is written as it was read, in both halves of
+   a pair. A host that compares values and not bytes takes the two for the same number.
 
    A digital level's numbers (32, 83, 330-336, 374, 571-574) count, by the unit at info[3]: '0' 1 mm, '1' 1/1000 ft, '6' 1/10 mm, '7' 1/10,000 ft,
    '8' 1/100 mm, '9' 1/2000 inch (0.0005 inch). An index of three digits, 331 say, stands in index, and info[0], which it leaves unused, is 0; info[1]
@@ -51,18 +54,19 @@ enum { GSI_BLOCK_MOST = 771, GSI_REPLY_MOST = 306, GSI_SHEET_MOST = 352 };
 
 /* Reads the total station's block at the start of n bytes into a list of so many places.
    Read (0): tells GSI_USED, GSI_WORDS, GSI_IS_WIDE and GSI_IS_CRLF; records beyond the words are as before, bytes after the terminator aren't looked at.
-   Refused (1 to 11): tells the place; the whole list is as before. */
+   Refused (1 to 11): tells the place; the whole list is as before. 10 is an angle out of its range, and nothing else. */
 uint64_t gsi_read(const uint8_t *block, size_t n, gsi_word *list, size_t places);
 
 /* Writes so many records as one block of a total station into the room; wide and crlf: 0 is no, any other number is yes.
    Written (0): tells the block's bytes; room beyond them is as before.
-   Refused: 12 for no records or over 32 (tells 0), 13 for the first record that no word of the width gives (tells its number, from 0), 14 for
-   a room shorter than the block (tells the bytes needed); the whole room is as before. */
+   Refused: 12 for no records or over 32 (tells 0), 13 for the first record that no word of the width gives (tells its number, from 0), a minus on text
+   or on the mm of what is no pair included, 14 for a room shorter than the block (tells the bytes needed); the whole room is as before. */
 uint64_t gsi_write(const gsi_word *list, size_t words, uint64_t wide, uint64_t crlf, uint8_t *block, size_t room);
 
 /* The same two for a digital level's block (NA2002, NA3003). What a level's word can't be is refused as gsi_read refuses: 5 for an index that a
-   level doesn't have, a third digit included, 6 for positions 3-6 by the level's rules. 13 is a record that no word of a level gives: one whose index a
-   level doesn't have, an index of three digits with info[0] other than 0, one of two digits (but 11 and 41) without the dot at info[0]. */
+   level doesn't have, a third digit included, 6 for positions 3-6 by the level's rules; 10 never comes. 13 is a record that no word of a level
+   gives: one whose index a level doesn't have, an index of three digits with info[0] other than 0, one of two digits (but 11 and 41) without the
+   dot at info[0]. */
 uint64_t gsi_read_level(const uint8_t *block, size_t n, gsi_word *list, size_t places);
 uint64_t gsi_write_level(const gsi_word *list, size_t words, uint64_t wide, uint64_t crlf, uint8_t *block, size_t room);
 

@@ -1,6 +1,7 @@
-/* driver.c: sweeps the words and records of both families, makes cases by seed and compares the library (gsi_*) with the
-   second implementation (ref_*): the answer and every lent byte. Usage: driver CASES SEED, the sweeps not counted. Status 0
-   when there is no difference and every number was seen. */
+/* driver.c: sweeps the words and records of both families and minus nought wherever it may stand, makes cases by seed and
+   compares the library (gsi_*) with the second implementation (ref_*): the answer and every lent byte. Usage: driver CASES
+   SEED, the sweeps not counted. Status 0 when there is no difference and every number was seen, and minus nought in each
+   function that may have it. */
 #include "reference.h"
 
 int printf(const char *, ...);
@@ -137,7 +138,7 @@ enum { STATION, LEVEL, FAMILIES };
 enum { READ, WRITE = READ + FAMILIES, FACTORY = WRITE + FAMILIES, LINE, SHEET_WRITE, SHEET_LOAD, FUNCTIONS };
 static const char *const names[FUNCTIONS] = {"read", "read_level", "write", "write_level", "factory", "line", "sheet_write", "sheet_load"};
 
-static uint64_t wanted, cases, seed, seen[FUNCTIONS][41];
+static uint64_t wanted, cases, seed, seen[FUNCTIONS][41], with_nought[FUNCTIONS];
 static const char *kind_name;
 static uint64_t *kind_count;
 static int sweeping;
@@ -208,6 +209,48 @@ static int alike(const struct lent *l)
     return memcmp(l->theirs, l->before, l->start) == 0 && memcmp(l->theirs + end, l->before + end, GUARD) == 0;
 }
 
+static int records_have_nought(const uint8_t *records, size_t n)
+{
+    for (size_t i = 0; i < n; i++) {
+        const ref_word *r = (const ref_word *)(const void *)records + i;
+        if ((r->minus && r->size == 0) || (r->mm_minus && r->mm == 0))
+            return 1;
+    }
+    return 0;
+}
+
+static int bytes_have_nought(const uint8_t *p, size_t n)
+{
+    for (size_t i = 0; i + 9 <= n; i++)
+        if (p[i] == '-' && memcmp(p + i + 1, "00000000", 8) == 0)
+            return 1;
+    return 0;
+}
+
+/* Whether a minus nought was accepted in the case: among the records read or written, in the line or its reply, in the sheet. */
+static int has_nought(uint64_t ours)
+{
+    size_t told = ours & 0xFFFFFFFF;
+    if (ours >> 32 != 0)
+        return 0;
+    switch (now.function) {
+    case READ + STATION:
+    case READ + LEVEL:
+        return records_have_nought(list.ours + list.start, told >> 16 & 255);
+    case WRITE + STATION:
+    case WRITE + LEVEL:
+        return records_have_nought(list.before + list.start, list.len / sizeof(ref_word));
+    case LINE:
+        return bytes_have_nought(line.before + line.start, line.len) || bytes_have_nought(reply.ours + reply.start, told);
+    case SHEET_WRITE:
+        return bytes_have_nought(sheet.ours + sheet.start, told);
+    case SHEET_LOAD:
+        return bytes_have_nought(sheet.before + sheet.start, sheet.len);
+    default:
+        return 0;
+    }
+}
+
 static void compare(uint64_t theirs, uint64_t ours)
 {
     cases += !sweeping;
@@ -219,6 +262,8 @@ static void compare(uint64_t theirs, uint64_t ours)
             report(theirs, ours);
     if (ours >> 32 <= 40)
         seen[now.function][ours >> 32] += !sweeping;
+    if (!sweeping)
+        with_nought[now.function] += (uint64_t)has_nought(ours);
     if (cases == wanted)
         finish();
 }
@@ -322,11 +367,10 @@ static void check_write(size_t words, int wide, int crlf, size_t room)
         write_of(!family, words, wide, crlf, room);
 }
 
-/* The run's image goes on from call to call, one on each side; what stands there is then "before". */
+/* An image goes on from call to call, one on each side; what stands there is then "before". */
 static void renew(struct lent *image)
 {
-    if (image == &run)
-        memcpy(run.before, run.theirs, run.total);
+    memcpy(image->before, image->theirs, image->total);
     image->input = 0;
 }
 
@@ -340,38 +384,44 @@ static void check_factory(struct lent *image)
 }
 
 /* Plays the line in src. */
-static void check_line(struct lent *image, size_t m, size_t room)
+static uint64_t check_line(struct lent *image, size_t m, size_t room)
 {
-    uint64_t theirs;
+    uint64_t theirs, ours;
     begin(LINE, image, &line);
     now.lent[2] = &reply;
     renew(image);
     lend(&line, src, m, IN);
     lend(&reply, 0, room, 0);
     theirs = gsi_line(image->theirs + image->start, image->len, line.theirs + line.start, m, reply.theirs + reply.start, room);
-    compare(theirs, ref_line(image->ours + image->start, image->len, line.ours + line.start, m, reply.ours + reply.start, room));
+    ours = ref_line(image->ours + image->start, image->len, line.ours + line.start, m, reply.ours + reply.start, room);
+    compare(theirs, ours);
+    return ours;
 }
 
-static void check_sheet_write(struct lent *image, size_t room)
+static uint64_t check_sheet_write(struct lent *image, size_t room)
 {
-    uint64_t theirs;
+    uint64_t theirs, ours;
     begin(SHEET_WRITE, image, &sheet);
     renew(image);
     image->input = 1;
     lend(&sheet, 0, room, 0);
     theirs = gsi_sheet_write(image->theirs + image->start, image->len, sheet.theirs + sheet.start, room);
-    compare(theirs, ref_sheet_write(image->ours + image->start, image->len, sheet.ours + sheet.start, room));
+    ours = ref_sheet_write(image->ours + image->start, image->len, sheet.ours + sheet.start, room);
+    compare(theirs, ours);
+    return ours;
 }
 
 /* Loads the sheet in src. */
-static void check_sheet_load(struct lent *image, size_t m)
+static uint64_t check_sheet_load(struct lent *image, size_t m)
 {
-    uint64_t theirs;
+    uint64_t theirs, ours;
     begin(SHEET_LOAD, image, &sheet);
     renew(image);
     lend(&sheet, src, m, IN);
     theirs = gsi_sheet_load(image->theirs + image->start, image->len, sheet.theirs + sheet.start, m);
-    compare(theirs, ref_sheet_load(image->ours + image->start, image->len, sheet.ours + sheet.start, m));
+    ours = ref_sheet_load(image->ours + image->start, image->len, sheet.ours + sheet.start, m);
+    compare(theirs, ours);
+    return ours;
 }
 
 /* Words */
@@ -510,8 +560,8 @@ static uint64_t angle_limit(uint8_t unit)
     return unit == '2' ? 40000000 : unit == '3' ? 36000000 : 64000000;
 }
 
-/* Angle digits: right ones, or at the edge of each field. Answers whether they are all 0. */
-static int angle_data(uint8_t *p, unsigned width, uint8_t unit, int edge)
+/* Angle digits: right ones, or at the edge of each field. */
+static void angle_data(uint8_t *p, unsigned width, uint8_t unit, int edge)
 {
     uint64_t v;
     if (unit != '4') {
@@ -531,7 +581,6 @@ static int angle_data(uint8_t *p, unsigned width, uint8_t unit, int edge)
         v = v * 10 + some_size(10);
     }
     digits(p, width, v);
-    return v == 0;
 }
 
 static void lay_index(uint8_t *w, unsigned index)
@@ -539,14 +588,48 @@ static void lay_index(uint8_t *w, unsigned index)
     digits(w, index < 100 ? 2 : 3, index);
 }
 
-/* A word with its blank: right, or with a right form and data at the edges (some of them wrong). */
+/* What may stand at positions 4, 5 and 6 of each kind of number. */
+static const struct form { char kind; const char *fourth, *fifth, *units; } forms[] = {
+    {'a', ".013", ".01234", "2345"},
+    {'l', ".", ".01234", "01678"},
+    {'c', ".", ".01234", "6"},
+    {'p', ".", ".01234", "."},
+    {'m', ".1", ".0124567", "016789"},
+};
+
+/* The form of the kind, 0 for text. */
+static const struct form *form_of(char kind)
+{
+    for (size_t i = 0; i < COUNT_OF(forms); i++)
+        if (forms[i].kind == kind)
+            return &forms[i];
+    return 0;
+}
+
+/* Minus nought in the word of a number: for a pair in either half or in both. */
+static void lay_nought(uint8_t *w, unsigned width, char kind)
+{
+    unsigned halves = kind == 'p' ? 1 + below(3) : 1;
+    if (halves & 1) {
+        w[6] = '-';
+        memset(w + 7, '0', kind == 'p' ? width - 4 : width);
+    }
+    if (halves & 2)
+        memcpy(w + 7 + width - 4, "-000", 4);
+}
+
+/* A word with its blank: right, or with a right form and data at the edges (some angles wrong). */
 static void word_of(uint8_t *w, unsigned width, char kind, unsigned index, int edge)
 {
+    const struct form *form = form_of(kind);
     uint8_t *info = w + 2, *data = w + 7;
-    int zero = 0;
 
     memcpy(info, "....", 4);
-    info[2] = (uint8_t)one_of(".01234");
+    if (form) {
+        info[1] = (uint8_t)one_of(form->fourth);
+        info[2] = (uint8_t)one_of(form->fifth);
+        info[3] = (uint8_t)one_of(form->units);
+    }
     lay_index(w, index);
     w[6] = '+';
     w[7 + width] = ' ';
@@ -554,8 +637,6 @@ static void word_of(uint8_t *w, unsigned width, char kind, unsigned index, int e
     case 'n':
         if (one_in(2))
             digits(info, 4, one_in(4) ? 9999 : below(10000));
-        else
-            info[2] = '.';
         text(data, width);
         return;
     case 't':
@@ -564,33 +645,21 @@ static void word_of(uint8_t *w, unsigned width, char kind, unsigned index, int e
         text(data, width);
         return;
     case 'a':
-        info[1] = (uint8_t)one_of(".013");
-        info[3] = (uint8_t)one_of("2345");
-        zero = angle_data(data, width, info[3], edge);
+        angle_data(data, width, info[3], edge);
         break;
-    case 'p': {
-        uint64_t ppm = edge && one_in(2) ? 0 : some_size(power_of_ten(width - 4)), mm = edge && one_in(2) ? 0 : some_size(1000);
-        info[3] = '.';
-        digits(data, width - 4, ppm);
-        digits(data + width - 3, 3, mm);
-        data[width - 4] = (mm || edge) && one_in(2) ? '-' : '+';
-        zero = ppm == 0;
+    case 'p':
+        digits(data, width - 4, edge && one_in(2) ? 0 : some_size(power_of_ten(width - 4)));
+        digits(data + width - 3, 3, edge && one_in(2) ? 0 : some_size(1000));
+        data[width - 4] = one_in(2) ? '-' : '+';
+        break;
+    default:
+        digits(data, width, edge && one_in(3) ? 0 : some_size(power_of_ten(width)));
         break;
     }
-    default: {
-        uint64_t v = edge && one_in(3) ? 0 : some_size(power_of_ten(width));
-        info[3] = (uint8_t)one_of(kind == 'l' ? "01678" : kind == 'm' ? "016789" : "6");
-        if (kind == 'm') {
-            info[1] = (uint8_t)one_of(".1");
-            info[2] = (uint8_t)one_of(".0124567");
-        }
-        digits(data, width, v);
-        zero = v == 0;
-        break;
-    }
-    }
-    if ((!zero || edge) && one_in(2))
+    if (one_in(2))
         w[6] = '-';
+    if (one_in(8))
+        lay_nought(w, width, kind);
 }
 
 /* A block in src, of so many words; what follows it is tempting. */
@@ -884,7 +953,7 @@ static void damage_record(ref_word *r)
     static const uint8_t firsts[] = {0, 0, '.', '.', '0', '1', '/', ':', ' ', 255};
     static const uint8_t signs[] = {0, 1, 1, 1, 2, 3, '+', '-', 128, 255};
     char kind;
-    switch (below(17)) {
+    switch (below(18)) {
     case 0:
         r->index = one_in(2) ? (uint16_t)below(1000) : PICK(indexes);
         break;
@@ -930,9 +999,13 @@ static void damage_record(ref_word *r)
     case 8:
         r->mm = extreme();
         break;
-    case 9:
+    case 9: /* minus nought, which text can't have */
         r->minus = 1;
         r->size = 0;
+        break;
+    case 15: /* the same of mm, which only a pair has */
+        r->mm_minus = 1;
+        r->mm = 0;
         break;
     default: {
         unsigned at = below(16);
@@ -958,10 +1031,10 @@ static void write_extremes(void)
     for (unsigned i = 0; i < words; i++) {
         ref_word *r = &records[i];
         if (r->text[0] == 0) {
-            r->size = extreme();
+            r->size = one_in(8) ? 0 : extreme();
             r->minus = (uint8_t)below(2);
             if (r->index == 51) {
-                r->mm = extreme();
+                r->mm = one_in(8) ? 0 : extreme();
                 r->mm_minus = (uint8_t)below(2);
                 if (one_in(2))
                     r->size = some_size(10000);
@@ -1174,19 +1247,6 @@ static void sweep_records(void)
     }
 }
 
-static void sweep(void)
-{
-    sweeping = 1;
-    for (family = 0; family < FAMILIES; family++) {
-        kind_count = &swept[family];
-        sweep_words();
-        sweep_infos();
-        sweep_records();
-    }
-    family = STATION;
-    sweeping = 0;
-}
-
 /* States */
 
 static const struct { uint8_t number, highest; } settings[SETTINGS] = {
@@ -1208,10 +1268,11 @@ static void put_word(uint8_t *w, unsigned place, int edge)
     if (kind == 'l') {
         w[5] = (uint8_t)one_of("01");
     } else if (kind == 'a') {
-        int zero;
         w[5] = (uint8_t)one_of("234");
-        zero = angle_data(w + 7, 8, w[5], edge);
-        w[6] = (!zero || edge) && one_in(2) ? '-' : '+';
+        angle_data(w + 7, 8, w[5], edge);
+        w[6] = one_in(2) ? '-' : '+';
+        if (one_in(8))
+            lay_nought(w, 8, kind);
     }
 }
 
@@ -1242,7 +1303,7 @@ static void spoil_value(uint8_t *v, unsigned place)
     case 3:
         v[2] = one_in(2) ? (uint8_t)(v[2] ^ 1) : (uint8_t)below(256);
         break;
-    case 4: /* minus zero */
+    case 4: /* minus nought, which text can't have */
         memset(v + 3, '0', 8);
         v[2] = 1;
         break;
@@ -2052,19 +2113,24 @@ static void image_settings(void)
 /* The sheet of some state, in src, and the starts of its lines. */
 static size_t starts[32];
 
-static void make_sheet(void)
+static void lay_sheet(const uint8_t *s)
 {
-    uint8_t s[IMAGE];
     unsigned lines = 0;
-    if (one_in(4))
-        memcpy(s, standing(), IMAGE);
-    else
-        make_state(s);
     len = (size_t)(ref_sheet_write(s, IMAGE, src, MOST) & 0xFFFFFFFF);
     starts[lines++] = 0;
     for (size_t i = 0; i < len && lines < 32; i++)
         if (src[i] == LF)
             starts[lines++] = i + 1;
+}
+
+static void make_sheet(void)
+{
+    uint8_t s[IMAGE];
+    if (one_in(4))
+        memcpy(s, standing(), IMAGE);
+    else
+        make_state(s);
+    lay_sheet(s);
 }
 
 /* The image a sheet is loaded into: seldom the run's, whose undo list a load empties. */
@@ -2246,6 +2312,589 @@ static void sheet_random(void)
     check_sheet_load(some_target(), len);
 }
 
+/* Sweeps of minus nought. #102: "Accept minus before zero in angles, lengths, constants and both halves of a pair, in blocks,
+   PUT words and sheets, and keep the sign so that the bytes come back." What a case is to give is said here as well, so that
+   a sign which both sides lose is seen too. */
+
+static uint64_t swept_noughts[FAMILIES + 1]; /* blocks and records by family, then lines, images and sheets */
+
+static void unasked(const char *what, uint64_t got)
+{
+    printf("not what is asked: %s\n", what);
+    report(got, got);
+}
+
+/* Numbers by index and information: every one of the family, or those with dots at positions 4 and 5. */
+static struct number { char kind; uint8_t first; uint16_t index; uint8_t info[4]; } numbers[1400];
+static unsigned number_count;
+
+static void list_numbers(int plain)
+{
+    number_count = 0;
+    for (const struct row *row = rows[family]; row->kind; row++) {
+        const struct form *form = form_of(row->kind);
+        for (unsigned i = 0; form && i < row->count; i++)
+            for (const char *fourth = form->fourth; *fourth; fourth++)
+                for (const char *fifth = form->fifth; *fifth; fifth++)
+                    for (const char *unit = form->units; *unit; unit++) {
+                        struct number *n = &numbers[number_count];
+                        if (plain && (*fourth != '.' || *fifth != '.'))
+                            continue;
+                        n->kind = row->kind;
+                        n->first = i == 0;
+                        n->index = row->index[i];
+                        n->info[0] = '.';
+                        n->info[1] = (uint8_t)*fourth;
+                        n->info[2] = (uint8_t)*fifth;
+                        n->info[3] = (uint8_t)*unit;
+                        number_count++;
+                    }
+    }
+}
+
+/* The records that the block in src is to give. */
+static ref_word asked[32];
+
+/* Nought, one, or the leading digit alone. */
+static uint64_t magnitude(unsigned which, unsigned width)
+{
+    return which == 2 ? power_of_ten(width - 1) : which;
+}
+
+enum { MINUS = 1, MM_MINUS = 2 };
+
+/* Lays the number's word at a place of the block in src, and the record that it is to give. */
+static void ask_number(unsigned place, const struct number *n, unsigned signs, unsigned value, unsigned mm)
+{
+    unsigned width = block_wide ? 16 : 8, figures = n->kind == 'p' ? width - 4 : width;
+    uint8_t *w = src + word_start(place);
+    ref_word *r = &asked[place];
+
+    memset(r, 0, sizeof *r);
+    memcpy(w + 2, n->info, 4);
+    lay_index(w, n->index);
+    w[6] = signs & MINUS ? '-' : '+';
+    r->index = n->index;
+    memcpy(r->info, n->info, 4);
+    if (n->index >= 100)
+        r->info[0] = 0;
+    r->minus = signs & MINUS ? 1 : 0;
+    r->size = magnitude(value, n->kind == 'a' ? 8 : figures);
+    digits(w + 7, figures, r->size);
+    if (n->kind == 'a' && n->info[3] == '4' && value == 2)
+        r->size = 3600000; /* 100 degrees */
+    if (n->kind == 'p') {
+        r->mm_minus = signs & MM_MINUS ? 1 : 0;
+        r->mm = magnitude(mm, 3);
+        w[7 + width - 4] = r->mm_minus ? '-' : '+';
+        digits(w + 7 + width - 3, 3, r->mm);
+    }
+    w[7 + width] = ' ';
+}
+
+/* The same with text that has a minus of its own, before noughts. */
+static void ask_text(unsigned place)
+{
+    unsigned width = block_wide ? 16 : 8;
+    uint8_t *w = src + word_start(place);
+    ref_word *r = &asked[place];
+    memset(r, 0, sizeof *r);
+    r->index = 11;
+    memset(r->info, '.', 4);
+    memset(r->text, '0', width);
+    r->text[0] = '-';
+    memcpy(w, "11....+", 7);
+    memcpy(w + 7, r->text, width);
+    w[7 + width] = ' ';
+}
+
+static void end_block(unsigned words, int crlf)
+{
+    block_words = words;
+    if (block_wide)
+        src[0] = '*';
+    len = word_start(words);
+    src[len++] = CR;
+    if (crlf)
+        src[len++] = LF;
+}
+
+static uint64_t read_src(void)
+{
+    lend(&block, src, len, IN);
+    lend(&list, 0, 32 * sizeof(ref_word), ALIGNED);
+    return read_lent(family, 32);
+}
+
+/* The block in src gives the records asked, they its bytes, and these the same once more. */
+static void there_and_back(void)
+{
+    uint64_t whole = len | block_words << 16 | block_wide << 24 | (uint64_t)(src[len - 1] == LF) << 25;
+    for (int time = 0; time < 2; time++) {
+        uint64_t read = read_src();
+        if (read != whole)
+            unasked("the block isn't read", read);
+        if (memcmp(list.theirs + list.start, asked, block_words * sizeof(ref_word)) != 0) {
+            hex("asked", (const uint8_t *)asked, block_words * sizeof(ref_word));
+            unasked("the records are others", read);
+        }
+        write_back(family, read);
+        memcpy(src, block.theirs + block.start, len);
+    }
+}
+
+/* The block in src is refused so. */
+static void ask_refusal(unsigned number, size_t told)
+{
+    uint64_t read = read_src();
+    if (read != ((uint64_t)number << 32 | told))
+        unasked("the refusal is another", read);
+}
+
+static unsigned signs_of(const struct number *n)
+{
+    return n->kind == 'p' ? 4 : 2;
+}
+
+/* Every index with all that its information may be, alone: each sign before nought, one and the leading digit, in each half of
+   a pair. The other family's reader gets the same. */
+static void sweep_noughts_alone(void)
+{
+    list_numbers(0);
+    for (unsigned i = 0; i < number_count; i++)
+        for (unsigned signs = 0; signs < signs_of(&numbers[i]); signs++)
+            for (unsigned value = 0; value < 3; value++)
+                for (unsigned mm = 0; mm < (numbers[i].kind == 'p' ? 3 : 1); mm++) {
+                    ask_number(0, &numbers[i], signs, value, mm);
+                    end_block(1, (int)(i & 1));
+                    there_and_back();
+                    read_of(!family, len, 32);
+                }
+}
+
+/* Every index and unit first, in the midst and last, beside text and the same word with the other signs; then 32 of them. */
+static void sweep_noughts_among(void)
+{
+    list_numbers(1);
+    for (unsigned i = 0; i < number_count; i++) {
+        const struct number *n = &numbers[i];
+        for (unsigned signs = 0; signs < signs_of(n); signs++)
+            for (unsigned value = 0; value < 2; value++)
+                for (unsigned mm = 0; mm < (n->kind == 'p' ? 2 : 1); mm++)
+                    for (unsigned place = 0; place < 3; place++) {
+                        ask_number(place, n, signs, value, mm);
+                        ask_text((place + 1) % 3);
+                        ask_number((place + 2) % 3, n, signs ^ (MINUS | MM_MINUS), 0, 0);
+                        end_block(3, (int)(place & 1));
+                        there_and_back();
+                    }
+        for (unsigned place = 0; place < 32; place++)
+            ask_number(place, &numbers[(i + place) % number_count], MINUS | MM_MINUS, 0, 0);
+        end_block(32, (int)(i & 1));
+        there_and_back();
+    }
+}
+
+/* Each value of each byte from the sign to the end, for each kind and unit. */
+static void sweep_noughts_bytes(void)
+{
+    list_numbers(1);
+    for (unsigned i = 0; i < number_count; i++) {
+        if (!numbers[i].first)
+            continue;
+        ask_number(0, &numbers[i], MINUS | MM_MINUS, 0, 0);
+        end_block(1, 1);
+        for (size_t at = block_wide + 6; at < len; at++)
+            sweep_byte(at);
+    }
+}
+
+/* What a minus is still refused for: #102: "10 now means angle out of range alone", either sign before it; and text, by 7. */
+static void sweep_noughts_refused(void)
+{
+    static const struct { char unit; uint64_t data; } beyond[] = {
+        {'2', 40000000}, {'2', 99999999}, {'3', 36000000}, {'3', 40000000}, {'4', 36000000}, {'4', 60000}, {'4', 600},
+        {'4', 99999999}, {'5', 64000000}, {'5', 99999999}, {'2', 1000000000000000}, {'3', 100000000}, {'4', 100000000},
+        {'4', 1000000000000000}, {'5', 1000000000000000}};
+    unsigned width = block_wide ? 16 : 8;
+    list_numbers(1);
+    for (unsigned i = 0; i < number_count; i++)
+        for (size_t k = 0; numbers[i].kind == 'a' && k < COUNT_OF(beyond); k++)
+            for (unsigned signs = 0; signs < 2; signs++) {
+                if (beyond[k].unit != numbers[i].info[3] || beyond[k].data >= power_of_ten(width))
+                    continue;
+                ask_number(0, &numbers[i], MINUS, 0, 0);
+                ask_number(1, &numbers[i], signs, 0, 0);
+                digits(src + word_start(1) + 7, width, beyond[k].data);
+                end_block(2, 0);
+                ask_refusal(10, word_start(1));
+            }
+    for (const struct row *row = rows[family]; row->kind; row++)
+        for (unsigned i = 0; !form_of(row->kind) && i < row->count; i++)
+            for (unsigned noughts = 0; noughts < 2; noughts++) {
+                ask_number(0, &numbers[0], MINUS, 0, 0);
+                ask_text(1);
+                lay_index(src + word_start(1), row->index[i]);
+                src[word_start(1) + 6] = '-';
+                if (noughts)
+                    src[word_start(1) + 7] = '0';
+                end_block(2, 0);
+                ask_refusal(7, word_start(1));
+            }
+}
+
+/* Writes the record after so many of those asked: it is written and read again where a word gives it, else refused by 13. */
+static void ask_record(const ref_word *r, int is_text, int is_pair, unsigned among)
+{
+    uint64_t wrote, read;
+    int right = r->minus < 2 && r->mm_minus < 2;
+    if (is_text)
+        right = !r->minus && !r->size;
+    if (!is_pair)
+        right = right && !r->mm_minus && !r->mm;
+    memcpy(records, asked, among * sizeof *r);
+    records[among] = *r;
+    len = block_length(among + 1, (int)block_wide, 0);
+    wrote = write_of(family, among + 1, (int)block_wide, 0, len);
+    if (wrote != (right ? len : UINT64_C(13) << 32 | among))
+        unasked(right ? "the record isn't written" : "the record isn't refused", wrote);
+    if (!right)
+        return;
+    memcpy(src, block.theirs + block.start, len);
+    if (src[word_start(among) + 6] != (r->minus ? '-' : '+') || (is_pair && src[len - 6] != (r->mm_minus ? '-' : '+')))
+        unasked("the sign is lost", wrote);
+    read = read_src();
+    if (read >> 32 != 0 || memcmp(list.theirs + list.start, records, (among + 1) * sizeof(ref_word)) != 0)
+        unasked("the record doesn't come back", read);
+}
+
+/* A record of each index and unit with each sign before nought and before one, text of noughts too. */
+static void sweep_noughts_records(void)
+{
+    static const uint8_t signs[] = {0, 1, 2, 255};
+    list_numbers(1);
+    /* What stands before it, where it isn't alone: text, and a number with minus nought. */
+    ask_text(0);
+    ask_number(1, &numbers[0], MINUS, 0, 0);
+    for (const struct row *row = rows[family]; row->kind; row++) {
+        const struct form *form = form_of(row->kind);
+        for (unsigned i = 0; i < row->count; i++)
+            for (const char *unit = form ? form->units : "."; *unit; unit++)
+                for (unsigned k = 0; k < 2 * 2 * 2 * 4 * 4; k++) {
+                    ref_word r;
+                    memset(&r, 0, sizeof r);
+                    r.index = row->index[i];
+                    memset(r.info, '.', 4);
+                    if (r.index >= 100)
+                        r.info[0] = 0;
+                    r.info[3] = (uint8_t)*unit;
+                    memset(r.text, '0', form ? 0 : block_wide ? 16 : 8);
+                    r.size = k >> 1 & 1;
+                    r.mm = k >> 2 & 1;
+                    r.minus = signs[k >> 3 & 3];
+                    r.mm_minus = signs[k >> 5];
+                    ask_record(&r, !form, row->kind == 'p', k & 1 ? 2 : 0);
+                }
+    }
+}
+
+static void sweep_noughts_of_blocks(void)
+{
+    kind_name = "sweep of minus nought";
+    kind_count = &swept_noughts[family];
+    for (block_wide = 0; block_wide < 2; block_wide++) {
+        sweep_noughts_alone();
+        sweep_noughts_among();
+        sweep_noughts_bytes();
+        sweep_noughts_refused();
+        sweep_noughts_records();
+    }
+    block_wide = 0;
+}
+
+/* Lays the factory state down in the image. */
+static void lay_factory(struct lent *image)
+{
+    lend(image, 0, IMAGE, 0);
+    check_factory(image);
+}
+
+/* Plays the line in src with its end; its number and reply are these. */
+static void ask_line(struct lent *image, unsigned number, const void *answered, size_t n)
+{
+    uint64_t got;
+    say("\r\n");
+    got = check_line(image, len, 306);
+    len = 0;
+    if (number == 31 ? got != UINT64_C(31) << 32 : got != ((uint64_t)number << 32 | (n + 2)))
+        unasked("the line is answered otherwise", got);
+    if (number != 31 && (memcmp(reply.theirs + reply.start, answered, n) != 0 || memcmp(reply.theirs + reply.start + n, "\r\n", 2) != 0))
+        unasked("the reply is another", got);
+}
+
+static void ask_plain(struct lent *image, const char *said, unsigned number)
+{
+    len = 0;
+    say(said);
+    ask_line(image, number, number ? "@W127" : "?", number ? 5 : 1);
+}
+
+/* The word that a PUT names, or that GET answers and the sheet has. */
+static const uint8_t *value_word(unsigned place, int put, char unit, char sign, const char *data)
+{
+    static uint8_t w[16];
+    memset(w, '.', 6);
+    digits(w, 2, stored[place]);
+    if (!put && place >= 2)
+        w[4] = '1';
+    w[5] = (uint8_t)unit;
+    w[6] = (uint8_t)sign;
+    memcpy(w + 7, data, 8);
+    w[15] = ' ';
+    return w;
+}
+
+static void ask_put(struct lent *image, unsigned number, unsigned place, char unit, char sign, const char *data)
+{
+    len = 0;
+    say("PUT/");
+    memcpy(src + len, value_word(place, 1, unit, sign, data), 16);
+    len += 16;
+    ask_line(image, number, number ? "@W127" : "?", number ? 5 : 1);
+}
+
+static void ask_get(struct lent *image, unsigned number, unsigned place, char unit, char sign, const char *data)
+{
+    len = 0;
+    say("GET/I/WI");
+    say_number(stored[place]);
+    if (number)
+        ask_line(image, number, "@W127", 5);
+    else
+        ask_line(image, 0, value_word(place, 0, unit, sign, data), 16);
+}
+
+/* The image's sheet is the one in src. */
+static void ask_sheet(struct lent *image)
+{
+    uint64_t wrote = check_sheet_write(image, 352);
+    if (wrote != len || memcmp(sheet.theirs + sheet.start, src, len) != 0)
+        unasked("the sheet is another", wrote);
+}
+
+static void ask_load(struct lent *image, unsigned number, size_t told)
+{
+    uint64_t got = check_sheet_load(image, len);
+    if (got != ((uint64_t)number << 32 | told))
+        unasked("the sheet is loaded otherwise", got);
+}
+
+static void ask_same(const struct lent *image, const uint8_t *s, size_t n)
+{
+    if (memcmp(image->theirs + image->start, s, n) != 0)
+        unasked("the state is another", 0);
+}
+
+/* Whether a PUT of that unit and sign is right where the data are. */
+static int may_put(unsigned place, char unit, char sign)
+{
+    if (place < 2)
+        return unit == '.' && sign == '+';
+    return place < 4 ? unit >= '2' && unit <= '4' : unit == '0' || unit == '1';
+}
+
+/* The factory's state, and one with text and minus nought in every value. */
+static uint8_t factory_state[IMAGE], nought_state[IMAGE];
+
+/* One of the value's units. */
+static char unit_for(unsigned place, unsigned which)
+{
+    return place < 2 ? '.' : place < 4 ? "234"[which % 3] : "01"[which % 2];
+}
+
+/* Every value put, all of them got, the sheet and back, and all of them undone. */
+static void sweep_noughts_together(unsigned which)
+{
+    uint8_t words[VALUES * 16];
+    lay_factory(&run);
+    memcpy(factory_state, standing(), IMAGE);
+    for (unsigned place = 0; place < VALUES; place++) {
+        char unit = unit_for(place, which + place), sign = place < 2 ? '+' : '-';
+        ask_put(&run, 0, place, unit, sign, "00000000");
+        memcpy(words + 16 * place, value_word(place, 0, unit, sign, "00000000"), 16);
+    }
+    memcpy(nought_state, standing(), IMAGE);
+    say("GET/I");
+    for (unsigned place = 0; place < VALUES; place++) {
+        say("/WI");
+        say_number(stored[place]);
+    }
+    ask_line(&run, 0, words, sizeof words);
+    lay_sheet(factory_state);
+    for (unsigned place = VALUES; place > 0; place--)
+        splice(starts[20 + place] - 1, 0, words + 16 * (place - 1), 15);
+    ask_sheet(&run);
+    lay_factory(&spare);
+    ask_load(&spare, 0, 0);
+    ask_same(&spare, nought_state, AT_COUNT);
+    ask_sheet(&spare);
+    for (unsigned i = 0; i < VALUES; i++)
+        ask_plain(&run, "UNDO", 0);
+    ask_plain(&run, "UNDO", 29);
+    ask_same(&run, factory_state, IMAGE);
+}
+
+/* One value with a unit, a sign and data: put, got, in the sheet and back, undone. */
+static void sweep_noughts_value(unsigned place, char unit, char sign, const char *data)
+{
+    int right = may_put(place, unit, sign);
+    char other = sign == '-' ? '+' : '-';
+    uint8_t w[16];
+    memcpy(w, value_word(place, 0, unit, sign, data), 16);
+
+    /* "26 and 40 follow": the PUT and the sheet's line are right together. */
+    lay_factory(&run);
+    ask_put(&run, right ? 0 : 26, place, unit, sign, data);
+    ask_get(&run, right ? 0 : 27, place, unit, sign, data);
+    lay_sheet(factory_state);
+    if (!right)
+        ask_sheet(&run);
+    splice(starts[20 + place] + 4, 0, w, 15);
+    if (right)
+        ask_sheet(&run);
+    lay_factory(&spare);
+    ask_load(&spare, right ? 0 : 40, right ? 0 : starts[20 + place]);
+    ask_same(&spare, right ? standing() : factory_state, AT_COUNT);
+    if (right)
+        ask_sheet(&spare);
+    ask_get(&spare, right ? 0 : 27, place, unit, sign, data);
+    ask_plain(&spare, "UNDO", 29);
+    /* The line among the others' minus noughts. */
+    lay_sheet(nought_state);
+    splice(starts[20 + place] + 4, 15, w, 15);
+    lay_factory(&spare);
+    ask_load(&spare, right ? 0 : 40, right ? 0 : starts[20 + place]);
+    if (right)
+        ask_sheet(&spare);
+    ask_plain(&run, "UNDO", right ? 0 : 29);
+    ask_same(&run, factory_state, IMAGE);
+    ask_get(&run, 27, place, unit, sign, data);
+    if (!right || !may_put(place, unit, other))
+        return;
+
+    /* One sign put over the other, and taken back. */
+    ask_put(&run, 0, place, unit, other, data);
+    ask_put(&run, 0, place, unit, sign, data);
+    ask_get(&run, 0, place, unit, sign, data);
+    ask_plain(&run, "UNDO", 0);
+    ask_get(&run, 0, place, unit, other, data);
+    ask_plain(&run, "UNDO", 0);
+    ask_get(&run, 27, place, unit, sign, data);
+    ask_plain(&run, "UNDO", 29);
+    ask_put(&run, 0, place, unit, sign, data);
+    ask_plain(&run, "KEEP", 0);
+    ask_plain(&run, "UNDO", 29);
+    ask_get(&run, 0, place, unit, sign, data);
+}
+
+/* 64 entries of both signs before nought, and back. */
+static void sweep_noughts_undone(void)
+{
+    enum { ENTRIES = 64, NUMBERS = VALUES - 2 };
+    lay_factory(&run);
+    for (unsigned i = 0; i < ENTRIES; i++)
+        ask_put(&run, 0, 2 + i % NUMBERS, unit_for(2 + i % NUMBERS, i), (i + i / NUMBERS) % 2 ? '+' : '-', "00000000");
+    ask_put(&run, 28, 5, '0', '-', "00000000");
+    ask_put(&run, 26, 5, '2', '-', "00000000");
+    for (unsigned i = ENTRIES; i-- > 0;) {
+        unsigned place = 2 + i % NUMBERS, before = i - NUMBERS;
+        ask_plain(&run, "UNDO", 0);
+        if (i < NUMBERS)
+            ask_get(&run, 27, place, 0, 0, "        ");
+        else
+            ask_get(&run, 0, place, unit_for(place, before), (before + before / NUMBERS) % 2 ? '+' : '-', "00000000");
+    }
+    ask_plain(&run, "UNDO", 29);
+    ask_same(&run, factory_state, IMAGE);
+}
+
+/* 31: "each value never put or as a PUT can leave it", standing and in an entry, whatever byte the sign is. */
+static void sweep_noughts_images(unsigned place, char unit)
+{
+    for (unsigned sign = 0; sign < 256; sign++)
+        for (unsigned entry = 0; entry < 2; entry++) {
+            int right = sign == 0 || (sign == 1 && place >= 2);
+            uint8_t *v;
+            memcpy(state, nought_state, IMAGE);
+            state[AT_COUNT + 1] = (uint8_t)entry;
+            memset(state + AT_ENTRIES, 0, 64 * 14);
+            v = state + AT_VALUES + 11 * place;
+            if (entry) {
+                state[AT_ENTRIES] = 2;
+                state[AT_ENTRIES + 1] = (uint8_t)place;
+                v = state + AT_ENTRIES + 3;
+            }
+            v[0] = 1;
+            v[1] = (uint8_t)unit;
+            v[2] = (uint8_t)sign;
+            memset(v + 3, '0', 8);
+            lend_state(IMAGE);
+            if (!right) {
+                ask_plain(&spare, "KEEP", 31);
+                check_sheet_write(&spare, 352);
+                continue;
+            }
+            if (entry)
+                ask_plain(&spare, "UNDO", 0);
+            ask_get(&spare, 0, place, unit, sign ? '-' : '+', "00000000");
+            check_sheet_write(&spare, 352);
+        }
+}
+
+static void sweep_noughts_of_lines(void)
+{
+    kind_name = "sweep of minus nought";
+    kind_count = &swept_noughts[FAMILIES];
+    for (unsigned which = 0; which < 6; which++)
+        sweep_noughts_together(which);
+    for (unsigned place = 0; place < VALUES; place++)
+        for (const char *unit = ".0123456789"; *unit; unit++) {
+            for (unsigned k = 0; k < 4; k++)
+                sweep_noughts_value(place, *unit, k & 1 ? '-' : '+', k & 2 ? "00000001" : "00000000");
+            if (may_put(place, *unit, '+'))
+                sweep_noughts_images(place, *unit);
+        }
+    sweep_noughts_undone();
+    /* An angle out of range, with a minus too. */
+    lay_factory(&run);
+    for (unsigned place = 2; place < 4; place++)
+        for (unsigned minus = 0; minus < 2; minus++) {
+            char sign = minus ? '-' : '+';
+            ask_put(&run, 26, place, '2', sign, "40000000");
+            ask_put(&run, 26, place, '3', sign, "36000000");
+            ask_put(&run, 26, place, '4', sign, "36000000");
+            ask_put(&run, 26, place, '4', sign, "00060000");
+            ask_put(&run, 26, place, '4', sign, "00000600");
+        }
+    ask_same(&run, factory_state, IMAGE);
+    len = 0;
+}
+
+static void sweep(void)
+{
+    sweeping = 1;
+    for (family = 0; family < FAMILIES; family++) {
+        kind_count = &swept[family];
+        sweep_words();
+        sweep_infos();
+        sweep_records();
+        sweep_noughts_of_blocks();
+    }
+    family = STATION;
+    sweep_noughts_of_lines();
+    sweeping = 0;
+}
+
 /* The whole */
 
 /* The kinds of case, those of blocks and records for each family in the same share. */
@@ -2301,10 +2950,10 @@ static struct { const char *name; void (*make)(void); unsigned weight, families;
     {"sheet random", sheet_random, 1, 1, {0}},
 };
 
-/* The numbers each function can answer, as bits. */
+/* The numbers each function can answer, as bits; a level's reader has no 10. */
 #define BITS(from, to) ((((uint64_t)2 << (to)) - 1) & ~(((uint64_t)1 << (from)) - 1))
 static const uint64_t possible[FUNCTIONS] = {
-    BITS(0, 11), BITS(0, 11), 1 | BITS(12, 14), 1 | BITS(12, 14), 1 | BITS(31, 31), 1 | BITS(20, 31), 1 | BITS(30, 31),
+    BITS(0, 11), BITS(0, 9) | BITS(11, 11), 1 | BITS(12, 14), 1 | BITS(12, 14), 1 | BITS(31, 31), 1 | BITS(20, 31), 1 | BITS(30, 31),
     1 | BITS(31, 31) | BITS(40, 40)};
 
 /* The cases of a family's reader and writer. */
@@ -2326,6 +2975,12 @@ static void finish(void)
             printf("%s %s%s %llu", i || of ? "," : "", of == LEVEL ? "level " : "", kinds[i].name, (unsigned long long)kinds[i].count[of]);
     printf("\nby family: station %llu, level %llu", (unsigned long long)seen_of(STATION), (unsigned long long)seen_of(LEVEL));
     printf("\nsweeps before: station %llu, level %llu", (unsigned long long)swept[STATION], (unsigned long long)swept[LEVEL]);
+    printf("\nsweeps of minus nought: station %llu, level %llu, lines and sheets %llu", (unsigned long long)swept_noughts[STATION],
+           (unsigned long long)swept_noughts[LEVEL], (unsigned long long)swept_noughts[FAMILIES]);
+    printf("\nwith minus nought:");
+    for (unsigned f = 0; f < FUNCTIONS; f++)
+        if (f != FACTORY)
+            printf("%s %s %llu", f ? "," : "", names[f], (unsigned long long)with_nought[f]);
     printf("\nby number:");
     for (unsigned number = 0; number <= 40; number++) {
         uint64_t sum = 0;
@@ -2341,6 +2996,11 @@ static void finish(void)
                 printf("%s never answered %u\n", names[f], number);
                 missing = 1;
             }
+    for (unsigned f = 0; f < FUNCTIONS; f++)
+        if (f != FACTORY && with_nought[f] == 0) {
+            printf("%s never had a minus nought\n", names[f]);
+            missing = 1;
+        }
     exit(missing);
 }
 

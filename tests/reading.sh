@@ -50,6 +50,10 @@ printf 'block=1 at=0 refused=6 place=32\nblocks=1 accepted=0 refused=1\n' >"$wor
 printf '110006+00003000 32..00+00016380 331106+00010198 \r\n' | same "$work/station" "a level's block as a total station's"
 printf 'block=1 at=0 width=8 end=CR words=1 bytes=17\nword=1 index=332 info=.09 count=-101981 step=1/2000in reads=-50.9905in\nblocks=1 accepted=1 refused=0\n' >"$work/inch"
 printf '332.09-00101981 \r' | same "$work/inch" "inches" level
+printf 'block=1 at=0 width=8 end=CR words=2 bytes=33\nword=1 index=573 info=..0 count=-0 step=1/1000m reads=-0.000m\nword=2 index=332 info=.09 count=-0 step=1/2000in reads=-0.0000in\nblocks=1 accepted=1 refused=0\n' >"$work/level-nought"
+printf '573..0-00000000 332.09-00000000 \r' | same "$work/level-nought" "a level's minus nought" level
+printf 'block=1 at=0 width=16 end=CR words=3 bytes=74\nword=1 index=21 info=.104 count=-0 step=1/10s reads=-0-00-00.0\nword=2 index=51 info=..1. ppm=-0 mm=-0\nword=3 index=58 info=..16 count=-0 step=1/10mm reads=-0.0mm\nblocks=1 accepted=1 refused=0\n' >"$work/nought"
+printf '*21.104-0000000000000000 51..1.-000000000000-000 58..16-0000000000000000 \r' | same "$work/nought" "minus nought of a total station, wide"
 usage "another word" levels
 usage "a longer word" a-word-that-is-longer-than-any-that-counts
 usage "an empty word" ''

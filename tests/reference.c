@@ -1,6 +1,6 @@
-/* reference.c: a second implementation of document 01 and document 02's request 101 in plain C: the block of either
-   family, the line machine and the sheet. What stands in quotes is the documents' own sentence; the image's bytes are
-   those of IMAGE.md. */
+/* reference.c: a second implementation of document 01 and document 02's requests 101 and 102 in plain C: the block of
+   either family, the line machine and the sheet. What stands in quotes is the documents' own sentence; the image's bytes
+   are those of IMAGE.md. */
 #include "reference.h"
 
 enum { CR = 13, LF = 10, MOST_WORDS = 32 };
@@ -273,13 +273,12 @@ static unsigned read_word(unsigned family, const uint8_t *word, size_t width, re
     if (data[width] != ' ')
         return 9;
 
-    /* 10: "minus before zero, or angle out of range"; "A minus before zero is refused, in either half of a pair too." */
-    if ((minus && size == 0) || (mm_minus && mm == 0))
-        return 10;
+    /* #102: "10 now means angle out of range alone": a level's word has none. */
     if (kind == ANGLE && !angle_size(word[5], size, &size))
         return 10;
 
-    /* "a value, mm or text byte its word doesn't use is 0" */
+    /* "a value, mm or text byte its word doesn't use is 0"; #102: "keep the sign so that the bytes come back", before zero
+       too. */
     record->index = (uint16_t)index;
     copy(record->info, info, 4);
     record->minus = (uint8_t)minus;
@@ -373,11 +372,12 @@ static int record_right(unsigned family, const ref_word *r, size_t width)
         return all_zero(r->text + width, 16 - width);
     }
 
-    /* Signs are 0 or 1, and "a minus before zero is refused, in either half of a pair too". */
-    if (r->minus > 1 || r->mm_minus > 1 || (r->minus && r->size == 0) || (r->mm_minus && r->mm == 0))
+    /* Signs are 0 or 1. #102: "Accept minus before zero in angles, lengths, constants and both halves of a pair", so that
+       either sign goes with any size. */
+    if (r->minus > 1 || !all_zero(r->text, 16))
         return 0;
-    /* Only a pair has an mm: elsewhere it is 0, and so is its sign, by the rule just judged. */
-    if (r->mm > (kind == PAIR ? 999u : 0u) || !all_zero(r->text, 16))
+    /* Only a pair has an mm and its sign: elsewhere no word gives one that isn't 0. */
+    if (r->mm > (kind == PAIR ? 999u : 0u) || r->mm_minus > (kind == PAIR ? 1u : 0u))
         return 0;
     switch (kind) {
     case ANGLE:
@@ -507,7 +507,8 @@ static int value_right(unsigned place, const uint8_t *v)
                 return 0;
         return v[2] == 0;
     }
-    if (!read_digits(data, 8, &size) || (v[2] == 1 && size == 0))
+    /* #102: "Accept minus before zero ... in blocks, PUT words and sheets": the sign asks nothing of the digits. */
+    if (!read_digits(data, 8, &size))
         return 0;
     return kind != ANGLE || angle_size(v[1], size, &size);
 }
@@ -641,7 +642,8 @@ static unsigned judge_put(const uint8_t *word, unsigned entries, struct request 
     r->place = place_of_value(word);
     if (r->place == VALUES)
         return 25;
-    /* 26: "A PUT word has dots at 3-5 (3-6 for text) and otherwise obeys the block rules", with the value's units. */
+    /* 26: "A PUT word has dots at 3-5 (3-6 for text) and otherwise obeys the block rules", with the value's units. #102:
+       "26 and 40 follow": a minus before zero breaks no rule. */
     if (word[2] != '.' || word[3] != '.' || word[4] != '.')
         return 26;
     if (word[5] < values[r->place].unit_from || word[5] > values[r->place].unit_to)

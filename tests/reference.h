@@ -1,4 +1,4 @@
-/* reference.h: a second implementation of document 01 and request 101 in plain C, which the library is compared with.
+/* reference.h: a second implementation of document 01 and requests 101 and 102 in plain C, which the library is compared with.
    The functions and the record are those of the C interface, under the prefix ref_. */
 #ifndef REFERENCE_H
 #define REFERENCE_H
@@ -9,8 +9,8 @@
 typedef struct {
     uint16_t index;   /* the two-digit number, or a level's three-digit one */
     uint8_t info[4];  /* positions 3-6; the first is 0 where position 3 belongs to the index */
-    uint8_t minus;    /* 1 when the value (of a pair: ppm) has a minus */
-    uint8_t mm_minus; /* 1 when a pair's mm has a minus */
+    uint8_t minus;    /* 1 when the value (of a pair: ppm) has a minus, before 0 too */
+    uint8_t mm_minus; /* 1 when a pair's mm has a minus, before 0 too */
     uint64_t size;
     uint64_t mm;
     uint8_t text[16];

@@ -1,5 +1,5 @@
 /* selftest.c: checks the second implementation alone against the worked readings of document 01, the level's listing of
-   003 and what is easy to slip on. Prints `ok`, or the lines of this file whose reading failed. */
+   003, request 102's minus nought and what is easy to slip on. Prints `ok`, or the lines of this file whose reading failed. */
 #include "reference.h"
 
 int printf(const char *, ...);
@@ -97,9 +97,10 @@ static void check_proved_blocks(void)
     CHECK(reading("21.104+35959599 \r") == READ(17, 1, 0, 0) && list[0].size == 12959999);
     writes_back("21.104+35959599 \r", 1, 0, 0);
     CHECK(reading("21.104+00060000 \r") == ANSWER(10, 0));
-    /* P6 */
+    /* P6; #102: "Case P6's second half changes." */
     CHECK(reading("82..00-00213159 \r") == READ(17, 1, 0, 0) && list[0].size == 213159 && list[0].minus == 1);
-    CHECK(reading("82..00-00000000 \r") == ANSWER(10, 0));
+    CHECK(reading("82..00-00000000 \r") == READ(17, 1, 0, 0) && list[0].size == 0 && list[0].minus == 1);
+    writes_back("82..00-00000000 \r", 1, 0, 0);
     /* P7 */
     CHECK(reading("331106+00010198 \r") == ANSWER(6, 0));
     /* "000's `17920860` is 179.20860 gon" */
@@ -154,8 +155,6 @@ static void check_block_slips(void)
     CHECK(reading("21.102+40000000x\r") == ANSWER(9, 0));
     CHECK(reading("51..1.+0009*00x \r") == ANSWER(8, 0));
     CHECK(reading("51..1.+000x+000 \r") == ANSWER(8, 0));
-    CHECK(reading("51..1.+0001-000 \r") == ANSWER(10, 0));
-    CHECK(reading("51..1.-0000+001 \r") == ANSWER(10, 0));
     CHECK(reading("51..1.-0009-002 \r") == READ(17, 1, 0, 0) && list[0].minus == 1 && list[0].mm_minus == 1 &&
           list[0].size == 9 && list[0].mm == 2);
     CHECK(reading("*51..1.+123456789012-345 \r") == READ(26, 1, 1, 0) && list[0].size == 123456789012 && list[0].mm == 345);
@@ -230,7 +229,6 @@ static void check_writer(void)
     REFUSED(1, r.size = 10000000000000000);
     WRITTEN(0, r.minus = 1);
     REFUSED(0, r.minus = 2);
-    REFUSED(0, r.minus = 1; r.size = 0);
     REFUSED(0, r.mm_minus = 1);
     REFUSED(0, r.mm = 1);
     REFUSED(0, r.text[0] = 33);
@@ -246,9 +244,7 @@ static void check_writer(void)
     REFUSED(1, r.size = 1000000000000);
     REFUSED(0, r.mm = 1000);
     WRITTEN(0, r.mm_minus = 1);
-    REFUSED(0, r.mm_minus = 1; r.mm = 0);
     REFUSED(0, r.mm_minus = 2);
-    REFUSED(0, r.minus = 1; r.size = 0);
 
     CHECK(reading("21.324+27952530 \r") == READ(17, 1, 0, 0));
     right = list[0];
@@ -391,10 +387,9 @@ static void check_levels(void)
     CHECK(numbers("32..03+00010198 ", 6, 6) && numbers("32..30+00010198 ", 0, 6) && numbers("32..40+00010198 ", 0, 0));
     CHECK(numbers("32..50+00010198 ", 6, 0) && numbers("83.070+00010198 ", 6, 6) && numbers("83..0.+00010198 ", 6, 6));
 
-    /* The order within a word, and minus zero. */
+    /* The order within a word. */
     CHECK(numbers("337xxx*xxxxxxxxx", 6, 5) && numbers("331105*xxxxxxxxx", 6, 6) && numbers("331106*xxxxxxxxx", 6, 7));
-    CHECK(numbers("331106-0000000xx", 6, 8) && numbers("331106-00000000x", 6, 9) && numbers("331106-00000000 ", 6, 10));
-    CHECK(numbers("573..0-00000000 ", 5, 10) && numbers("573..0-00000001 ", 5, 0) && numbers("83..06-00000000 ", 10, 10));
+    CHECK(numbers("331106-0000000xx", 6, 8) && numbers("331106-00000000x", 6, 9) && numbers("573..0-00000001 ", 5, 0));
     CHECK(numbers("331106+99999999 ", 6, 0) && numbers("331106+0001+198 ", 6, 8) && numbers("331106+00010198\r", 6, 9));
 
     /* Wide words, and what a block has in common. */
@@ -403,7 +398,6 @@ static void check_levels(void)
     CHECK(list[0].size == 9999999999999999 && list[0].minus == 1 && memcmp(list[0].info, "\000.79", 4) == 0);
     CHECK(list[1].index == 521 && memcmp(list[1].info, "\0...", 4) == 0 && memcmp(list[1].text, "ABCDEFGHIJKLMNOP", 16) == 0);
     writes_back("*331.79-9999999999999999 521...+ABCDEFGHIJKLMNOP 110007+0000000000004000 \r", 3, 1, 0);
-    CHECK(reading("*331.79-0000000000000000 \r") == ANSWER(10, 1));
     CHECK(reading("331106+00010198 337106+00010198 \r") == ANSWER(5, 16));
     CHECK(reading("331106+00010198 ") == ANSWER(2, 16) && reading("331106+00010198") == ANSWER(2, 0) && reading("\r") == ANSWER(3, 0));
     CHECK(reading_in("331106+00010198 331106+00010198 \r", 33, 1) == ANSWER(11, 16) && reading("") == ANSWER(1, 0));
@@ -422,7 +416,6 @@ static void check_levels(void)
     WRITTEN(0, r.size = 99999999);
     REFUSED(0, r.size = 100000000);
     REFUSED(1, r.size = 10000000000000000);
-    REFUSED(0, r.minus = 1; r.size = 0);
     REFUSED(0, r.minus = 2);
     REFUSED(0, r.mm = 1);
     REFUSED(0, r.mm_minus = 1);
@@ -464,6 +457,173 @@ static void check_levels(void)
     REFUSED(0, r.index = 53; r.info[0] = '.');
     REFUSED(1, (void)0);
     family = &station;
+}
+
+/* Minus nought, in blocks and records */
+
+/* Reads one word with a CR and checks its record's signs and sizes, that it comes back, and that what comes back with another
+   sign is another record. */
+static void keeps(const char *word, unsigned minus, uint64_t size, unsigned mm_minus, uint64_t mm)
+{
+    char block[40];
+    size_t n = strlen(word);
+    int wide = word[0] == '*';
+    ref_word first;
+    memcpy(block, word, n);
+    memcpy(block + n, "\r", 2);
+    CHECK(reading(block) == READ(n + 1, 1, wide, 0));
+    CHECK(list[0].minus == minus && list[0].size == size && list[0].mm_minus == mm_minus && list[0].mm == mm);
+    writes_back(block, 1, wide, 0);
+    /* #102: "Records with different signs are different." */
+    first = list[0];
+    block[wide + 6] = minus ? '+' : '-';
+    CHECK(reading(block) == READ(n + 1, 1, wide, 0) && list[0].minus == !minus);
+    list[0].minus = (uint8_t)minus;
+    CHECK(memcmp(&list[0], &first, sizeof first) == 0);
+}
+
+/* The word of the index and information with minus nought for its data, in either width. */
+static void keeps_nought(const char *start)
+{
+    char word[] = "*......-0000000000000000 ";
+    memcpy(word + 1, start, 6);
+    keeps(word, 1, 0, 0, 0);
+    memcpy(word + 16, " ", 2);
+    keeps(word + 1, 1, 0, 0, 0);
+}
+
+static void check_minus_nought(void)
+{
+    static const char *const of_station[] = {
+        "21.102", "21.103", "21.104", "21.105", "22.002", "22.333", "22..14", "22.3.5", "24...2", "24..03", "24.104", "24.345",
+        "31..00", "31..01", "31..06", "31..07", "31..08", "32..10", "33...1", "34..46", "81..00", "82..01", "83..06", "84..17",
+        "85..28", "86..30", "87..41", "88...6", "58..06", "58...6", "59..16", "59..46"};
+    static const char *const of_level[] = {
+        "32...0", "32.101", "83..16", "83..29", "330106", "331..0", "331..1", "331..6", "331..7", "331..8", "331..9", "332.79",
+        "333106", "334.40", "335151", "336.68", "374.17", "571..0", "572106", "573..0", "574..9"};
+    static const char *const pairs[] = {
+        "+0000-000", "-0000+000", "-0000-000", "+0001-000", "-0000+001", "-0001-000", "-0000-001", "-0000-999", "-9999-000"};
+    char wide[] = "*51..1.+000000000000+000 ";
+
+    /* "Accept minus before zero in angles, lengths, constants" */
+    family = &station;
+    for (size_t i = 0; i < sizeof of_station / sizeof *of_station; i++)
+        keeps_nought(of_station[i]);
+    family = &level;
+    for (size_t i = 0; i < sizeof of_level / sizeof *of_level; i++)
+        keeps_nought(of_level[i]);
+    family = &station;
+
+    /* "and both halves of a pair" */
+    for (size_t i = 0; i < sizeof pairs / sizeof *pairs; i++) {
+        char word[] = "51..1.+0000+000 ";
+        unsigned minus = pairs[i][0] == '-', mm_minus = pairs[i][5] == '-';
+        uint64_t ppm = pairs[i][1] == '9' ? 9999 : (uint64_t)(pairs[i][4] - '0');
+        uint64_t mm = pairs[i][6] == '9' ? 999 : (uint64_t)(pairs[i][8] - '0');
+        memcpy(word + 6, pairs[i], 9);
+        keeps(word, minus, ppm, mm_minus, mm);
+        wide[7] = pairs[i][0];
+        memcpy(wide + 16, pairs[i] + 1, 8);
+        keeps(wide, minus, ppm, mm_minus, mm);
+    }
+    keeps("*51....-100000000000-000 ", 1, 100000000000, 1, 0);
+    keeps("*51....-000000000000-100 ", 1, 0, 1, 100);
+    /* Nought is all of the digits. */
+    keeps("*31..00-1000000000000000 ", 1, 1000000000000000, 0, 0);
+    keeps("*31..00-0000000100000000 ", 1, 100000000, 0, 0);
+    keeps("21.104-10000000 ", 1, 3600000, 0, 0);
+
+    /* Among other words, each with its own sign. */
+    CHECK(reading("110014+00000003 82..00-00000000 82..00+00000000 51..1.-0000-000 82..00-00000001 21.324-00000000 \r\n") == READ(98, 6, 0, 1));
+    CHECK(list[0].minus == 0 && list[1].minus == 1 && list[2].minus == 0 && list[3].minus == 1 && list[3].mm_minus == 1);
+    CHECK(list[1].size == 0 && list[2].size == 0 && list[4].minus == 1 && list[4].size == 1 && list[5].minus == 1 && list[5].size == 0);
+    writes_back("110014+00000003 82..00-00000000 82..00+00000000 51..1.-0000-000 82..00-00000001 21.324-00000000 \r\n", 6, 0, 1);
+    family = &level;
+    CHECK(reading("110008+00004000 573..0-00000000 574..0+00000000 83..06-00000000 \r\n") == READ(66, 4, 0, 1));
+    CHECK(list[1].minus == 1 && list[1].size == 0 && list[2].minus == 0 && list[3].minus == 1 && list[3].size == 0);
+    writes_back("110008+00004000 573..0-00000000 574..0+00000000 83..06-00000000 \r\n", 4, 0, 1);
+
+    /* "10 now means angle out of range alone": with a minus too, and never a level's. */
+    CHECK(numbers("21.102-39999999 ", 0, 5) && numbers("21.102-40000000 ", 10, 5) && numbers("21.102-99999999 ", 10, 5));
+    CHECK(numbers("22.103-35999999 ", 0, 5) && numbers("22.103-36000000 ", 10, 5) && numbers("24.105-63999999 ", 0, 5));
+    CHECK(numbers("24.105-64000000 ", 10, 5) && numbers("21.104-35959599 ", 0, 5) && numbers("21.104-36000000 ", 10, 5));
+    CHECK(numbers("21.104-00060000 ", 10, 5) && numbers("21.104-00000600 ", 10, 5) && numbers("21.104-00000599 ", 0, 5));
+    CHECK(numbers("*21.102-0000000040000000 ", 10, 5) && numbers("*21.102-1000000000000000 ", 10, 5));
+    CHECK(numbers("*21.104-0000000100000000 ", 10, 5) && numbers("*21.104-0000000036000000 ", 10, 5));
+    CHECK(numbers("573..0-00000000 ", 5, 0) && numbers("573..0-99999999 ", 5, 0) && numbers("*573..0-9999999999999999 ", 5, 0));
+    CHECK(numbers("83..06-00000000 ", 0, 0) && numbers("32..00-00000000 ", 0, 0) && numbers("331106-00000000 ", 6, 0));
+    /* What stands before 10 is as it was. */
+    CHECK(numbers("31..02-00000000 ", 6, 5) && numbers("31..00*00000000 ", 7, 5) && numbers("31..00--0000000 ", 8, 5));
+    CHECK(numbers("31..00-0000000. ", 8, 5) && numbers("31..00-00000000x", 9, 5) && numbers("31..00-00000000\r", 9, 5));
+    CHECK(numbers("51..1.-0000x000 ", 8, 5) && numbers("51..1.-0000-00- ", 8, 5) && numbers("51..1.-0000-000x", 9, 5));
+    /* Text has `+` only as before. */
+    CHECK(numbers("11....-00000000 ", 7, 7) && numbers("410001-00000000 ", 7, 7) && numbers("42....-00000000 ", 7, 7));
+    CHECK(numbers("13....-00000000 ", 7, 5) && numbers("52....-00000000 ", 7, 7) && numbers("79....-00000000 ", 7, 5));
+    CHECK(numbers("57....-00000000 ", 5, 7) && numbers("521...-00000000 ", 6, 7) && numbers("*71....-0000000000000000 ", 7, 5));
+
+    /* The same as records for the writer. */
+    family = &station;
+    for (size_t i = 0; i < sizeof of_station / sizeof *of_station + sizeof of_level / sizeof *of_level; i++) {
+        size_t of_others = sizeof of_station / sizeof *of_station;
+        char word[] = "......+00000001 \r", nought[] = "*......-0000000000000000 \r";
+        const char *start = i < of_others ? of_station[i] : of_level[i - of_others];
+        family = i < of_others ? &station : &level;
+        memcpy(word, start, 6);
+        memcpy(nought + 1, start, 6);
+        CHECK(reading(word) == READ(17, 1, 0, 0));
+        right = list[0];
+        WRITTEN(1, r.minus = 1; r.size = 0);
+        CHECK(memcmp(room, nought, 26) == 0);
+        memcpy(nought + 16, " \r", 3);
+        WRITTEN(0, r.minus = 1; r.size = 0);
+        CHECK(memcmp(room, nought + 1, 17) == 0);
+        WRITTEN(0, r.size = 0);
+        CHECK(room[6] == '+');
+        /* A sign is 0 or 1, and one without an mm is no word's. */
+        for (unsigned sign = 2; sign < 256; sign++) {
+            REFUSED(0, r.minus = (uint8_t)sign; r.size = 0);
+            REFUSED(1, r.mm_minus = (uint8_t)sign; r.size = 0);
+        }
+        REFUSED(0, r.mm_minus = 1);
+        REFUSED(0, r.mm_minus = 1; r.size = 0);
+        REFUSED(1, r.mm_minus = 1; r.minus = 1; r.size = 0);
+        REFUSED(0, r.mm_minus = 1; r.mm = 1);
+    }
+    family = &station;
+    CHECK(reading("51..1.+0009+001 \r") == READ(17, 1, 0, 0));
+    right = list[0];
+    WRITTEN(0, r.minus = 1; r.size = 0);
+    CHECK(memcmp(room, "51..1.-0000+001 \r", 17) == 0);
+    WRITTEN(0, r.mm_minus = 1; r.mm = 0);
+    CHECK(memcmp(room, "51..1.+0009-000 \r", 17) == 0);
+    WRITTEN(0, r.minus = r.mm_minus = 1; r.size = r.mm = 0);
+    CHECK(memcmp(room, "51..1.-0000-000 \r", 17) == 0);
+    WRITTEN(1, r.minus = r.mm_minus = 1; r.size = r.mm = 0);
+    CHECK(memcmp(room, "*51..1.-000000000000-000 \r", 26) == 0);
+    for (unsigned sign = 2; sign < 256; sign++) {
+        REFUSED(0, r.minus = (uint8_t)sign; r.size = 0);
+        REFUSED(0, r.mm_minus = (uint8_t)sign; r.mm = 0);
+    }
+    /* A minus on text is no record, text of noughts too. */
+    for (int i = 0; i < 4; i++) {
+        static const char *const texts[] = {"11....+00000000 \r", "13..12+00000000 \r", "410001+00000000 \r", "521...+00000000 \r"};
+        family = i < 2 ? &station : &level;
+        CHECK(reading(texts[i]) == READ(17, 1, 0, 0));
+        right = list[0];
+        WRITTEN(0, (void)0);
+        REFUSED(0, r.minus = 1);
+        REFUSED(0, r.mm_minus = 1);
+        REFUSED(0, r.minus = r.mm_minus = 1);
+        REFUSED(1, memset(r.text, '0', 16); r.minus = 1);
+    }
+    family = &station;
+    /* The first such record of a list. */
+    CHECK(reading("31..00-00000000 51..1.-0000-000 13....+00000000 \r") == READ(49, 3, 0, 0));
+    CHECK(family->write(list, 3, 0, 0, room, sizeof room) == ANSWER(0, 49));
+    list[2].minus = 1;
+    CHECK(family->write(list, 3, 0, 0, room, sizeof room) == ANSWER(13, 2));
+    list[0].mm_minus = 1;
+    CHECK(family->write(list, 3, 0, 0, room, sizeof room) == ANSWER(13, 0));
 }
 
 /* Lines */
@@ -624,7 +784,7 @@ static void check_line_slips(void)
     CHECK(play("PUT/16....-00001550 ") == 26 && play("PUT/16..1.+00001550 ") == 26);
     CHECK(play("PUT/21...5+00001550 ") == 26 && play("PUT/21...2-39999999 ") == 0 && play("PUT/21...2+40000000 ") == 26);
     CHECK(play("PUT/21...3+36000000 ") == 26 && play("PUT/21...4+36000000 ") == 26 && play("PUT/21...4+35959599 ") == 0);
-    CHECK(play("PUT/24...4+00060000 ") == 26 && play("PUT/83...0-00000000 ") == 26 && play("PUT/83...0+00000000 ") == 0);
+    CHECK(play("PUT/24...4+00060000 ") == 26 && play("PUT/83...0+00000000 ") == 0);
 
     /* GET: "its first index by 25 then 27, then the next likewise" */
     CHECK(play("GET/I/WI21/WI11/WI21") == 0 && replied("21..14+35959599 11....+A-~!*x.0 21..14+35959599 \r\n"));
@@ -690,7 +850,6 @@ static void check_states(void)
     NO_STATE(image[21] = 1);
     NO_STATE(image[132] = 2);
     NO_STATE(image[131] = '2');
-    NO_STATE(memcpy(image + 133, "00000000", 8); image[132] = 1);
     NO_STATE(image[141] = 1);
     NO_STATE(image[142] = 1);
     NO_STATE(image[142] = 3);
@@ -801,11 +960,115 @@ static void check_sheets(void)
     CHECK(load_with(14, 0, "s30=1\n") == ANSWER(40, 20));
     CHECK(load_with(14, 12, "s32=0\ns30=1\n") == ANSWER(40, 14));
     CHECK(load_with(n - 16, 15, "88...0+00001550") == ANSWER(40, n - 20));
-    CHECK(load_with(n - 16, 15, "88..10-00000000") == ANSWER(40, n - 20));
     CHECK(load_with(n - 16, 15, "88..16+00000000") == ANSWER(40, n - 20));
     CHECK(load_with(n - 16, 15, "87..10+00000000") == ANSWER(40, n - 20));
     CHECK(load_with(n - 16, 15, "88..11-00000001") == 0);
     CHECK(load_with(n - 16, 15, "") == 0 && play("GET/I/WI88") == 27);
+}
+
+/* Minus nought, in lines, images and sheets */
+
+/* The start of the value's line in a sheet. */
+static size_t line_of(const char *sheet, const char *key)
+{
+    size_t at = 0;
+    while (memcmp(sheet + at, key, 4) != 0)
+        at++;
+    return at;
+}
+
+static void check_minus_nought_put(void)
+{
+    static const char index[][3] = {"11", "16", "21", "24", "34", "83", "84", "85", "86", "87", "88"};
+    char full[400];
+    uint8_t sheet[400], whole[1039];
+
+    /* Each stored value and each unit: "26 and 40 follow". */
+    for (size_t i = 0; i < sizeof index / sizeof *index; i++)
+        for (const char *unit = ".0123456789"; *unit; unit++) {
+            char put[] = "PUT/.......00000000 ", got[] = "......-00000000 \r\n", get[] = "GET/I/WI..", key[] = "v..=";
+            int right = i < 2 ? 0 : i < 4 ? *unit >= '2' && *unit <= '4' : *unit == '0' || *unit == '1';
+            size_t at;
+            memcpy(put + 4, index[i], 2);
+            memcpy(got, index[i], 2);
+            memcpy(get + 8, index[i], 2);
+            memcpy(key + 1, index[i], 2);
+            put[9] = got[5] = *unit;
+            put[10] = '-';
+            got[4] = i < 2 ? '.' : '1';
+            fresh();
+            CHECK(play(put) == (right ? 0 : 26));
+            /* The sheet's line, in the example. */
+            at = line_of(example, key);
+            got[15] = 0;
+            CHECK(load_with(at + 4, i == 10 ? 15 : 0, got) == (right ? 0 : ANSWER(40, at)));
+            got[15] = ' ';
+            if (!right)
+                continue;
+            CHECK(play(get) == 0 && replied(got));
+            CHECK(ref_sheet_write(image, sizeof image, sheet, sizeof sheet) == ANSWER(0, i == 10 ? 202 : 217));
+            CHECK(memcmp(sheet + at + 4, got, 15) == 0);
+            /* UNDO brings either sign back, and "never put". */
+            fresh();
+            put[10] = '+';
+            CHECK(play(put) == 0);
+            put[10] = '-';
+            CHECK(play(put) == 0 && play(get) == 0 && replied(got));
+            CHECK(ref_sheet_write(image, sizeof image, sheet, sizeof sheet) == ANSWER(0, 202));
+            memcpy(whole, image, sizeof whole);
+            put[10] = '+';
+            CHECK(play(put) == 0 && play("UNDO") == 0 && memcmp(image, whole, sizeof whole) == 0);
+            CHECK(play(get) == 0 && replied(got));
+            CHECK(play("UNDO") == 0 && play(get) == 0);
+            got[6] = '+';
+            CHECK(replied(got));
+            CHECK(play("UNDO") == 0 && play(get) == 27);
+            /* "a sheet with it loads", and gives the same sheet. */
+            CHECK(load((const char *)sheet, 202) == 0 && play(get) == 0);
+            got[6] = '-';
+            CHECK(replied(got) && play("UNDO") == 29);
+            CHECK(ref_sheet_write(image, sizeof image, (uint8_t *)full, 202) == ANSWER(0, 202) && memcmp(full, sheet, 202) == 0);
+        }
+
+    /* 26 with a minus: an angle out of range, text. */
+    fresh();
+    CHECK(play("PUT/21...2-40000000 ") == 26 && play("PUT/21...3-36000000 ") == 26 && play("PUT/21...4-00060000 ") == 26);
+    CHECK(play("PUT/11....-00000001 ") == 26 && play("PUT/83...0-00000000x") == 26 && play("PUT/83..10-00000000 ") == 26);
+    CHECK(play("PUT/82...0-00000000 ") == 25 && play("PUT/51....-0000-000 ") == 25);
+
+    /* All of them at once. */
+    CHECK(play("PUT/21...2-00000000 ") == 0 && play("PUT/24...4-00000000 ") == 0 && play("PUT/34...1-00000000 ") == 0);
+    CHECK(play("PUT/83...0-00000000 ") == 0 && play("PUT/84...1-00000000 ") == 0 && play("PUT/85...0-00000000 ") == 0);
+    CHECK(play("PUT/86...1-00000000 ") == 0 && play("PUT/87...0-00000000 ") == 0 && play("PUT/88...1-00000000 ") == 0);
+    CHECK(play("GET/I/WI21/WI24/WI34/WI83/WI84/WI85/WI86/WI87/WI88") == 0);
+    CHECK(replied("21..12-00000000 24..14-00000000 34..11-00000000 83..10-00000000 84..11-00000000 85..10-00000000 "
+                  "86..11-00000000 87..10-00000000 88..11-00000000 \r\n"));
+    CHECK(ref_sheet_write(image, sizeof image, sheet, sizeof sheet) == ANSWER(0, 322));
+    memcpy(full, sheet, 322);
+    CHECK(load(full, 322) == 0 && play("UNDO") == 29);
+    CHECK(ref_sheet_write(image, sizeof image, sheet, sizeof sheet) == ANSWER(0, 322) && memcmp(full, sheet, 322) == 0);
+    /* A sign that text can't have, and angles out of range, at their lines. */
+    CHECK(load_with(line_of(example, "v11=") + 4, 0, "11....-00000000") == ANSWER(40, line_of(example, "v11=")));
+    CHECK(load_with(line_of(example, "v21=") + 4, 0, "21..12-40000000") == ANSWER(40, line_of(example, "v21=")));
+    CHECK(load_with(line_of(example, "v24=") + 4, 0, "24..14-00000600") == ANSWER(40, line_of(example, "v24=")));
+
+    /* 31: "each value never put or as a PUT can leave it", standing or in an entry. */
+    fresh();
+    CHECK(play("PUT/88...0+00000000 ") == 0 && play("PUT/88...0+00000001 ") == 0 && play("PUT/11....+00000000 ") == 0);
+    memcpy(whole, image, sizeof whole);
+    image[132] = 1;
+    CHECK(play("GET/I/WI88") == 0 && replied("88..10-00000001 \r\n"));
+    image[140] = '0';
+    CHECK(play("GET/I/WI88") == 0 && replied("88..10-00000000 \r\n"));
+    image[162] = 1; /* the second entry's sign */
+    CHECK(play("UNDO") == 0 && play("UNDO") == 0 && play("GET/I/WI88") == 0 && replied("88..10-00000000 \r\n"));
+    CHECK(play("UNDO") == 0 && play("GET/I/WI88") == 27);
+    memcpy(image, whole, sizeof whole);
+    image[22] = 1; /* 11's sign */
+    CHECK(play("KEEP") == 31);
+    memcpy(image, whole, sizeof whole);
+    image[162] = 2;
+    CHECK(play("KEEP") == 31);
 }
 
 int main(void)
@@ -814,10 +1077,12 @@ int main(void)
     check_block_slips();
     check_writer();
     check_levels();
+    check_minus_nought();
     check_proved_lines();
     check_line_slips();
     check_states();
     check_sheets();
+    check_minus_nought_put();
     if (failures == 0)
         printf("ok\n");
     return failures != 0;

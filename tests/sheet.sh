@@ -1,5 +1,5 @@
 #!/bin/sh
-# The program sheet at the edges of its input: nothing, a last piece without CR, 65,536 bytes, and one more.
+# The program sheet at the edges of its input: nothing, a last piece without CR, 65,536 bytes, and one more; and with a minus nought.
 set -eu
 cd "$(dirname "$0")/.."
 work=$(mktemp -d)
@@ -19,6 +19,11 @@ grep -qx 's30=0' "$work/none" || fail "the factory's setting 30 isn't 0"
 
 printf 'SET/30/1\rKEEP' | ./gsi sheet >"$work/piece"
 grep -qx 's30=1' "$work/piece" || fail "a line before a last piece without CR isn't played"
+
+printf 'PUT/83...0+00000000 \rPUT/83...0-00000000 \r' | ./gsi sheet >"$work/nought"
+grep -qx 'v83=83..10-00000000' "$work/nought" || fail "the sheet doesn't hold a minus nought"
+printf 'PUT/83...0+00000000 \rPUT/83...0-00000000 \rUNDO\r' | ./gsi sheet >"$work/nought"
+grep -qx 'v83=83..10+00000000' "$work/nought" || fail "UNDO of a minus nought doesn't bring back nought"
 
 lines 65536 | ./gsi sheet >"$work/most"
 grep -qx 's30=1' "$work/most" || fail "65,536 bytes aren't played"

@@ -240,6 +240,42 @@ def sheets(folder):
     check("two arguments", (b"", b"usage: standin [SHEET]\n"), run([missing, missing], ask))
 
 
+def noughts(folder):
+    """Minus nought: put over nought, given back with its minus, taken back; and a sheet holds it and starts the stand-in with it."""
+    s = Standin()
+    lines = b""
+    words = b""
+    for index, units in [(21, b"234"), (24, b"234")] + [(i, b"01") for i in [34, 83, 84, 85, 86, 87, 88]]:
+        for unit in units:
+            put = b"PUT/%d...%c-00000000 " % (index, unit)
+            minus = b"%d..1%c-00000000 " % (index, unit)
+            get = b"GET/I/WI%d" % index
+            s.ask(put.replace(b"-", b"+"), DONE)
+            s.ask(put, DONE)
+            s.ask(get, minus + CRLF)
+            s.ask(b"UNDO", DONE)
+            s.ask(get, minus.replace(b"-", b"+") + CRLF)
+            s.ask(put, DONE)
+        lines += put + b"\r"
+        words += minus
+    s.ask(b"PUT/21...2-40000000 ", WRONG, "minus 400 gon")
+    s.ask(b"PUT/11....-00000000 ", WRONG, "text with a minus")
+    get = b"GET/I/WI21/WI24/WI34/WI83/WI84/WI85/WI86/WI87/WI88"
+    s.ask(get, words + CRLF, "minus nought at nine places")
+    s.hang_up()
+
+    path = os.path.join(folder, "noughts")
+    with open(path, "wb") as out:
+        subprocess.run([GSI, "sheet"], input=lines, stdout=out, check=True, timeout=PATIENCE)
+    with open(path, "rb") as sheet:
+        held = [line[4:] for line in sheet.read().split(b"\n") if line[:1] == b"v" and len(line) > 4]
+    check("the sheet's values", [word for word in words.split(b" ") if word], held)
+    s = Standin(path)
+    s.ask(get, words + CRLF, "minus nought from a sheet")
+    s.ask(b"UNDO", WRONG)
+    s.hang_up()
+
+
 def input_ends():
     check("a last line without CR isn't run", (b"?\r\n", b""), run([], b"SET/30/1\rCONF/30"))
     check("no input", (b"", b""), run([]))
@@ -257,13 +293,15 @@ def output_fails():
 
 def main():
     # The first run of a program builds it, and that takes its time.
-    subprocess.run([GSI, "standin"], stdin=subprocess.DEVNULL, check=True)
+    for program in ["standin", "sheet"]:
+        subprocess.run([GSI, program], stdin=subprocess.DEVNULL, stdout=subprocess.DEVNULL, check=True)
     trial()
     full_list()
     ends()
     long_lines()
     with tempfile.TemporaryDirectory() as folder:
         sheets(folder)
+        noughts(folder)
     input_ends()
     output_fails()
     print(f"standin: {checks} checks passed")

@@ -77,8 +77,8 @@ levels =
     ++ (eachCounts (foot 4 1) ("331147" ∷ [])
     ++ (eachCounts (metres 5 1) ("331178" ∷ [])
     ++ (eachCounts (inch 1) ("331.59" ∷ [])
-    -- "6 and 10 by the level's rules": a level has no angle, and a minus before zero is 10
-    ++ (refuses 10 "331106-00000000 "
+    -- "6 and 10 by the level's rules": a level has no angle, and so no 10
+    ++ (counts "331106-99999999 " (Metre (record { 0 = whole 1 99999999; 1 = 4 }))
     ∷ refuses 7 "521...-00000001 "
     ∷ refuses 8 "331106+0001019a "
     ∷ accepted (word "*331106+0000000000010198 ") (read true false 1 26) (tenth-mm 10198 ∷ [])

@@ -5,6 +5,7 @@ use Prim.Native.String.{String}
 use mathlib.Core.Path.{_≡_}
 use mathlib.Core.Bool.{Bool, true, false}
 use mathlib.Core.List.{List, [], _∷_, _++_, map}
+use lib.ListN.{length, replicate}
 use Rattle.figures.specs.Text.{codes}
 use Rattle.units.specs.Counts.{whole}
 use Rattle.words.specs.Records.{typedOf}
@@ -12,17 +13,20 @@ use Rattle.units.specs.declared.kinds.Family.{Family}
 use Rattle.units.specs.declared.counts.Count.{Count}
 use Rattle.units.specs.declared.counts.Count.the-variants.{Text, Gon, Tenth, Metre, Feet, Pair}
 use Rattle.blocks.specs.Answers.{refusalNumber, refusalTells}
-use Rattle.blocks.specs.Judging.{Judgement, judged}
+use Rattle.blocks.specs.Judging.{Judgement, isWide, judged}
+use Rattle.blocks.specs.Composing.{Written·room, written}
 use Rattle.blocks.specs.declared.answers.Answer.{Answer}
 use Rattle.blocks.specs.declared.answers.Answer.the-variants.{Refused, Read}
+use Rattle.blocks.specs.declared.answers.Wrote.the-variants.{Written}
 use Rattle.state.specs.Entries.{factoryState}
 use Rattle.lines.specs.Verdicts.{verdictNumber}
 use Rattle.lines.specs.Machine.{Outcome, step}
 
--- a block that is accepted, with its width, end, words and bytes, and its words' typed counts; one that is refused, with number and place; a
--- line, with its number and its reply
+-- a block that is accepted, with its width, end, words and bytes, and its words' typed counts; one that is accepted with these counts and written
+-- back to the same bytes; one that is refused, with number and place; a line, with its number and its reply
 pub data Reading : Type 0 where
   accepted : List ℕ → Answer → List Count → Reading
+  returned : List ℕ → List Count → Reading
   refused : List ℕ → ℕ → ℕ → Reading
   answered : List ℕ → ℕ → List ℕ → Reading
 
@@ -37,11 +41,20 @@ answerPlace (Refused r) = refusalTells r
 abbrev pub reading : Family → List ℕ → Judgement
 reading f s = judged f s 32
 
+abbrev pub isCrlf : Answer → Bool
+isCrlf (Read r) = r .crlf
+isCrlf (Refused r) = false
+
+-- what is read, written back into a room of the block's length
+abbrev pub back : Family → List ℕ → Written·room
+back f s = written f (reading f s .words) (isWide s) (isCrlf (reading f s .answer)) (replicate (length s) 0)
+
 abbrev pub reply : List ℕ → Outcome
 reply line = step factoryState line 306
 
 abbrev pub Holds : Family → Reading → Type 0
 Holds f (accepted s answer counts) = (reading f s .answer ≡ answer) × (map (typedOf f) (reading f s .words) ≡ counts)
+Holds f (returned s counts) = (map (typedOf f) (reading f s .words) ≡ counts) × (back f s ≡ record { answer = Written (length s); room = s })
 Holds f (refused s number place) = (answerNumber (reading f s .answer) ≡ number) × (answerPlace (reading f s .answer) ≡ place)
 Holds f (answered line number r) = (verdictNumber (reply line .verdict) ≡ number) × (reply line .reply ≡ r)
 
@@ -98,7 +111,7 @@ table =
     ∷ accepted (word "21.104+35959599 ") (one 17) (tenth 12959999 ∷ [])  -- P5
     ∷ refused (word "21.104+00060000 ") 10 0  -- P5
     ∷ accepted (word "82..00-00213159 ") (one 17) (minus-mm 213159 ∷ [])  -- P6
-    ∷ refused (word "82..00-00000000 ") 10 0  -- P6
+    ∷ returned (word "82..00-00000000 ") (minus-mm 0 ∷ [])  -- P6, as request 102 has it
     ∷ refused (word "331106+00010198 ") 6 0  -- P7
     ∷ line "SET/40/2" 0 "?"  -- P8
     ∷ line "SET/40/3" 24 "@W127"  -- P8

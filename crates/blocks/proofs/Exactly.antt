@@ -2,7 +2,7 @@
 use Prim.Native.Nat.{ℕ, _≤_}
 use mathlib.Core.Path.{_≡_, refl, sym, ap, _∙_}
 use mathlib.Core.Bool.{Bool, false}
-use mathlib.Core.List.{List, _++_}
+use mathlib.Core.List.{List, [], _++_, append-nil}
 use mathlib.Core.Logic.{_↔_}
 use lib.ListN.{length, take, drop, take-append-drop}
 use lib.Seq.{drop-at}
@@ -12,7 +12,7 @@ use Rattle.blocks.specs.Judging.{Judgement, isAt, judged}
 use Rattle.blocks.specs.Composing.{blockBytes}
 use Rattle.blocks.specs.declared.answers.Reading.{Reading}
 use Rattle.blocks.specs.declared.answers.Answer.the-variants.{Read}
-use Rattle.blocks.specs.Rules.{Ruled, readAs, readingOf}
+use Rattle.blocks.specs.Rules.{Lawful, Ruled, readAs, readingOf}
 use Rattle.blocks.proofs.Accepted.{accepted}
 use Rattle.blocks.proofs.Written.{block-read}
 
@@ -59,6 +59,14 @@ one-reading f s wide crlf wide′ crlf′ ws ws′ rest rest′ h h′ =
           ∙ ap (drop (length (blockBytes f wide crlf ws))) (h′ .bytes) ∙ drop-at (blockBytes f wide′ crlf′ ws′) rest′
           (length (blockBytes f wide crlf ws)) (sym used),
     )
+
+-- lists that the writer takes and that differ, in a sign say, are written as different bytes
+pub lists-apart : (f : Family) (wide crlf wide′ crlf′ : Bool) (ws ws′ : List Word) → Lawful f wide ws → Lawful f wide′ ws′ → (ws ≡ ws′ → ⊥)
+    → blockBytes f wide crlf ws ≡ blockBytes f wide′ crlf′ ws′ → ⊥
+lists-apart f wide crlf wide′ crlf′ ws ws′ h h′ apart e =
+    let alone : (wide crlf : Bool) (ws : List Word) → Lawful f wide ws → Ruled f (blockBytes f wide crlf ws) wide crlf ws [] =
+    λ wide crlf ws h. record { lawful = h; bytes = sym (append-nil (blockBytes f wide crlf ws)); apart = λ _. refl } in
+    apart (one-reading f (blockBytes f wide crlf ws) wide crlf wide′ crlf′ ws ws′ [] [] (alone wide crlf ws h) (rw e (alone wide′ crlf′ ws′ h′)) .2)
 
 -- "Bytes after the terminator aren't looked at."
 pub reading-looks-no-further : (f : Family) (s : List ℕ) (places : ℕ) (r : Reading) (more : List ℕ) → judged f s places .answer ≡ Read r

@@ -3,28 +3,31 @@
 use Prim.Native.Nat.{ℕ, zero, suc, _+_, _/_, _%_, _≤_}
 use mathlib.Core.Path.{_≡_, refl, sym, ap, _∙_}
 use mathlib.Core.Bool.{Bool, true, false, cond, not, _&&_, _||_, false≢true, and-true, and-false, and-eq-true-iff}
-use mathlib.Core.List.{List, [], _∷_}
+use mathlib.Core.List.{List, [], _∷_, _++_}
 use native.Mathlib.Omega.{arith}
 use borrow.Author.Tests.{eqb-true, eq-eqb, le-leb}
 use lib.Dec.{eqb, leb}
 use lib.ListN.{length, getD, drop, drop-of-length-le}
 use lib.Seq.{drop-cons, getD-drop}
+use Rattle.figures.specs.Text.{codes}
 use Rattle.figures.specs.Bytes.{within, among, every}
 use Rattle.figures.specs.Decimal.{isDigit, numberOf}
 use Rattle.figures.proofs.Bytes.{within-bounds, bounds-within}
 use Rattle.figures.proofs.Tests.{by-test, Even, along}
 use Rattle.units.specs.Kinds.{stationKind, isListed, isTextual, indexOf, indexRight}
 use Rattle.units.specs.Information.{isDot, stationInfo, signByte, signOf, signRight}
-use Rattle.units.specs.Counts.{minusZero, valueAt}
+use Rattle.units.specs.Counts.{valueAt}
 use Rattle.units.proofs.Positions.{tensOf, onesOf, index-on, index-below, tens-digit, ones-digit, sign-on, sign-right}
 use Rattle.words.specs.Records.{isGraphic}
 use Rattle.words.specs.Reading.{pos, wordOf, kindAt, dataIn, dataRight, figuresIn, countOr, isCounted, valueIn, recordIn, unless, rightWord, wordSize}
 use Rattle.words.proofs.Places.{Places, spread, rules, recordBy, word-spread}
+use Rattle.words.proofs.Signs.{minus-as-plus}
 use Rattle.units.specs.declared.kinds.Family.the-variants.{Station}
 use Rattle.units.specs.declared.kinds.Kind.{Kind}
 use Rattle.units.specs.declared.kinds.Kind.the-variants as kind
 use Rattle.units.specs.declared.counts.Figures.the-variants.{Number}
 use Rattle.words.specs.declared.reading.Fault.the-variants.{Short}
+use Rattle.words.specs.declared.reading.Judged as one
 use Rattle.words.specs.declared.reading.OneWord.{OneWord}
 use Rattle.words.specs.declared.records.Word.{Word}
 use Rattle.instrument.specs.Settings.{rows}
@@ -110,7 +113,7 @@ text-held kind.Pair i u m l e = absurd (false≢true e)
 
 -- nothing counts at an index that is missing
 none-held : (u m n : ℕ) (b : Bool) → b && isCounted (valueAt kind.Missing 0 u m (Number n)) ≡ false
-none-held u m n b = by-test (minusZero m n) (λ q. rw (q, and-false)) (λ q. rw (q, and-false))
+none-held u m n b = rw and-false
 
 module _ (u m : ℕ) (d : Eight) (small : m ≤ 1) where
   abbrev places : ℕ → Places
@@ -199,6 +202,20 @@ module _ (u m : ℕ) (d : Eight) (small : m ≤ 1) where
       kept-put place k u m d e small
       ∙ put-read place (valueWord 46 place u m d) refl refl refl low high
       ∙ each-at stored each place low high
+
+-- "26 and 40 follow" (request 102): a number may be put and kept with a minus wherever it may with a plus
+
+pub put-minus : (place a b c d e u : ℕ) (rest : List ℕ) → isTextual (kindAt Station (a ∷ b ∷ c ∷ [])) ≡ false
+    → putRight place (a ∷ b ∷ c ∷ d ∷ e ∷ u ∷ 45 ∷ rest) ≡ putRight place (a ∷ b ∷ c ∷ d ∷ e ∷ u ∷ 43 ∷ rest)
+put-minus place a b c d e u rest number =
+    ap (λ (t : one.Judged). (isDot c && (isDot d && isDot e)) && (within (storedAt place .1) (storedAt place .2) u && isRightWord t))
+    (minus-as-plus Station false a b c d e u rest number)
+
+pub kept-minus : (place u : ℕ) (d : Eight) → isListed (stationKind (storedAt place .0)) ≡ true → isTextual (stationKind (storedAt place .0)) ≡ false
+    → keptRight place (Put u 1 d) ≡ keptRight place (Put u 0 d)
+kept-minus place u d listed number =
+    let i = storedAt place .0 in
+    put-minus place (tensOf i) (onesOf i) 46 46 46 u (eightBytes d ++ codes " ") (rw (index-on i (index-below i listed)) number)
 
 -- a word that may be put there
 pub record PutRight (place : ℕ) (b : List ℕ) : Type 0 where

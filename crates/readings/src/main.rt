@@ -165,6 +165,41 @@ fn level_edges() {
     show(b"32100.", Family::Level, b"32100.+00000001 \r");
 }
 
+// Minus nought: a level's difference, an angle in seconds, the halves of a pair, a wide word; an angle out of its range.
+fn noughts() {
+    show(b"573..0 minus nought", Family::Level, b"573..0-00000000 \r");
+    show(
+        b"21.104 minus nought",
+        Family::Station,
+        b"21.104-00000000 \r",
+    );
+    show(
+        b"51..1. minus nought",
+        Family::Station,
+        b"51..1.-0000-000 \r",
+    );
+    show(
+        b"wide minus nought",
+        Family::Station,
+        b"*82..00-0000000000000000 \r",
+    );
+    show(b"minus 400 gon", Family::Station, b"21.102-40000000 \r");
+}
+
+// Minus nought put over nought and taken back.
+fn put_nought() {
+    let mut image = [0; IMAGE];
+    encode(factory(), &mut image);
+    put(b"PUT of nought");
+    send(&mut image, b"PUT/83...0+00000000 \r");
+    put(b"PUT of minus nought");
+    send(&mut image, b"PUT/83...0-00000000 \r");
+    put(b"GET");
+    send(&mut image, b"GET/I/WI83\r");
+    put(b"UNDO");
+    send(&mut image, b"UNDO\r");
+}
+
 // 003's listing of a level, to its first heights, and from there on.
 fn level_listing() {
     show(
@@ -263,6 +298,8 @@ fn main() {
     level_edges();
     level_listing();
     level_listing_on();
+    noughts();
+    put_nought();
     full_list();
     long_get();
 }

@@ -31,3 +31,17 @@ pub inch-example : reportOf Level 2 50 (codes "332.09-00101981 \r")
     ≡ codes "block=2 at=50 width=8 end=CR words=1 bytes=17\n" ++ codes "word=1 index=332 info=.09 count=-101981 step=1/2000in reads=-50.9905in\n"
 unfolding among every numberFrom digitsOf blockFrom placesBy wordsText
 inch-example = refl
+
+-- minus nought (request 102): a level's difference; of a total station an angle, a pair and a length
+pub nought-example : reportOf Level 1 0 (codes "573..0-00000000 \r")
+    ≡ codes "block=1 at=0 width=8 end=CR words=1 bytes=17\n" ++ codes "word=1 index=573 info=..0 count=-0 step=1/1000m reads=-0.000m\n"
+unfolding among every numberFrom digitsOf blockFrom placesBy wordsText
+nought-example = refl
+
+pub noughts-example : reportOf Station 1 0 (codes "21.104-00000000 51..1.-0000-000 82..00-00000000 \r")
+    ≡ codes "block=1 at=0 width=8 end=CR words=3 bytes=49\n"
+    ++ (codes "word=1 index=21 info=.104 count=-0 step=1/10s reads=-0-00-00.0\n"
+    ++ (codes "word=2 index=51 info=..1. ppm=-0 mm=-0\n"
+    ++ codes "word=3 index=82 info=..00 count=-0 step=1/1000m reads=-0.000m\n"))
+unfolding among every numberFrom digitsOf blockFrom placesBy wordsText
+noughts-example = refl

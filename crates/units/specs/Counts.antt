@@ -15,10 +15,6 @@ use Rattle.units.specs.declared.counts.Valued.the-variants.{Not, Counted
 abbrev pub whole : ℕ → ℕ → Whole
 whole m n = record { minus = m; size = n }
 
--- "A minus before zero is refused"
-abbrev pub minusZero : ℕ → ℕ → Bool
-minusZero m n = eqb m 1 && eqb n 0
-
 -- "Unit 4 reads, from the right, one digit of tenths of a second, two of seconds, two of minutes, the rest degrees"
 abbrev pub degrees : ℕ → ℕ
 degrees n = n / 100000
@@ -89,11 +85,11 @@ numberAt kind.Length i u m n = Counted (lengthOf u (whole m n))
 numberAt kind.Constant i u m n = Counted (constantOf i (whole m n))
 numberAt kind.Pair i u m n = Not
 
--- "A minus before zero is refused, in either half of a pair too."
+-- "10 now means angle out of range alone" (request 102): a sign refuses no number, and is kept before zero too
 abbrev pub valueAt : Kind → ℕ → ℕ → ℕ → Figures → Valued
 valueAt k i u m figures.Text = Counted Text
-valueAt k i u m (figures.Number n) = cond (minusZero m n) Not (numberAt k i u m n)
-valueAt k i u m (figures.Pair p s q) = cond (minusZero m p) Not (cond (minusZero s q) Not (Counted (Pair (whole m p) (whole s q))))
+valueAt k i u m (figures.Number n) = numberAt k i u m n
+valueAt k i u m (figures.Pair p s q) = Counted (Pair (whole m p) (whole s q))
 
 abbrev pub zeroWhole : Whole
 zeroWhole = whole 0 0

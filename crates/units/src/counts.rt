@@ -1,10 +1,10 @@
 // A word's data and what they count. Each step has a type of its own, with its own limit and its own way to digits, so that a count in gon
 // steps and a count in tenths of a second never stand in for each other, nor metre, feet and inch steps.
 ghost use mathlib.Core.Path.{_≡_};
-ghost use Rattle.units.specs.Counts.{minusZero, gonAt, degreeAt, tenthAt, milAt, angleAt, angleOf, lengthOf, constantOf, numberAt, valueAt, firstOf, secondOf};
+ghost use Rattle.units.specs.Counts.{gonAt, degreeAt, tenthAt, milAt, angleAt, angleOf, lengthOf, constantOf, numberAt, valueAt, firstOf, secondOf};
 use crate::kinds::Kind;
 
-// A whole number with a sign: minus is 0 or 1.
+// A whole number with a sign: minus is 0 or 1, before zero too.
 pub struct Whole {
     pub minus: u8,
     pub size: u64,
@@ -59,15 +59,6 @@ pub enum Figures {
 pub enum Valued {
     Not,
     Counted(Count),
-}
-
-fn minus_zero(minus: u8, n: u64) -> bool
-    ensures { λ r. ⌜ r ≡ minusZero minus n ⌝ }
-{
-    if minus == 1 {
-        return n == 0;
-    }
-    false
 }
 
 fn gon_at(minus: u8, n: u64) -> Valued
@@ -218,19 +209,8 @@ pub fn value_at(kind: Kind, index: u16, unit: u8, minus: u8, figures: Figures) -
             let count = Count::Text;
             Valued::Counted(count)
         }
-        Figures::Number(n) => {
-            if minus_zero(minus, n) {
-                return Valued::Not;
-            }
-            number_at(kind, index, unit, minus, n)
-        }
+        Figures::Number(n) => number_at(kind, index, unit, minus, n),
         Figures::Pair(ppm, under, mm) => {
-            if minus_zero(minus, ppm) {
-                return Valued::Not;
-            }
-            if minus_zero(under, mm) {
-                return Valued::Not;
-            }
             let count = Count::Pair(
                 Whole {
                     minus: minus,

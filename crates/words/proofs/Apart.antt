@@ -28,7 +28,7 @@ informed : (f : Family) (wide : Bool) (w : Word) → isRight f wide w ≡ true
     → infoRight f (w .index) (kindIn f w) (leads w) (getD (w .info) 1 0) (getD (w .info) 2 0) (unitIn w) ≡ true
 informed f wide w e = both (infoRight f (w .index) (kindIn f w) _ _ _ _) _ (both (eqb (length (w .info)) 4 && eqb (length (w .text)) 16) _ e .1) .0
 
-unless-right : (f : Family) (wide : Bool) (w : Word) → (isRight f wide w ≡ true → ⊥) → isRight f wide w ≡ false
+pub unless-right : (f : Family) (wide : Bool) (w : Word) → (isRight f wide w ≡ true → ⊥) → isRight f wide w ≡ false
 unless-right f wide w no-way = by-test (isRight f wide w) (λ e. absurd (no-way e)) (λ q. q)
 
 pub three-of-station : (wide : Bool) (w : Word) → 100 ≤ w .index → isRight Station wide w ≡ false

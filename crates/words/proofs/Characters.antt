@@ -89,12 +89,12 @@ halves-in d h =
       back = length-drop (length d - 3) d ∙ omega arith;
     }
 
-record Joined (d a : List ℕ) (s : ℕ) (b : List ℕ) : Type 0 where
-  ppm : ppmIn d ≡ a
-  under : underIn d ≡ s
-  mm : mmIn d ≡ b
+pub record Joined (d a : List ℕ) (s : ℕ) (b : List ℕ) : Type 0 where
+  pub ppm : ppmIn d ≡ a
+  pub under : underIn d ≡ s
+  pub mm : mmIn d ≡ b
 
-halves-of : (a : List ℕ) (s : ℕ) (b : List ℕ) → length b ≡ 3 → Joined (a ++ (s ∷ b)) a s b
+pub halves-of : (a : List ℕ) (s : ℕ) (b : List ℕ) → length b ≡ 3 → Joined (a ++ (s ∷ b)) a s b
 halves-of a s b h =
     let l : length (a ++ (s ∷ b)) ≡ length a + suc (length b) = length-append a (s ∷ b) in
     let four : length (a ++ (s ∷ b)) - 4 ≡ length a = omega arith in

@@ -36,14 +36,14 @@ use Rattle.words.proofs.Places.{Places, indexFrom, spread, placesIn, ru
 use Rattle.words.proofs.Places.{spread-places, word-spread, spread-on, size-spread, take-spread}
 
 -- a record that the writer takes, rule by rule
-record Taken (f : Family) (wide : Bool) (w : Word) (c : Count) : Type 0 where
-  four : length (w .info) ≡ 4
-  sixteen : length (w .text) ≡ 16
-  info : infoRight f (w .index) (kindIn f w) (getD (w .info) 0 0) (getD (w .info) 1 0) (getD (w .info) 2 0) (unitIn w) ≡ true
-  count : countRight wide c ≡ true
-  first : firstOf c ≡ whole (w .minus) (w .size)
-  second : secondOf c ≡ whole (w .mmminus) (w .mm)
-  text : textRight wide (kindIn f w) (w .text) ≡ true
+pub record Taken (f : Family) (wide : Bool) (w : Word) (c : Count) : Type 0 where
+  pub four : length (w .info) ≡ 4
+  pub sixteen : length (w .text) ≡ 16
+  pub info : infoRight f (w .index) (kindIn f w) (getD (w .info) 0 0) (getD (w .info) 1 0) (getD (w .info) 2 0) (unitIn w) ≡ true
+  pub count : countRight wide c ≡ true
+  pub first : firstOf c ≡ whole (w .minus) (w .size)
+  pub second : secondOf c ≡ whole (w .mmminus) (w .mm)
+  pub text : textRight wide (kindIn f w) (w .text) ≡ true
 
 same-whole : (x : Whole) (m n : ℕ) → sameWhole x m n ≡ true → x ≡ whole m n
 same-whole x m n e =
@@ -55,7 +55,7 @@ same-whole x m n e =
 whole-same : (x : Whole) (m n : ℕ) → x ≡ whole m n → sameWhole x m n ≡ true
 whole-same x m n e = rw (e, eq-eqb m m refl, eq-eqb n n refl)
 
-takes : (f : Family) (wide : Bool) (w : Word) → isRight f wide w ≡ true → Taken f wide w (countOf f w)
+pub takes : (f : Family) (wide : Bool) (w : Word) → isRight f wide w ≡ true → Taken f wide w (countOf f w)
 takes f wide w e =
     let c = countOf f w in
     let h = both (eqb (length (w .info)) 4 && eqb (length (w .text)) 16) _ e in

@@ -2,13 +2,13 @@
 -- figures and sign give. By the kind, and an angle by its unit.
 use Prim.Native.Nat.{ℕ, _-_, _^_, _<_, _≤_}
 use mathlib.Core.Path.{_≡_, refl, sym, ap, _∙_}
-use mathlib.Core.Bool.{Bool, true, false, cond, not, _&&_, false≢true}
+use mathlib.Core.Bool.{Bool, true, false, cond, _&&_, false≢true}
 use mathlib.Core.List.{List, [], _∷_}
 use native.Mathlib.Nat.{lt-of-lt-of-le, pow-le-pow-right}
 use native.Mathlib.Omega.{arith}
-use borrow.Author.Tests.{eqb-true, eq-eqb, leb-true, le-leb, ltb-true, lt-ltb, not-true}
+use borrow.Author.Tests.{leb-true, le-leb, ltb-true, lt-ltb}
 use lib.Dec.{eqb, leb, ltb}
-use Rattle.units.specs.Counts.{whole, minusZero, degrees, minutes, seconds, tenthsOf, sexagesimal, counted, gonAt, degreeAt, tenthAt, milAt}
+use Rattle.units.specs.Counts.{whole, degrees, minutes, seconds, tenthsOf, sexagesimal, counted, gonAt, degreeAt, tenthAt, milAt}
 use Rattle.units.specs.Counts.{angleAt, angleOf, lengthOf, constantOf, valueAt, firstOf, figuresOf}
 use Rattle.words.specs.Records.{width, recordOf, unitIn, countBy, wholeRight, countRight}
 use Rattle.words.specs.Reading.{isCounted, countOr}
@@ -17,14 +17,13 @@ use Rattle.units.specs.declared.kinds.Kind.the-variants as kind
 use Rattle.units.specs.declared.counts.Whole.{Whole}
 use Rattle.units.specs.declared.counts.Count.{Count}
 use Rattle.units.specs.declared.counts.Count.the-variants.{Gon, Degree, Tenth, Mil, Metre, Feet, Inch, Ppm}
-use Rattle.units.specs.declared.counts.Count.the-variants as count
 use Rattle.units.specs.declared.counts.Figures.{Figures}
 use Rattle.units.specs.declared.counts.Figures.the-variants as figures
 use Rattle.units.specs.declared.counts.Valued.{Valued}
-use Rattle.units.specs.declared.counts.Valued.the-variants.{Not, Counted}
+use Rattle.units.specs.declared.counts.Valued.the-variants.{Counted}
 use Rattle.words.specs.declared.records.Word.{Word}
 use Rattle.words.proofs.Checks.{width-bounds}
-use Rattle.figures.proofs.Tests.{both, by-test}
+use Rattle.figures.proofs.Tests.{both}
 use Rattle.units.proofs.Positions.{SignFor}
 use Rattle.words.proofs.Characters.{Fit, of-numbered, of-text, of-angle, of-length, of-constant, of-pair}
 use Rattle.units.proofs.Sexagesimal.{InRange, in-range, tenths-back, sexagesimal-back, sexagesimal-below, tenths-below}
@@ -33,34 +32,23 @@ use Rattle.units.proofs.Sexagesimal.{InRange, in-range, tenths-back, sexagesima
 
 record Sound (m n limit : ℕ) : Type 0 where
   small : m ≤ 1
-  plus : minusZero m n ≡ false
   below : n < limit
 
 sound-of : (m n limit : ℕ) → wholeRight (whole m n) limit ≡ true → Sound m n limit
 sound-of m n limit e =
-    let parts = both (leb m 1) (not (minusZero m n) && ltb n limit) e in
-    let two = both (not (minusZero m n)) (ltb n limit) (parts .1) in
-    record { small = leb-true m 1 (parts .0); plus = not-true (minusZero m n) (two .0); below = ltb-true n limit (two .1) }
+    let parts = both (leb m 1) (ltb n limit) e in
+    record { small = leb-true m 1 (parts .0); below = ltb-true n limit (parts .1) }
 
-whole-right : (m n limit : ℕ) → m ≤ 1 → minusZero m n ≡ false → n < limit → wholeRight (whole m n) limit ≡ true
-whole-right m n limit s p b = rw (le-leb m 1 s, p, lt-ltb n limit b)
-
--- a minus before a number that is 0 only where another is
-minus-zero : (m n r : ℕ) → (r ≡ 0 → n ≡ 0) → minusZero m n ≡ false → minusZero m r ≡ false
-minus-zero m n r f e =
-    by-test (minusZero m r)
-    (λ q.
-    let parts = both (eqb m 1) (eqb r 0) q in
-    absurd (false≢true (sym e ∙ rw (parts .0) (eq-eqb n 0 (f (eqb-true r 0 (parts .1)))))))
-    (λ q. q)
+whole-right : (m n limit : ℕ) → m ≤ 1 → n < limit → wholeRight (whole m n) limit ≡ true
+whole-right m n limit s b = rw (le-leb m 1 s, lt-ltb n limit b)
 
 -- a number
 
 -- the counts of one unit: `at` from a sign and digits, `of` from a whole number
-abbrev Both : Type 1
+abbrev pub Both : Type 1
 Both = (ℕ → ℕ → Valued) → (Whole → Count) → Type 0
 
-by-unit : (P : Both) → P gonAt (λ x. Gon (record { 0 = x })) → P degreeAt (λ x. Degree (record { 0 = x })) → P tenthAt (λ x. Tenth (record { 0 = x }))
+pub by-unit : (P : Both) → P gonAt (λ x. Gon (record { 0 = x })) → P degreeAt (λ x. Degree (record { 0 = x })) → P tenthAt (λ x. Tenth (record { 0 = x }))
     → P milAt (λ x. Mil (record { 0 = x })) → (u : ℕ) → P (angleAt u) (angleOf u)
 by-unit P gon degree tenth mil u = go (eqb u 50) (eqb u 51) (eqb u 52)
   where
@@ -72,16 +60,16 @@ by-unit P gon degree tenth mil u = go (eqb u 50) (eqb u 51) (eqb u 52)
     go false false false = mil
 
 -- metres, and feet, of so many decimals, and inches
-abbrev inMetres : ℕ → Whole → Count
+abbrev pub inMetres : ℕ → Whole → Count
 inMetres d x = Metre (record { 0 = x; 1 = d })
 
-abbrev inFeet : ℕ → Whole → Count
+abbrev pub inFeet : ℕ → Whole → Count
 inFeet d x = Feet (record { 0 = x; 1 = d })
 
-abbrev inInches : Whole → Count
+abbrev pub inInches : Whole → Count
 inInches x = Inch (record { 0 = x })
 
-by-length : (P : (Whole → Count) → Type 0) → ((d : ℕ) → P (inMetres d)) → ((d : ℕ) → P (inFeet d)) → P inInches → (u : ℕ) → P (lengthOf u)
+pub by-length : (P : (Whole → Count) → Type 0) → ((d : ℕ) → P (inMetres d)) → ((d : ℕ) → P (inFeet d)) → P inInches → (u : ℕ) → P (lengthOf u)
 by-length P metre feet inch u = go (eqb u 48) (eqb u 49) (eqb u 54) (eqb u 55) (eqb u 57)
   where
     go : (x y z v t : Bool)
@@ -92,6 +80,16 @@ by-length P metre feet inch u = go (eqb u 48) (eqb u 49) (eqb u 54) (eqb u 55) (
     go false false false true t = feet 4
     go false false false false true = inch
     go false false false false false = metre 5
+
+abbrev pub inPpm : Whole → Count
+inPpm x = Ppm (record { 0 = x })
+
+pub by-constant : (P : (Whole → Count) → Type 0) → P (inMetres 4) → P inPpm → (i : ℕ) → P (constantOf i)
+by-constant P metre ppm i = go (eqb i 58)
+  where
+    go : (b : Bool) → P (λ w. cond b (inMetres 4 w) (inPpm w))
+    go true = metre
+    go false = ppm
 
 -- a count whose size is what its digits say, below a limit
 record Plain (wide : Bool) (limit : ℕ) (of : Whole → Count) (x : Whole) : Type 0 where
@@ -105,11 +103,9 @@ length-plain wide u x =
     (λ d. record { first = refl; right = refl; says = refl }) (record { first = refl; right = refl; says = refl }) u
 
 constant-plain : (wide : Bool) (i : ℕ) (x : Whole) → Plain wide (10 ^ width wide) (constantOf i) x
-constant-plain wide i x = go (eqb i 58)
-  where
-    go : (b : Bool) → Plain wide (10 ^ width wide) (λ w. cond b (Metre (record { 0 = w; 1 = 4 })) (Ppm (record { 0 = w }))) x
-    go true = record { first = refl; right = refl; says = refl }
-    go false = record { first = refl; right = refl; says = refl }
+constant-plain wide i x =
+    by-constant (λ of. Plain wide (10 ^ width wide) of x) (record { first = refl; right = refl; says = refl })
+    (record { first = refl; right = refl; says = refl }) i
 
 gon-plain : (wide : Bool) (x : Whole) → Plain wide 40000000 (λ w. Gon (record { 0 = w })) x
 gon-plain wide x = record { first = refl; right = refl; says = refl }
@@ -130,11 +126,6 @@ if-counted : (P : Count → Type 0) (t : Bool) (c : Count) → (t ≡ true → P
 if-counted P true c f e = f refl
 if-counted P false c f e = absurd (false≢true e)
 
-unless-refused : (P : Count → Type 0) (t : Bool) (v : Valued) → (t ≡ false → isCounted v ≡ true → P (countOr v)) → isCounted (cond t Not v) ≡ true
-    → P (countOr (cond t Not v))
-unless-refused P true v f e = absurd (false≢true e)
-unless-refused P false v f e = f refl e
-
 tests-range : (n : ℕ) → ltb (degrees n) 360 && (ltb (minutes n) 60 && ltb (seconds n) 60) ≡ true → InRange n
 tests-range n e =
     let parts = both (ltb (degrees n) 360) (ltb (minutes n) 60 && ltb (seconds n) 60) e in
@@ -144,10 +135,10 @@ tests-range n e =
 range-tests : (n : ℕ) → InRange n → ltb (degrees n) 360 && (ltb (minutes n) 60 && ltb (seconds n) 60) ≡ true
 range-tests n h = rw (lt-ltb (degrees n) 360 (h .0), lt-ltb (minutes n) 60 (h .1), lt-ltb (seconds n) 60 (h .2))
 
-module _ (wide : Bool) (m n : ℕ) (s : m ≤ 1) (z : minusZero m n ≡ false) where
+module _ (wide : Bool) (m n : ℕ) (s : m ≤ 1) where
   plain-told : (limit : ℕ) (of : Whole → Count) → Plain wide limit of (whole m n) → n < limit
       → Told wide (λ c. of (firstOf c)) m (figures.Number n) (of (whole m n))
-  plain-told limit of p h = (p .right ∙ whole-right m n limit s z h, p .says, ap (λ (x : Whole). x .minus) (p .first), ap of (p .first))
+  plain-told limit of p h = (p .right ∙ whole-right m n limit s h, p .says, ap (λ (x : Whole). x .minus) (p .first), ap of (p .first))
 
   limited-told : (limit : ℕ) (of : Whole → Count) → Plain wide limit of (whole m n) → isCounted (counted (ltb n limit) (of (whole m n))) ≡ true
       → Told wide (λ c. of (firstOf c)) m (figures.Number n) (countOr (counted (ltb n limit) (of (whole m n))))
@@ -160,12 +151,7 @@ module _ (wide : Bool) (m n : ℕ) (s : m ≤ 1) (z : minusZero m n ≡ false) w
       (ltb (degrees n) 360 && (ltb (minutes n) 60 && ltb (seconds n) 60)) (Tenth (record { 0 = whole m (tenthsOf n) }))
       (λ t.
       let range = tests-range n t in
-      let again = sexagesimal-back n range in (
-        whole-right m (tenthsOf n) 12960000 s (minus-zero m n (tenthsOf n) (λ q. sym again ∙ rw q) z) (tenths-below n range),
-        ap figures.Number again,
-        refl,
-        refl,
-      ))
+      (whole-right m (tenthsOf n) 12960000 s (tenths-below n range), ap figures.Number (sexagesimal-back n range), refl, refl))
 
   angle-told : (u : ℕ) → isCounted (angleAt u m n) ≡ true → Told wide (λ c. angleOf u (firstOf c)) m (figures.Number n) (countOr (angleAt u m n))
   angle-told =
@@ -180,19 +166,13 @@ pub value-told : (wide : Bool) {k : Kind} {f : Figures} (i u m a b e : ℕ) (t :
     → Told wide (λ c. countBy k (recordOf i (a ∷ b ∷ e ∷ u ∷ []) c t)) m f (countOr (valueAt k i u m f))
 value-told wide i u m a b e t of-numbered s = λ _. (refl, refl, sym (s .plus refl), refl)
 value-told wide i u m a b e t of-text s = λ _. (refl, refl, sym (s .plus refl), refl)
-value-told wide i u m a b e t (of-angle {v} h) s =
-    unless-refused (Told wide (λ c. angleOf u (firstOf c)) m (figures.Number v)) (minusZero m v) (angleAt u m v) (λ z. angle-told wide m v (s .small) z u)
+value-told wide i u m a b e t (of-angle {v} h) s = angle-told wide m v (s .small) u
 value-told wide i u m a b e t (of-length {v} h) s =
-    unless-refused (Told wide (λ c. lengthOf u (firstOf c)) m (figures.Number v)) (minusZero m v) (Counted (lengthOf u (whole m v)))
-    (λ z _. plain-told wide m v (s .small) z (10 ^ width wide) (lengthOf u) (length-plain wide u (whole m v)) h)
+    λ _. plain-told wide m v (s .small) (10 ^ width wide) (lengthOf u) (length-plain wide u (whole m v)) h
 value-told wide i u m a b e t (of-constant {v} h) s =
-    unless-refused (Told wide (λ c. constantOf i (firstOf c)) m (figures.Number v)) (minusZero m v) (Counted (constantOf i (whole m v)))
-    (λ z _. plain-told wide m v (s .small) z (10 ^ width wide) (constantOf i) (constant-plain wide i (whole m v)) h)
+    λ _. plain-told wide m v (s .small) (10 ^ width wide) (constantOf i) (constant-plain wide i (whole m v)) h
 value-told wide i u m a b e t (of-pair {p} {s = r} {q} hp hr hq) s =
-    let P : Count → Type 0 = Told wide (λ c. countBy kind.Pair (recordOf i (a ∷ b ∷ e ∷ u ∷ []) c t)) m (figures.Pair p r q) in
-    unless-refused P (minusZero m p) (cond (minusZero r q) Not (Counted (count.Pair (whole m p) (whole r q))))
-    (λ zp. unless-refused P (minusZero r q) (Counted (count.Pair (whole m p) (whole r q)))
-    (λ zq _. (rw (whole-right m p (10 ^ (width wide - 4)) (s .small) zp hp) (whole-right r q 1000 hr zq hq), refl, refl, refl)))
+    λ _. (rw (whole-right m p (10 ^ (width wide - 4)) (s .small) hp) (whole-right r q 1000 hr hq), refl, refl, refl)
 
 -- from a count to its figures
 
@@ -202,7 +182,6 @@ record Number (wide : Bool) (at : ℕ → ℕ → Valued) (of : Whole → Count)
   says : figuresOf (of x) ≡ figures.Number digits
   below : digits < 10 ^ width wide
   small : x .minus ≤ 1
-  plus : minusZero (x .minus) digits ≡ false
   value : at (x .minus) digits ≡ Counted (of x)
 
 -- eight digits always fit
@@ -217,7 +196,7 @@ plain-number : (wide : Bool) (of : Whole → Count) (x : Whole) → Plain wide (
     → Number wide (λ m n. Counted (of (whole m n))) of x
 plain-number wide of x p e =
     let r = plain-sound wide (10 ^ width wide) of x p e in
-    record { digits = x .size; says = p .says; below = r .below; small = r .small; plus = r .plus; value = refl }
+    record { digits = x .size; says = p .says; below = r .below; small = r .small; value = refl }
 
 limited-number : (wide : Bool) (limit : ℕ) (of : Whole → Count) (x : Whole) → limit ≤ 10 ^ 8 → Plain wide limit of x → countRight wide (of x) ≡ true
     → Number wide (λ m n. counted (ltb n limit) (of (whole m n))) of x
@@ -228,7 +207,6 @@ limited-number wide limit of x h p e =
       says = p .says;
       below = eight-fit wide (x .size) (omega (arith, r .below));
       small = r .small;
-      plus = r .plus;
       value = rw (lt-ltb (x .size) limit (r .below));
     }
 
@@ -242,7 +220,6 @@ tenth-number wide x e =
       says = refl;
       below = eight-fit wide (sexagesimal n) (omega (arith, sexagesimal-below n (r .below)));
       small = r .small;
-      plus = minus-zero (x .minus) n (sexagesimal n) (λ q. sym again ∙ rw q) (r .plus);
       value = rw (range-tests (sexagesimal n) (in-range n (r .below)), again);
     }
 
@@ -265,17 +242,17 @@ value-on wide kind.Numbered w e q = (of-numbered, record { small = omega arith; 
 value-on wide kind.Text w e q = (of-text, record { small = omega arith; plus = λ _. sym q }, refl)
 value-on wide kind.Angle w e q =
     let n = angle-number wide (whole (w .minus) (w .size)) (unitIn w) e in
-    rw (n .says) (of-angle (n .below), record { small = n .small; plus = λ t. absurd (false≢true t) }, rw (n .plus) (n .value))
+    rw (n .says) (of-angle (n .below), record { small = n .small; plus = λ t. absurd (false≢true t) }, n .value)
 value-on wide kind.Length w e q =
     let x = whole (w .minus) (w .size) in
     let n = plain-number wide (lengthOf (unitIn w)) x (length-plain wide (unitIn w) x) e in
-    rw (n .says) (of-length (n .below), record { small = n .small; plus = λ t. absurd (false≢true t) }, rw (n .plus) (n .value))
+    rw (n .says) (of-length (n .below), record { small = n .small; plus = λ t. absurd (false≢true t) }, n .value)
 value-on wide kind.Constant w e q =
     let x = whole (w .minus) (w .size) in
     let n = plain-number wide (constantOf (w .index)) x (constant-plain wide (w .index) x) e in
-    rw (n .says) (of-constant (n .below), record { small = n .small; plus = λ t. absurd (false≢true t) }, rw (n .plus) (n .value))
+    rw (n .says) (of-constant (n .below), record { small = n .small; plus = λ t. absurd (false≢true t) }, n .value)
 value-on wide kind.Pair w e q =
     let parts = both (wholeRight (whole (w .minus) (w .size)) (10 ^ (width wide - 4))) (wholeRight (whole (w .mmminus) (w .mm)) 1000) e in
     let p = sound-of (w .minus) (w .size) (10 ^ (width wide - 4)) (parts .0) in
     let r = sound-of (w .mmminus) (w .mm) 1000 (parts .1) in
-    (of-pair (p .below) (r .small) (r .below), record { small = p .small; plus = λ t. absurd (false≢true t) }, rw (p .plus, r .plus))
+    (of-pair (p .below) (r .small) (r .below), record { small = p .small; plus = λ t. absurd (false≢true t) }, refl)

@@ -1,7 +1,7 @@
 -- Laws of a word's bytes as they are written, part by part, and of the size that they have to hold.
 use Prim.Native.Nat.{ℕ, _+_, _-_, _^_, _≤_, _<_}
 use mathlib.Core.Path.{_≡_, refl, ap, _∙_}
-use mathlib.Core.Bool.{Bool, true, false, cond, not, _&&_, false≢true, and-eq-true-iff}
+use mathlib.Core.Bool.{Bool, true, false, cond, _&&_, false≢true, and-eq-true-iff}
 use mathlib.Core.List.{List, [], _∷_, _++_, append-assoc, append-nil}
 use native.Mathlib.Omega.{arith}
 use borrow.Author.Tests.{ltb-true, eqb-true}
@@ -14,7 +14,7 @@ use Rattle.figures.specs.Bytes.{laid}
 use Rattle.figures.proofs.Bytes.{length-on, length-mid, laid-cut, fill-on, store-on}
 use Rattle.figures.proofs.Decimal.{digits-on, digits-length}
 use Rattle.figures.proofs.Tests.{by-test}
-use Rattle.units.specs.Counts.{whole, minusZero, angleOf, lengthOf, constantOf, firstOf, secondOf, figuresOf}
+use Rattle.units.specs.Counts.{whole, angleOf, lengthOf, constantOf, firstOf, secondOf, figuresOf}
 use Rattle.units.specs.Information.{infoRight, headOf, signByte}
 use Rattle.words.specs.Records.{width, kindIn, unitIn, countBy, countOf, tenTo, wholeRight, countRight, textRight, sameWhole, isRight}
 use Rattle.words.specs.Reading.{wordSize}
@@ -161,9 +161,7 @@ first-size kind.Pair w = omega arith
 -- what a right record has in its word: no more than 16 digits
 whole-below : (x : Whole) (limit : ℕ) → limit ≤ 10 ^ 16 → wholeRight x limit ≡ true → x .size < 10 ^ 16
 whole-below x limit h e =
-    let rest = and-eq-true-iff (leb (x .minus) 1) (not (minusZero (x .minus) (x .size)) && ltb (x .size) limit) .0 e .1 in
-    let last = and-eq-true-iff (not (minusZero (x .minus) (x .size))) (ltb (x .size) limit) .0 rest .1 in
-    omega (arith, ltb-true (x .size) limit last)
+    omega (arith, ltb-true (x .size) limit (and-eq-true-iff (leb (x .minus) 1) (ltb (x .size) limit) .0 e .1))
 
 ten-below : (wide pair : Bool) → tenTo wide pair ≤ 10 ^ 16
 ten-below true true = omega arith

@@ -1,13 +1,13 @@
 -- "A record holds index, information and value, and text where there is text; a value, mm or text byte its word doesn't use is 0."
 use Prim.Native.Nat.{ℕ, _-_, _^_}
-use mathlib.Core.Bool.{Bool, true, false, cond, not, _&&_, _||_}
+use mathlib.Core.Bool.{Bool, true, false, cond, _&&_, _||_}
 use mathlib.Core.List.{List}
 use lib.Dec.{eqb, leb, ltb}
 use lib.ListN.{length, getD, take, drop, replicate}
 use Rattle.figures.specs.Bytes.{within, every}
 use Rattle.units.specs.Kinds.{kindOf, isTextual}
 use Rattle.units.specs.Information.{infoRight}
-use Rattle.units.specs.Counts.{whole, minusZero, angleOf, lengthOf, constantOf, firstOf, secondOf}
+use Rattle.units.specs.Counts.{whole, angleOf, lengthOf, constantOf, firstOf, secondOf}
 use Rattle.units.specs.declared.kinds.Family.{Family}
 use Rattle.units.specs.declared.kinds.Kind.{Kind}
 use Rattle.units.specs.declared.kinds.Kind.the-variants as kind
@@ -57,9 +57,9 @@ countOf f w = countBy (kindIn f w) w
 abbrev pub tenTo : Bool → Bool → ℕ
 tenTo wide pair = 10 ^ cond pair (width wide - 4) (width wide)
 
--- a sign, no minus before zero, and a size below the limit
+-- a sign, and a size below the limit; minus nought is a number like any other: "keep the sign so that the bytes come back" (request 102)
 abbrev pub wholeRight : Whole → ℕ → Bool
-wholeRight w limit = leb (w .minus) 1 && (not (minusZero (w .minus) (w .size)) && ltb (w .size) limit)
+wholeRight w limit = leb (w .minus) 1 && ltb (w .size) limit
 
 abbrev pub countRight : Bool → Count → Bool
 countRight wide Nothing = false

@@ -117,11 +117,6 @@ fn whole_right(whole: Whole, limit: u64) -> bool
     if 1 < whole.minus {
         return false;
     }
-    if whole.minus == 1 {
-        if whole.size == 0 {
-            return false;
-        }
-    }
     whole.size < limit
 }
 

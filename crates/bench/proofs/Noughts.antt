@@ -1,0 +1,39 @@
+-- The claims of minus nought: each reading holds, and the stand-in stores, gives back, takes back, writes and loads it; by computing. Assumes nothing.
+use mathlib.Core.Path.{refl}
+use lib.ListN.{drop}
+use Rattle.figures.specs.Bytes.{among, every, startsWith}
+use Rattle.figures.specs.Decimal.{numberFrom, digitsOf, placesBy}
+use Rattle.blocks.specs.Judging.{blockFrom}
+use Rattle.blocks.specs.Composing.{unlessWrong, wordsBytes}
+use Rattle.instrument.specs.Rows.{seek}
+use Rattle.instrument.specs.Settings.{rows}
+use Rattle.instrument.specs.Values.{stored}
+use Rattle.lines.specs.Shapes.{slashAt, groupsRight}
+use Rattle.lines.specs.Verdicts.{getVerdict}
+use Rattle.lines.specs.Replies.{getBody}
+use Rattle.lines.specs.Demand.{after}
+use Rattle.sheets.specs.Sheet.{sheetOf}
+use Rattle.sheets.specs.Lines.{linesBy, partBy}
+use Rattle.sheets.specs.Loading.{saidBy}
+use Rattle.units.specs.declared.kinds.Family.the-variants.{Station, Level}
+use Rattle.bench.specs.Readings.{All}
+use Rattle.bench.specs.Noughts.{station, wide, level, Stored}
+
+pub station-noughts : All Station station
+unfolding among every numberFrom digitsOf blockFrom unlessWrong wordsBytes
+station-noughts =
+    let from8 : All Station (drop 8 station) =
+    ((refl, refl), ((refl, refl), ((refl, refl), ((refl, refl), ((refl, refl), ((refl, refl), ((refl, refl), tt))))))) in
+    ((refl, refl), ((refl, refl), ((refl, refl), ((refl, refl), ((refl, refl), ((refl, refl), ((refl, refl), ((refl, refl), from8))))))))
+
+pub wide-noughts : All Station wide
+unfolding among every numberFrom digitsOf blockFrom unlessWrong wordsBytes
+wide-noughts = ((refl, refl), ((refl, refl), ((refl, refl), ((refl, refl), ((refl, refl), ((refl, refl), ((refl, refl), tt)))))))
+
+pub level-noughts : All Level level
+unfolding among every numberFrom digitsOf blockFrom unlessWrong wordsBytes
+level-noughts = ((refl, refl), ((refl, refl), ((refl, refl), ((refl, refl), ((refl, refl), ((refl, refl), ((refl, refl), tt)))))))
+
+pub stored-noughts : Stored
+unfolding among every startsWith numberFrom digitsOf placesBy blockFrom seek rows stored slashAt groupsRight getVerdict getBody after sheetOf linesBy partBy saidBy
+stored-noughts = record { done = refl; got = refl; undone = refl; undone-first = refl; held = refl; loads = refl }

@@ -1,0 +1,97 @@
+-- The bench readings of minus nought (request 102): "Accept minus before zero in angles, lengths, constants and both halves of a pair, in blocks, PUT
+-- words and sheets, and keep the sign so that the bytes come back."
+use Prim.Native.Nat.{ℕ}
+use Prim.Native.String.{String}
+use mathlib.Core.Path.{_≡_}
+use mathlib.Core.List.{List, [], _∷_, _++_, map}
+use Rattle.figures.specs.Text.{codes}
+use Rattle.units.specs.Counts.{whole}
+use Rattle.units.specs.declared.counts.Whole.{Whole}
+use Rattle.units.specs.declared.counts.Count.{Count}
+use Rattle.units.specs.declared.counts.Count.the-variants.{Gon, Degree, Tenth, Mil, Metre, Feet, Inch, Ppm, Pair}
+use Rattle.state.specs.Entries.{factoryState}
+use Rattle.state.specs.declared.entries.State.{State}
+use Rattle.lines.specs.Machine.{step}
+use Rattle.lines.specs.Demand.{after}
+use Rattle.sheets.specs.Sheet.{sheetOf}
+use Rattle.sheets.specs.Loading.{right, loadingOf}
+use Rattle.bench.specs.Readings.{Reading, returned, refused, word, minus-mm}
+
+abbrev pub minusNought : Whole
+minusNought = whole 1 0
+
+abbrev pub nought : Whole
+nought = whole 0 0
+
+-- a word alone, its count, and the same bytes back
+abbrev pub gives : String → Count → Reading
+gives w c = returned (word w) (c ∷ [])
+
+-- a total station's: each unit, the constants, either half of a pair
+abbrev pub station : List Reading
+station =
+    gives "21.102-00000000 " (Gon (record { 0 = minusNought }))
+    ∷ gives "21.103-00000000 " (Degree (record { 0 = minusNought }))
+    ∷ gives "21.104-00000000 " (Tenth (record { 0 = minusNought }))
+    ∷ gives "21.105-00000000 " (Mil (record { 0 = minusNought }))
+    ∷ gives "31..00-00000000 " (minus-mm 0)
+    ∷ gives "31..01-00000000 " (Feet (record { 0 = minusNought; 1 = 3 }))
+    ∷ gives "31..06-00000000 " (Metre (record { 0 = minusNought; 1 = 4 }))
+    ∷ gives "31..07-00000000 " (Feet (record { 0 = minusNought; 1 = 4 }))
+    ∷ gives "31..08-00000000 " (Metre (record { 0 = minusNought; 1 = 5 }))
+    ∷ gives "58..16-00000000 " (Metre (record { 0 = minusNought; 1 = 4 }))
+    ∷ gives "59..16-00000000 " (Ppm (record { 0 = minusNought }))
+    ∷ gives "51..1.-0000+000 " (Pair minusNought nought)
+    ∷ gives "51..1.+0000-000 " (Pair nought minusNought)
+    ∷ gives "51..1.-0000-000 " (Pair minusNought minusNought)
+    ∷ gives "51..1.+0009-000 " (Pair (whole 0 9) minusNought)
+    ∷ []
+
+-- wide; and what is refused as before: an angle out of its range, text with a minus
+abbrev pub wide : List Reading
+wide =
+    gives "*21.104-0000000000000000 " (Tenth (record { 0 = minusNought }))
+    ∷ gives "*31..00-0000000000000000 " (minus-mm 0)
+    ∷ gives "*59..16-0000000000000000 " (Ppm (record { 0 = minusNought }))
+    ∷ gives "*51..1.-000000000000-000 " (Pair minusNought minusNought)
+    ∷ refused (word "21.102-40000000 ") 10 0
+    ∷ refused (word "21.104-00000600 ") 10 0
+    ∷ refused (word "11....-00000000 ") 7 0
+    ∷ []
+
+-- a level's
+abbrev pub level : List Reading
+level =
+    gives "573..0-00000000 " (minus-mm 0)
+    ∷ gives "573..1-00000000 " (Feet (record { 0 = minusNought; 1 = 3 }))
+    ∷ gives "573..6-00000000 " (Metre (record { 0 = minusNought; 1 = 4 }))
+    ∷ gives "573..7-00000000 " (Feet (record { 0 = minusNought; 1 = 4 }))
+    ∷ gives "573..8-00000000 " (Metre (record { 0 = minusNought; 1 = 5 }))
+    ∷ gives "573..9-00000000 " (Inch (record { 0 = minusNought }))
+    ∷ gives "*83..16-0000000000000000 " (Metre (record { 0 = minusNought; 1 = 4 }))
+    ∷ []
+
+-- a fresh stand-in after lines, each with its CR and 306 bytes of room, and its reply to one more
+abbrev pub sent : List String → State
+sent lines = after factoryState (map (λ l. record { line = word l; room = 306 }) lines)
+
+abbrev pub replies : List String → String → List ℕ
+replies lines l = step (sent lines) (word l) 306 .reply
+
+abbrev pub put : String
+put = "PUT/83...0-00000000 "
+
+-- the sheet once it is put
+abbrev pub sheet : List ℕ
+sheet =
+    codes "series=TPS100\ns30=0\ns32=0\ns34=0\ns40=0\ns41=0\ns44=0\ns49=0\ns50=0\ns70=5\ns71=0\ns73=1\ns76=0\ns80=0\ns81=0\n"
+    ++ codes "s95=0\ns102=0\ns103=1\ns135=0\ns136=0\nv11=\nv16=\nv21=\nv24=\nv34=\nv83=83..10-00000000\nv84=\nv85=\nv86=\nv87=\nv88=\n"
+
+-- "26 and 40 follow": a PUT stores it, GET/I gives it back with its minus, UNDO restores what stood before, the sheet holds it and loads it
+pub record Stored : Type 0 where
+  pub done : replies [] put ≡ codes "?\r\n"
+  pub got : replies (put ∷ []) "GET/I/WI83" ≡ codes "83..10-00000000 \r\n"
+  pub undone : replies ("PUT/83...0+00000000 " ∷ put ∷ "UNDO" ∷ []) "GET/I/WI83" ≡ codes "83..10+00000000 \r\n"
+  pub undone-first : replies (put ∷ "UNDO" ∷ []) "GET/I/WI83" ≡ codes "@W127\r\n"
+  pub held : sheetOf (sent (put ∷ [])) ≡ sheet
+  pub loads : loadingOf sheet ≡ right (sent (put ∷ []) .settings) (sent (put ∷ []) .values)
