@@ -35,5 +35,5 @@ unfolding among every numberFrom digitsOf blockFrom unlessWrong wordsBytes
 level-noughts = ((refl, refl), ((refl, refl), ((refl, refl), ((refl, refl), ((refl, refl), ((refl, refl), ((refl, refl), tt)))))))
 
 pub stored-noughts : Stored
-unfolding among every startsWith numberFrom digitsOf placesBy blockFrom seek rows stored slashAt groupsRight getVerdict getBody after sheetOf linesBy partBy saidBy
+unfolding among every startsWith numberFrom digitsOf placesBy seek rows stored slashAt groupsRight getVerdict getBody after sheetOf linesBy partBy saidBy
 stored-noughts = record { done = refl; got = refl; undone = refl; undone-first = refl; held = refl; loads = refl }

@@ -5,7 +5,7 @@ pub mod Places
 pub mod RoundTrip
 pub mod Given
 pub mod Apart
-pub mod Signs
 pub mod Typed
+pub mod Signs
 pub mod Writes
 pub mod Determined

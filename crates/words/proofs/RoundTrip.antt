@@ -13,7 +13,7 @@ use Rattle.units.specs.Kinds.{kindOf, indexRight, listedBy}
 use Rattle.units.specs.Information.{infoRight, leadOf, headOf, signByte, signOf, signRight}
 use Rattle.units.specs.Counts.{whole, firstOf, secondOf, figuresOf}
 use Rattle.words.specs.Records.{width, kindIn, unitIn, countOf, countRight, textRight, sameWhole, isRight}
-use Rattle.words.specs.Reading.{wordSize, dataRight, valueIn, isCounted, countOr, rightWord, unless, wordOf}
+use Rattle.words.specs.Reading.{wordSize, pos, dataRight, valueIn, isCounted, countOr, rightWord, unless, wordOf}
 use Rattle.words.specs.Writing.{dataOf, bytesOf}
 use Rattle.units.specs.declared.kinds.Family.{Family}
 use Rattle.units.specs.declared.counts.Whole.{Whole}
@@ -144,7 +144,7 @@ bytes-spread f wide w p h s d e = rw (d, h, s, e)
 -- from the bytes
 
 places-read : (f : Family) (wide : Bool) (p : Places) (w : Word) → length (p .letters) ≡ width wide → wordBy f p ≡ rightWord w
-    → (isRight f wide w ≡ true) × (bytesOf f wide w ≡ spread p []) × (valueBy f (indexFrom f p) p ≡ Counted (countOf f w))
+    → (isRight f wide w ≡ true) × (bytesOf f wide w ≡ spread p []) × (valueBy f (indexFrom f p) p ≡ Counted (countOf f w)) × (w .minus ≡ signOf (p .sign))
 places-read f wide p w l e =
     let i = indexFrom f p in
     let k = kindOf f i in
@@ -165,8 +165,12 @@ places-read f wide p w l e =
     ∙ rw (told .1, ← l) (data-back k (p .letters) (omega arith) (omega arith) (j .letters)) in
     let head = head-back f (p .tens) (p .ones) (p .first) (p .second) (p .mode) (p .unit) (j .index) in
     let bytes : bytesOf f wide r ≡ spread p [] =
-    bytes-spread f wide r p head (ap signByte (told .2) ∙ sign-back (p .sign) (sign .0)) letters (j .end) in
-    (ap (isRight f wide) (sym is) ∙ right, ap (bytesOf f wide) (sym is) ∙ bytes, j .value ∙ ap Counted (sym (told .3) ∙ ap (countOf f) is))
+    bytes-spread f wide r p head (ap signByte (told .2) ∙ sign-back (p .sign) (sign .0)) letters (j .end) in (
+      ap (isRight f wide) (sym is) ∙ right,
+      ap (bytesOf f wide) (sym is) ∙ bytes,
+      j .value ∙ ap Counted (sym (told .3) ∙ ap (countOf f) is),
+      ap (λ (x : Word). x .minus) (sym is) ∙ told .2,
+    )
 
 pub read-write : (f : Family) (wide : Bool) (s : List ℕ) (w : Word) → wordOf f wide s ≡ rightWord w
     → (isRight f wide w ≡ true) × (bytesOf f wide w ≡ take (wordSize wide) s)
@@ -176,7 +180,7 @@ read-write f wide s w e =
     let l = data-length wide s long in
     let is = spread-places wide s long in
     let rest = drop (wordSize wide) s in
-    let (right, bytes, _) = places-read f wide p w l (through (leb (wordSize wide) (length s)) Short _ w e .1) in
+    let (right, bytes, _, _) = places-read f wide p w l (through (leb (wordSize wide) (length s)) Short _ w e .1) in
     (right, bytes ∙ sym (ap (take (wordSize wide)) is ∙ take-spread wide p l rest))
 
 -- what the word counted, its record counts
@@ -184,6 +188,12 @@ pub read-counts : (f : Family) (wide : Bool) (s : List ℕ) (w : Word) → wordO
 read-counts f wide s w e =
     let (long, by) = through (leb (wordSize wide) (length s)) Short _ w e in
     places-read f wide (placesIn wide s) w (data-length wide s (leb-true (wordSize wide) (length s) long)) by .2
+
+-- the sign that it says stands in its record
+pub read-signed : (f : Family) (wide : Bool) (s : List ℕ) (w : Word) → wordOf f wide s ≡ rightWord w → w .minus ≡ signOf (pos 7 s)
+read-signed f wide s w e =
+    let (long, by) = through (leb (wordSize wide) (length s)) Short _ w e in
+    places-read f wide (placesIn wide s) w (data-length wide s (leb-true (wordSize wide) (length s) long)) by .3
 
 -- from the record
 

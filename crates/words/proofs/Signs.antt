@@ -12,8 +12,9 @@ use Rattle.figures.specs.Decimal.{isDigit, numberOf}
 use Rattle.units.specs.Kinds.{kindOf, indexBy, indexRight, isTextual}
 use Rattle.units.specs.Information.{infoRight, leadOf, isSign, signOf, signRight}
 use Rattle.units.specs.Counts.{whole, zeroWhole, degrees, minutes, seconds, tenthsOf, counted, angleAt, valueAt, firstOf, secondOf}
-use Rattle.words.specs.Records.{width, kindIn, unitIn, countBy, countRight, sameWhole, textRight, isRight}
-use Rattle.words.specs.Reading.{faultNumber, wordSize, pos, dataIn, indexIn, kindAt, leadIn, dataRight, figuresIn, valueIn, isCounted, countOr, recordIn, rightWord, unless, wordOf}
+use Rattle.words.specs.Records.{width, kindIn, unitIn, countBy, countRight, sameWhole, textRight, isRight, typedOf}
+use Rattle.words.specs.Reading.{faultNumber, wordSize, pos, dataIn, underIn, indexIn, kindAt, leadIn, dataRight, figuresIn}
+use Rattle.words.specs.Reading.{valueIn, isCounted, countOr, recordIn, rightWord, unless, wordOf}
 use Rattle.words.specs.Writing.{bytesOf}
 use Rattle.units.specs.declared.kinds.Family.{Family}
 use Rattle.units.specs.declared.kinds.Family.the-variants.{Level}
@@ -34,7 +35,9 @@ use Rattle.words.proofs.Values.{by-unit, by-length, by-constant}
 use Rattle.words.proofs.Checks.{width-bounds}
 use Rattle.words.proofs.Characters.{halves-of}
 use Rattle.words.proofs.Places.{Places, spread, rules, valueBy, recordBy, word-spread}
-use Rattle.words.proofs.RoundTrip.{takes, write-read}
+use Rattle.words.proofs.RoundTrip.{takes, read-counts, write-read}
+use Rattle.words.proofs.Given.{gives}
+use Rattle.words.proofs.Typed.{right-typed}
 use Rattle.words.proofs.Apart.{unless-right}
 
 -- a minus and a plus
@@ -189,6 +192,19 @@ signs w = (w .minus, w .mmminus)
 pub signs-apart : (f : Family) (wide : Bool) (v w : Word) → isRight f wide v ≡ true → isRight f wide w ≡ true → (signs v ≡ signs w → ⊥)
     → bytesOf f wide v ≡ bytesOf f wide w → ⊥
 signs-apart f wide v w ev ew apart e = apart (ap signs (one-record f wide v w ev ew e))
+
+-- "keep the sign": the signs that a word says are its record's, and a record's are its typed count's
+
+pub under-read : (f : Family) (wide : Bool) (s : List ℕ) (w : Word) → wordOf f wide s ≡ rightWord w → kindAt f s ≡ Pair
+    → w .mmminus ≡ signOf (underIn (dataIn wide s))
+under-read f wide s w e is =
+    let t = takes f wide w (gives f wide w s e) in
+    let same : secondOf (countOr (valueIn f wide s)) ≡ whole (w .mmminus) (w .mm) = ap (λ v. secondOf (countOr v)) (read-counts f wide s w e) ∙ t .second in
+    sym (ap (λ (x : Whole). x .minus) (rw is at same))
+
+pub typed-signs : (f : Family) (wide : Bool) (w : Word) → isRight f wide w ≡ true
+    → (firstOf (typedOf f w) ≡ whole (w .minus) (w .size)) × (secondOf (typedOf f w) ≡ whole (w .mmminus) (w .mm))
+typed-signs f wide w e = let t = takes f wide w e in rw (right-typed f wide w e) (t .first, t .second)
 
 -- the record with another sign, of its value or of its mm
 abbrev pub withSign : ℕ → Word → Word
