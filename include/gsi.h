@@ -23,7 +23,7 @@ extern "C" {
    value, mm stands beside it. Text stands from the start of text, 8 or 16 bytes. What a word doesn't use is 0, its sign too.
 
    A minus before zero is kept: `-00000000` is minus 1 and size 0, `+00000000` minus 0 and size 0, and each is written as it was read, in both halves of
-   a pair. A host that compares values and not bytes takes the two for the same number.
+   a pair. As numbers the two are equal; as records they are not.
 
    A digital level's numbers (32, 83, 330-336, 374, 571-574) count, by the unit at info[3]: '0' 1 mm, '1' 1/1000 ft, '6' 1/10 mm, '7' 1/10,000 ft,
    '8' 1/100 mm, '9' 1/2000 inch (0.0005 inch). An index of three digits, 331 say, stands in index, and info[0], which it leaves unused, is 0; info[1]
