@@ -5,7 +5,7 @@ use Prim.Native.String.{String}
 use mathlib.Core.Path.{_≡_}
 use mathlib.Core.List.{List, [], _∷_, _++_, map}
 use Rattle.figures.specs.Text.{codes}
-use Rattle.units.specs.Counts.{whole}
+use Rattle.units.specs.Counts.{whole, zeroWhole}
 use Rattle.units.specs.declared.counts.Whole.{Whole}
 use Rattle.units.specs.declared.counts.Count.{Count}
 use Rattle.units.specs.declared.counts.Count.the-variants.{Gon, Degree, Tenth, Mil, Metre, Feet, Inch, Ppm, Pair}
@@ -19,9 +19,6 @@ use Rattle.bench.specs.Readings.{Reading, returned, refused, word, minus
 
 abbrev pub minusNought : Whole
 minusNought = whole 1 0
-
-abbrev pub nought : Whole
-nought = whole 0 0
 
 -- a word alone, its count, and the same bytes back
 abbrev pub gives : String → Count → Reading
@@ -41,8 +38,8 @@ station =
     ∷ gives "31..08-00000000 " (Metre (record { 0 = minusNought; 1 = 5 }))
     ∷ gives "58..16-00000000 " (Metre (record { 0 = minusNought; 1 = 4 }))
     ∷ gives "59..16-00000000 " (Ppm (record { 0 = minusNought }))
-    ∷ gives "51..1.-0000+000 " (Pair minusNought nought)
-    ∷ gives "51..1.+0000-000 " (Pair nought minusNought)
+    ∷ gives "51..1.-0000+000 " (Pair minusNought zeroWhole)
+    ∷ gives "51..1.+0000-000 " (Pair zeroWhole minusNought)
     ∷ gives "51..1.-0000-000 " (Pair minusNought minusNought)
     ∷ gives "51..1.+0009-000 " (Pair (whole 0 9) minusNought)
     ∷ []

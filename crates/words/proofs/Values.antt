@@ -81,6 +81,7 @@ by-length P metre feet inch u = go (eqb u 48) (eqb u 49) (eqb u 54) (eqb u 55) (
     go false false false false true = inch
     go false false false false false = metre 5
 
+-- the constants: 58 in metres, 59 in ppm
 abbrev pub inPpm : Whole → Count
 inPpm x = Ppm (record { 0 = x })
 
