@@ -134,6 +134,7 @@ static ref_word make_word(unsigned index, unsigned number, int wide, int degrees
         w.info[3] = '.';
         w.size = below(60);
         w.mm = below(35);
+        /* no minus before nought, so that a build from before request 102 can stand beside this one */
         w.minus = w.size != 0 && below(2);
         w.mm_minus = w.mm != 0 && below(2);
         break;

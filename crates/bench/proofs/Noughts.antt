@@ -1,5 +1,6 @@
 -- The claims of minus nought: each reading holds, and the stand-in stores, gives back, takes back, writes and loads it; by computing. Assumes nothing.
 use mathlib.Core.Path.{refl}
+use mathlib.Core.Bool.{Bool, true, false}
 use lib.ListN.{drop}
 use Rattle.figures.specs.Bytes.{among, every, startsWith}
 use Rattle.figures.specs.Decimal.{numberFrom, digitsOf, placesBy}
@@ -17,22 +18,31 @@ use Rattle.sheets.specs.Lines.{linesBy, partBy}
 use Rattle.sheets.specs.Loading.{saidBy}
 use Rattle.units.specs.declared.kinds.Family.the-variants.{Station, Level}
 use Rattle.bench.specs.Readings.{All}
-use Rattle.bench.specs.Noughts.{station, wide, level, Stored}
+use Rattle.bench.specs.Noughts.{station, level, beside, Stored}
 
-pub station-noughts : All Station station
+pub station-noughts : (wide : Bool) → All Station (station wide)
 unfolding among every numberFrom digitsOf blockFrom unlessWrong wordsBytes
-station-noughts =
-    let from8 : All Station (drop 8 station) =
-    ((refl, refl), ((refl, refl), ((refl, refl), ((refl, refl), ((refl, refl), ((refl, refl), ((refl, refl), tt))))))) in
-    ((refl, refl), ((refl, refl), ((refl, refl), ((refl, refl), ((refl, refl), ((refl, refl), ((refl, refl), ((refl, refl), from8))))))))
+station-noughts true =
+    let from10 : All Station (drop 10 (station true)) = ((refl, refl, refl), ((refl, refl, refl), ((refl, refl, refl), ((refl, refl, refl), tt)))) in
+    let from5 : All Station (drop 5 (station true)) =
+    ((refl, refl, refl), ((refl, refl, refl), ((refl, refl, refl), ((refl, refl, refl), ((refl, refl, refl), from10))))) in
+    ((refl, refl, refl), ((refl, refl, refl), ((refl, refl, refl), ((refl, refl, refl), ((refl, refl, refl), from5)))))
+station-noughts false =
+    let from10 : All Station (drop 10 (station false)) = ((refl, refl, refl), ((refl, refl, refl), ((refl, refl, refl), ((refl, refl, refl), tt)))) in
+    let from5 : All Station (drop 5 (station false)) =
+    ((refl, refl, refl), ((refl, refl, refl), ((refl, refl, refl), ((refl, refl, refl), ((refl, refl, refl), from10))))) in
+    ((refl, refl, refl), ((refl, refl, refl), ((refl, refl, refl), ((refl, refl, refl), ((refl, refl, refl), from5)))))
 
-pub wide-noughts : All Station wide
+pub level-noughts : (wide : Bool) → All Level (level wide)
 unfolding among every numberFrom digitsOf blockFrom unlessWrong wordsBytes
-wide-noughts = ((refl, refl), ((refl, refl), ((refl, refl), ((refl, refl), ((refl, refl), ((refl, refl), ((refl, refl), tt)))))))
+level-noughts true =
+    ((refl, refl, refl), ((refl, refl, refl), ((refl, refl, refl), ((refl, refl, refl), ((refl, refl, refl), ((refl, refl, refl), ((refl, refl, refl), tt)))))))
+level-noughts false =
+    ((refl, refl, refl), ((refl, refl, refl), ((refl, refl, refl), ((refl, refl, refl), ((refl, refl, refl), ((refl, refl, refl), ((refl, refl, refl), tt)))))))
 
-pub level-noughts : All Level level
+pub beside-noughts : All Station beside
 unfolding among every numberFrom digitsOf blockFrom unlessWrong wordsBytes
-level-noughts = ((refl, refl), ((refl, refl), ((refl, refl), ((refl, refl), ((refl, refl), ((refl, refl), ((refl, refl), tt)))))))
+beside-noughts = ((refl, refl, refl), ((refl, refl), ((refl, refl), ((refl, refl), tt))))
 
 pub stored-noughts : Stored
 unfolding among every startsWith numberFrom digitsOf placesBy seek rows stored slashAt groupsRight getVerdict getBody after sheetOf linesBy partBy saidBy

@@ -19,7 +19,7 @@ unfolding among every startsWith numberFrom digitsOf blockFrom unlessWrong words
 readings =
     let later : All Station (drop 9 table) =
     ((refl, refl), ((refl, refl), ((refl, refl), ((refl, refl), ((refl, refl), ((refl, refl), ((refl, refl), tt))))))) in
-    ((refl, refl), ((refl, refl), ((refl, refl), ((refl, refl), ((refl, refl), ((refl, refl), ((refl, refl), ((refl, refl), ((refl, refl), later)))))))))
+    ((refl, refl), ((refl, refl), ((refl, refl), ((refl, refl), ((refl, refl), ((refl, refl), ((refl, refl), ((refl, refl), ((refl, refl, refl), later)))))))))
 
 pub level-listing : All Level listing
 unfolding among every numberFrom blockFrom

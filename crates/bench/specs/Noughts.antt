@@ -1,71 +1,86 @@
 -- The bench readings of minus nought (request 102): "Accept minus before zero in angles, lengths, constants and both halves of a pair, in blocks, PUT
 -- words and sheets, and keep the sign so that the bytes come back."
-use Prim.Native.Nat.{ℕ}
+use Prim.Native.Nat.{ℕ, _+_, _-_}
 use Prim.Native.String.{String}
 use mathlib.Core.Path.{_≡_}
+use mathlib.Core.Bool.{Bool, false}
 use mathlib.Core.List.{List, [], _∷_, _++_, map}
+use lib.ListN.{replicate}
 use Rattle.figures.specs.Text.{codes}
 use Rattle.units.specs.Counts.{whole, zeroWhole}
 use Rattle.units.specs.declared.counts.Whole.{Whole}
 use Rattle.units.specs.declared.counts.Count.{Count}
 use Rattle.units.specs.declared.counts.Count.the-variants.{Gon, Degree, Tenth, Mil, Metre, Feet, Inch, Ppm, Pair}
+use Rattle.words.specs.Records.{width}
+use Rattle.words.specs.Reading.{wordSize}
+use Rattle.blocks.specs.Judging.{firstAt}
+use Rattle.blocks.specs.Composing.{starBytes}
+use Rattle.blocks.specs.declared.answers.Answer.{Answer}
 use Rattle.state.specs.Entries.{factoryState}
 use Rattle.state.specs.declared.entries.State.{State}
 use Rattle.lines.specs.Machine.{step}
 use Rattle.lines.specs.Demand.{after}
 use Rattle.sheets.specs.Sheet.{sheetOf}
 use Rattle.sheets.specs.Loading.{right, loadingOf}
-use Rattle.bench.specs.Readings.{Reading, returned, refused, word, minus-mm}
+use Rattle.bench.specs.Readings.{Reading, returned, refused, word, read, one, minus-mm}
 
 abbrev pub minusNought : Whole
 minusNought = whole 1 0
 
--- a word alone, its count, and the same bytes back
-abbrev pub gives : String → Count → Reading
-gives w c = returned (word w) (c ∷ [])
+-- the block of one word of the width
+abbrev pub alone : Bool → Answer
+alone wide = read wide false 1 (firstAt wide + wordSize wide + 1)
+
+abbrev pub noughts : ℕ → List ℕ
+noughts n = replicate n 48
+
+-- a minus and noughts after positions 1-6, in a word of the width: its count, and the same bytes back
+abbrev pub gives : Bool → String → Count → Reading
+gives wide head c = returned (starBytes wide ++ (codes head ++ (codes "-" ++ (noughts (width wide) ++ word " ")))) (alone wide) (c ∷ [])
+
+-- the two signs of a pair of noughts
+abbrev pub pairGives : Bool → String → String → Count → Reading
+pairGives wide ppm mm c =
+    returned (starBytes wide ++ (codes "51..1." ++ (codes ppm ++ (noughts (width wide - 4) ++ (codes mm ++ word "000 "))))) (alone wide) (c ∷ [])
 
 -- a total station's: each unit, the constants, either half of a pair
-abbrev pub station : List Reading
-station =
-    gives "21.102-00000000 " (Gon (record { 0 = minusNought }))
-    ∷ gives "21.103-00000000 " (Degree (record { 0 = minusNought }))
-    ∷ gives "21.104-00000000 " (Tenth (record { 0 = minusNought }))
-    ∷ gives "21.105-00000000 " (Mil (record { 0 = minusNought }))
-    ∷ gives "31..00-00000000 " (minus-mm 0)
-    ∷ gives "31..01-00000000 " (Feet (record { 0 = minusNought; 1 = 3 }))
-    ∷ gives "31..06-00000000 " (Metre (record { 0 = minusNought; 1 = 4 }))
-    ∷ gives "31..07-00000000 " (Feet (record { 0 = minusNought; 1 = 4 }))
-    ∷ gives "31..08-00000000 " (Metre (record { 0 = minusNought; 1 = 5 }))
-    ∷ gives "58..16-00000000 " (Metre (record { 0 = minusNought; 1 = 4 }))
-    ∷ gives "59..16-00000000 " (Ppm (record { 0 = minusNought }))
-    ∷ gives "51..1.-0000+000 " (Pair minusNought zeroWhole)
-    ∷ gives "51..1.+0000-000 " (Pair zeroWhole minusNought)
-    ∷ gives "51..1.-0000-000 " (Pair minusNought minusNought)
-    ∷ gives "51..1.+0009-000 " (Pair (whole 0 9) minusNought)
+abbrev pub station : Bool → List Reading
+station wide =
+    gives wide "21.102" (Gon (record { 0 = minusNought }))
+    ∷ gives wide "21.103" (Degree (record { 0 = minusNought }))
+    ∷ gives wide "21.104" (Tenth (record { 0 = minusNought }))
+    ∷ gives wide "21.105" (Mil (record { 0 = minusNought }))
+    ∷ gives wide "31..00" (minus-mm 0)
+    ∷ gives wide "31..01" (Feet (record { 0 = minusNought; 1 = 3 }))
+    ∷ gives wide "31..06" (Metre (record { 0 = minusNought; 1 = 4 }))
+    ∷ gives wide "31..07" (Feet (record { 0 = minusNought; 1 = 4 }))
+    ∷ gives wide "31..08" (Metre (record { 0 = minusNought; 1 = 5 }))
+    ∷ gives wide "58..16" (Metre (record { 0 = minusNought; 1 = 4 }))
+    ∷ gives wide "59..16" (Ppm (record { 0 = minusNought }))
+    ∷ pairGives wide "-" "+" (Pair minusNought zeroWhole)
+    ∷ pairGives wide "+" "-" (Pair zeroWhole minusNought)
+    ∷ pairGives wide "-" "-" (Pair minusNought minusNought)
     ∷ []
 
--- wide; and what is refused as before: an angle out of its range, text with a minus
-abbrev pub wide : List Reading
-wide =
-    gives "*21.104-0000000000000000 " (Tenth (record { 0 = minusNought }))
-    ∷ gives "*31..00-0000000000000000 " (minus-mm 0)
-    ∷ gives "*59..16-0000000000000000 " (Ppm (record { 0 = minusNought }))
-    ∷ gives "*51..1.-000000000000-000 " (Pair minusNought minusNought)
+-- a level's: each unit after three digits, and after two
+abbrev pub level : Bool → List Reading
+level wide =
+    gives wide "573..0" (minus-mm 0)
+    ∷ gives wide "573..1" (Feet (record { 0 = minusNought; 1 = 3 }))
+    ∷ gives wide "573..6" (Metre (record { 0 = minusNought; 1 = 4 }))
+    ∷ gives wide "573..7" (Feet (record { 0 = minusNought; 1 = 4 }))
+    ∷ gives wide "573..8" (Metre (record { 0 = minusNought; 1 = 5 }))
+    ∷ gives wide "573..9" (Inch (record { 0 = minusNought }))
+    ∷ gives wide "83..16" (Metre (record { 0 = minusNought; 1 = 4 }))
+    ∷ []
+
+-- a minus before mm of nought alone; and what is refused as before, an angle out of its range and text with a minus
+abbrev pub beside : List Reading
+beside =
+    returned (word "51..1.+0009-000 ") (one 17) (Pair (whole 0 9) minusNought ∷ [])
     ∷ refused (word "21.102-40000000 ") 10 0
     ∷ refused (word "21.104-00000600 ") 10 0
     ∷ refused (word "11....-00000000 ") 7 0
-    ∷ []
-
--- a level's
-abbrev pub level : List Reading
-level =
-    gives "573..0-00000000 " (minus-mm 0)
-    ∷ gives "573..1-00000000 " (Feet (record { 0 = minusNought; 1 = 3 }))
-    ∷ gives "573..6-00000000 " (Metre (record { 0 = minusNought; 1 = 4 }))
-    ∷ gives "573..7-00000000 " (Feet (record { 0 = minusNought; 1 = 4 }))
-    ∷ gives "573..8-00000000 " (Metre (record { 0 = minusNought; 1 = 5 }))
-    ∷ gives "573..9-00000000 " (Inch (record { 0 = minusNought }))
-    ∷ gives "*83..16-0000000000000000 " (Metre (record { 0 = minusNought; 1 = 4 }))
     ∷ []
 
 -- a fresh stand-in after lines, each with its CR and 306 bytes of room, and its reply to one more

@@ -22,11 +22,11 @@ use Rattle.state.specs.Entries.{factoryState}
 use Rattle.lines.specs.Verdicts.{verdictNumber}
 use Rattle.lines.specs.Machine.{Outcome, step}
 
--- a block that is accepted, with its width, end, words and bytes, and its words' typed counts; one that is accepted with these counts and written
--- back to the same bytes; one that is refused, with number and place; a line, with its number and its reply
+-- a block that is accepted, with its width, end, words and bytes, and its words' typed counts; one that is so accepted, and written back to the same
+-- bytes; one that is refused, with number and place; a line, with its number and its reply
 pub data Reading : Type 0 where
   accepted : List ℕ → Answer → List Count → Reading
-  returned : List ℕ → List Count → Reading
+  returned : List ℕ → Answer → List Count → Reading
   refused : List ℕ → ℕ → ℕ → Reading
   answered : List ℕ → ℕ → List ℕ → Reading
 
@@ -54,7 +54,8 @@ reply line = step factoryState line 306
 
 abbrev pub Holds : Family → Reading → Type 0
 Holds f (accepted s answer counts) = (reading f s .answer ≡ answer) × (map (typedOf f) (reading f s .words) ≡ counts)
-Holds f (returned s counts) = (map (typedOf f) (reading f s .words) ≡ counts) × (back f s ≡ record { answer = Written (length s); room = s })
+Holds f (returned s answer counts) =
+    (reading f s .answer ≡ answer) × (map (typedOf f) (reading f s .words) ≡ counts) × (back f s ≡ record { answer = Written (length s); room = s })
 Holds f (refused s number place) = (answerNumber (reading f s .answer) ≡ number) × (answerPlace (reading f s .answer) ≡ place)
 Holds f (answered line number r) = (verdictNumber (reply line .verdict) ≡ number) × (reply line .reply ≡ r)
 
@@ -111,7 +112,7 @@ table =
     ∷ accepted (word "21.104+35959599 ") (one 17) (tenth 12959999 ∷ [])  -- P5
     ∷ refused (word "21.104+00060000 ") 10 0  -- P5
     ∷ accepted (word "82..00-00213159 ") (one 17) (minus-mm 213159 ∷ [])  -- P6
-    ∷ returned (word "82..00-00000000 ") (minus-mm 0 ∷ [])  -- P6, as request 102 has it
+    ∷ returned (word "82..00-00000000 ") (one 17) (minus-mm 0 ∷ [])  -- P6, as request 102 has it
     ∷ refused (word "331106+00010198 ") 6 0  -- P7
     ∷ line "SET/40/2" 0 "?"  -- P8
     ∷ line "SET/40/3" 24 "@W127"  -- P8

@@ -3,7 +3,7 @@ pub mod Counts
 pub mod Written
 pub mod Accepted
 pub mod Exactly
-pub mod Ten
+pub mod Faults
 pub mod Typed
 pub mod Determined
 pub mod Steps
