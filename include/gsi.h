@@ -1,8 +1,8 @@
 /* gsi.h: what a host in C links from libhost.a. Every function is proved to do just what is said here, whatever it is lent.
 
-   Each function but gsi_image_size answers number * 2^32 + told: GSI_NUMBER and GSI_TOLD take the two apart. The number is 0 where the call was
-   accepted; otherwise it is document 01's refusal. A buffer is a pointer and a length; a length of 0 lends nothing. Buffers that are lent to one
-   call don't overlap, and a list of records is aligned as its type asks. Nothing is kept between calls. */
+   Each function but the two that tell an image's length answers number * 2^32 + told: GSI_NUMBER and GSI_TOLD take the two apart. The number is 0
+   where the call was accepted; otherwise it is document 01's refusal. A buffer is a pointer and a length; a length of 0 lends nothing. Buffers that
+   are lent to one call don't overlap, and a list of records is aligned as its type asks. Nothing is kept between calls. */
 #ifndef GSI_H
 #define GSI_H
 
@@ -49,8 +49,8 @@ GSI_ASSERT(offsetof(gsi_word, size) == 8 && offsetof(gsi_word, mm) == 16 && offs
 #define GSI_IS_WIDE(answer) ((int)((answer) >> 24 & 1))        /* 16-wide words, after a `*` */
 #define GSI_IS_CRLF(answer) ((int)((answer) >> 25 & 1))        /* the terminator is CR LF */
 
-/* The longest block, reply and sheet. */
-enum { GSI_BLOCK_MOST = 771, GSI_REPLY_MOST = 306, GSI_SHEET_MOST = 352 };
+/* The longest block, reply and sheet, of either series: a TPS300's wide GET and its sheet. A TPS100's reply has at most 306 bytes, its sheet 352. */
+enum { GSI_BLOCK_MOST = 771, GSI_REPLY_MOST = 459, GSI_SHEET_MOST = 441 };
 
 /* Reads the total station's block at the start of n bytes into a list of so many places.
    Read (0): tells GSI_USED, GSI_WORDS, GSI_IS_WIDE and GSI_IS_CRLF; records beyond the words are as before, bytes after the terminator aren't looked at.
@@ -70,15 +70,18 @@ uint64_t gsi_write(const gsi_word *list, size_t words, uint64_t wide, uint64_t c
 uint64_t gsi_read_level(const uint8_t *block, size_t n, gsi_word *list, size_t places);
 uint64_t gsi_write_level(const gsi_word *list, size_t words, uint64_t wide, uint64_t crlf, uint8_t *block, size_t room);
 
-/* The length of an image, the bytes that a state is lent as (docs/IMAGE.md): the number itself. */
+/* The length of an image, the bytes that a state is lent as (docs/IMAGE.md): the number itself, of a TPS100 and of a TPS300/700. An image says its
+   series, and each function below goes by it. */
 uint64_t gsi_image_size(void);
+uint64_t gsi_image_size_300(void);
 
-/* Lays the factory state down in exactly the image's length, whatever the bytes were. Another length: 31, and nothing is touched. */
+/* Lays the series' factory state down in exactly its image's length, whatever the bytes were. Another length: 31, and nothing is touched. */
 uint64_t gsi_factory(uint8_t *image, size_t n);
+uint64_t gsi_factory_300(uint8_t *image, size_t n);
 
 /* Runs one line, its CR or CR LF included, on the image, and writes its reply into the room.
    Accepted (0): tells the reply's bytes; the image is that of the next state; room beyond the reply is as before.
-   Refused by 20 to 29: the same with `@W127` for the reply, and the image as before.
+   Refused by 20 to 29 or 38 (a SET of a number that can only be asked for): the same with `@W127` for the reply, and the image as before.
    30 (the reply is longer than the room) and 31 (the bytes are no image): tells 0, and nothing is written or changed. */
 uint64_t gsi_line(uint8_t *image, size_t n, const uint8_t *line, size_t m, uint8_t *reply, size_t room);
 
@@ -87,7 +90,8 @@ uint64_t gsi_line(uint8_t *image, size_t n, const uint8_t *line, size_t m, uint8
 uint64_t gsi_sheet_write(const uint8_t *image, size_t n, uint8_t *sheet, size_t room);
 
 /* Loads a sheet: the image is then that of its settings and values with no undo entry. Loaded (0): tells 0.
-   31 (the bytes are no image): tells 0. 40: tells the start of the first wrong, missing or surplus line. Refused, the image is as before. */
+   31 (the bytes are no image): tells 0. 40: tells the start of the first wrong, missing or surplus line; a sheet of the other series is wrong at its
+   first, so tells 0. Refused, the image is as before. */
 uint64_t gsi_sheet_load(uint8_t *image, size_t n, const uint8_t *sheet, size_t m);
 
 #ifdef __cplusplus

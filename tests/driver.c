@@ -1,7 +1,7 @@
-/* driver.c: sweeps the words and records of both families and minus nought wherever it may stand, makes cases by seed and
-   compares the library (gsi_*) with the second implementation (ref_*): the answer and every lent byte. Usage: driver CASES
-   SEED, the sweeps not counted. Status 0 when there is no difference and every number was seen, and minus nought in each
-   function that may have it. */
+/* driver.c: sweeps the words and records of both families, minus nought wherever it may stand, and the settings, sheets and
+   images of both series, makes cases by seed and compares the library (gsi_*) with the second implementation (ref_*): the
+   answer and every lent byte. Usage: driver CASES SEED, the sweeps not counted. Status 0 when there is no difference and every
+   number was seen, minus nought in each function that may have it, and wide replies. */
 #include "reference.h"
 
 int printf(const char *, ...);
@@ -17,15 +17,45 @@ uint64_t gsi_write(const ref_word *list, size_t words, uint64_t wide, uint64_t c
 uint64_t gsi_read_level(const uint8_t *block, size_t n, ref_word *list, size_t places);
 uint64_t gsi_write_level(const ref_word *list, size_t words, uint64_t wide, uint64_t crlf, uint8_t *block, size_t room);
 uint64_t gsi_image_size(void);
+uint64_t gsi_image_size_300(void);
 uint64_t gsi_factory(uint8_t *image, size_t n);
+uint64_t gsi_factory_300(uint8_t *image, size_t n);
 uint64_t gsi_line(uint8_t *image, size_t n, const uint8_t *line, size_t m, uint8_t *reply, size_t room);
 uint64_t gsi_sheet_write(const uint8_t *image, size_t n, uint8_t *sheet, size_t room);
 uint64_t gsi_sheet_load(uint8_t *image, size_t n, const uint8_t *sheet, size_t m);
 
 enum { CR = 13, LF = 10 };
-enum { IMAGE = 1039, SETTINGS = 19, VALUES = 11, AT_VALUES = 20, AT_COUNT = 141, AT_ENTRIES = 143 };
+enum { VALUES = 11, VALUE = 11, ENTRIES = 64, ENTRY = 14 };
 
 #define COUNT_OF(array) (sizeof(array) / sizeof *(array))
+
+/* The series */
+
+enum { TPS100, TPS300, SERIES };
+enum { MOST_SETTINGS = 30, MOST_IMAGE = 1050, MOST_REPLY = 459, MOST_SHEET = 441, MOST_LINES = 1 + MOST_SETTINGS + VALUES };
+
+/* A series' settings in their order, where its image has what, its longest reply, its least and greatest sheet. */
+static const struct shape {
+    const char *name;
+    uint8_t mark;
+    unsigned settings, of_73, of_137;
+    size_t image, values, count, entries, reply, least_sheet, sheet;
+    struct setting { uint8_t number, lowest, highest, read_only; } setting[MOST_SETTINGS];
+} shapes[SERIES] = {
+    {"TPS100", 1, 19, 10, 19, 1039, 20, 141, 143, 306, 187, 352,
+     {{30, 0, 1, 0}, {32, 0, 3, 0}, {34, 0, 1, 0}, {40, 0, 2, 0}, {41, 0, 1, 0}, {44, 0, 2, 0}, {49, 0, 1, 0}, {50, 0, 2, 0},
+      {70, 0, 5, 0}, {71, 0, 2, 0}, {73, 0, 1, 0}, {76, 0, 1, 0}, {80, 0, 1, 0}, {81, 0, 2, 0}, {95, 0, 1, 0}, {102, 0, 1, 0},
+      {103, 0, 1, 0}, {135, 0, 1, 0}, {136, 0, 1, 0}}},
+    {"TPS300", 17, 30, 9, 25, 1050, 31, 152, 154, 459, 263, 441,
+     {{41, 0, 4, 0}, {42, 0, 1, 0}, {43, 0, 6, 0}, {50, 0, 4, 0}, {51, 0, 4, 0}, {55, 1, 10, 0}, {56, 1, 10, 0}, {70, 0, 6, 0},
+      {71, 0, 2, 0}, {73, 0, 1, 0}, {75, 0, 1, 0}, {76, 0, 1, 0}, {78, 0, 50, 0}, {90, 0, 10, 1}, {91, 0, 100, 1}, {95, 0, 1, 0},
+      {102, 0, 1, 0}, {103, 0, 1, 0}, {104, 0, 100, 0}, {105, 0, 100, 0}, {106, 0, 1, 0}, {120, 0, 1, 0}, {122, 0, 1, 1},
+      {135, 0, 8, 0}, {136, 0, 127, 0}, {137, 0, 1, 0}, {160, 0, 1, 1}, {161, 0, 10, 0}, {170, 0, 1, 1}, {171, 0, 1, 0}}},
+};
+
+/* The series that the case at hand is made for, and its shape. */
+static unsigned series;
+static const struct shape *shape = shapes;
 
 /* Chance */
 
@@ -108,7 +138,17 @@ struct lent {
 };
 
 static struct lent block = {.name = "block"}, list = {.name = "list"}, line = {.name = "line"}, reply = {.name = "reply"},
-                   sheet = {.name = "sheet"}, spare = {.name = "image"}, run = {.name = "image"};
+                   sheet = {.name = "sheet"}, spare = {.name = "image"};
+
+/* A run of each series goes on between the cases; run is that of the series at hand. */
+static struct lent runs[SERIES] = {{.name = "image"}, {.name = "image"}}, *run = runs;
+
+static void turn_to(unsigned of)
+{
+    series = of;
+    shape = &shapes[of];
+    run = &runs[of];
+}
 
 static uint8_t pool[1 << 16];
 
@@ -133,12 +173,18 @@ static void lend(struct lent *l, const void *content, size_t len, int how)
 
 /* One comparison */
 
-/* READ and WRITE have each family's function at its place. */
+/* READ and WRITE have each family's function at its place, the others each series'; what is not the factory's is one function
+   that goes by the image, and is told apart here by the series that its case is made for. */
 enum { STATION, LEVEL, FAMILIES };
-enum { READ, WRITE = READ + FAMILIES, FACTORY = WRITE + FAMILIES, LINE, SHEET_WRITE, SHEET_LOAD, FUNCTIONS };
-static const char *const names[FUNCTIONS] = {"read", "read_level", "write", "write_level", "factory", "line", "sheet_write", "sheet_load"};
+enum {
+    READ, WRITE = READ + FAMILIES, FACTORY = WRITE + FAMILIES, LINE = FACTORY + SERIES, SHEET_WRITE = LINE + SERIES,
+    SHEET_LOAD = SHEET_WRITE + SERIES, FUNCTIONS = SHEET_LOAD + SERIES
+};
+static const char *const names[FUNCTIONS] = {
+    "read", "read_level", "write", "write_level", "factory", "factory_300", "line", "TPS300 line", "sheet_write", "TPS300 sheet_write",
+    "sheet_load", "TPS300 sheet_load"};
 
-static uint64_t wanted, cases, seed, seen[FUNCTIONS][41], with_nought[FUNCTIONS];
+static uint64_t wanted, cases, seed, seen[FUNCTIONS][41], with_nought[FUNCTIONS], wide_replies;
 static const char *kind_name;
 static uint64_t *kind_count;
 static int sweeping;
@@ -240,11 +286,14 @@ static int has_nought(uint64_t ours)
     case WRITE + STATION:
     case WRITE + LEVEL:
         return records_have_nought(list.before + list.start, list.len / sizeof(ref_word));
-    case LINE:
+    case LINE + TPS100:
+    case LINE + TPS300:
         return bytes_have_nought(line.before + line.start, line.len) || bytes_have_nought(reply.ours + reply.start, told);
-    case SHEET_WRITE:
+    case SHEET_WRITE + TPS100:
+    case SHEET_WRITE + TPS300:
         return bytes_have_nought(sheet.ours + sheet.start, told);
-    case SHEET_LOAD:
+    case SHEET_LOAD + TPS100:
+    case SHEET_LOAD + TPS300:
         return bytes_have_nought(sheet.before + sheet.start, sheet.len);
     default:
         return 0;
@@ -264,6 +313,8 @@ static void compare(uint64_t theirs, uint64_t ours)
         seen[now.function][ours >> 32] += !sweeping;
     if (!sweeping)
         with_nought[now.function] += (uint64_t)has_nought(ours);
+    if (!sweeping && now.function == LINE + TPS300 && ours >> 32 == 0)
+        wide_replies += reply.ours[reply.start] == '*';
     if (cases == wanted)
         finish();
 }
@@ -374,20 +425,25 @@ static void renew(struct lent *image)
     image->input = 0;
 }
 
-static void check_factory(struct lent *image)
+static uint64_t (*const factory_by[SERIES][2])(uint8_t *image, size_t n) = {
+    {gsi_factory, ref_factory}, {gsi_factory_300, ref_factory_300}};
+
+static uint64_t check_factory(struct lent *image, unsigned of)
 {
-    uint64_t theirs;
-    begin(FACTORY, image, 0);
+    uint64_t theirs, ours;
+    begin(FACTORY + of, image, 0);
     renew(image);
-    theirs = gsi_factory(image->theirs + image->start, image->len);
-    compare(theirs, ref_factory(image->ours + image->start, image->len));
+    theirs = factory_by[of][THEIRS](image->theirs + image->start, image->len);
+    ours = factory_by[of][OURS](image->ours + image->start, image->len);
+    compare(theirs, ours);
+    return ours;
 }
 
 /* Plays the line in src. */
 static uint64_t check_line(struct lent *image, size_t m, size_t room)
 {
     uint64_t theirs, ours;
-    begin(LINE, image, &line);
+    begin(LINE + series, image, &line);
     now.lent[2] = &reply;
     renew(image);
     lend(&line, src, m, IN);
@@ -401,7 +457,7 @@ static uint64_t check_line(struct lent *image, size_t m, size_t room)
 static uint64_t check_sheet_write(struct lent *image, size_t room)
 {
     uint64_t theirs, ours;
-    begin(SHEET_WRITE, image, &sheet);
+    begin(SHEET_WRITE + series, image, &sheet);
     renew(image);
     image->input = 1;
     lend(&sheet, 0, room, 0);
@@ -415,7 +471,7 @@ static uint64_t check_sheet_write(struct lent *image, size_t room)
 static uint64_t check_sheet_load(struct lent *image, size_t m)
 {
     uint64_t theirs, ours;
-    begin(SHEET_LOAD, image, &sheet);
+    begin(SHEET_LOAD + series, image, &sheet);
     renew(image);
     lend(&sheet, src, m, IN);
     theirs = gsi_sheet_load(image->theirs + image->start, image->len, sheet.theirs + sheet.start, m);
@@ -1249,9 +1305,69 @@ static void sweep_records(void)
 
 /* States */
 
-static const struct { uint8_t number, highest; } settings[SETTINGS] = {
-    {30, 1}, {32, 3}, {34, 1}, {40, 2}, {41, 1}, {44, 2}, {49, 1}, {50, 2}, {70, 5}, {71, 2},
-    {73, 1}, {76, 1}, {80, 1}, {81, 2}, {95, 1}, {102, 1}, {103, 1}, {135, 1}, {136, 1}};
+/* 103: "161 only 0, 1, 5, 6, 7, 9 or 10"; TPS100 has no such number. */
+static const uint8_t edm_modes[] = {0, 1, 5, 6, 7, 9, 10};
+
+static int takes(const struct setting *setting, unsigned parameter)
+{
+    if (setting->number != 161)
+        return parameter >= setting->lowest && parameter <= setting->highest;
+    for (size_t i = 0; i < COUNT_OF(edm_modes); i++)
+        if (edm_modes[i] == parameter)
+            return 1;
+    return 0;
+}
+
+/* A parameter that the setting takes, often at an end of its range. */
+static uint8_t some_parameter(unsigned place)
+{
+    const struct setting *setting = &shape->setting[place];
+    if (setting->number == 161)
+        return PICK(edm_modes);
+    if (one_in(4))
+        return one_in(2) ? setting->highest : setting->lowest;
+    return (uint8_t)(setting->lowest + below(setting->highest - setting->lowest + 1u));
+}
+
+/* One about the ends of its range, between modes, or any. */
+static uint8_t odd_parameter(unsigned place)
+{
+    const struct setting *setting = &shape->setting[place];
+    switch (setting->number == 161 ? 1 + below(3) : below(6)) {
+    case 0:
+        return (uint8_t)(setting->lowest - 1);
+    case 1:
+        return (uint8_t)below(13);
+    case 2:
+        return (uint8_t)below(256);
+    default:
+        return (uint8_t)(setting->highest + below(3));
+    }
+}
+
+/* The place of any setting, often one with a lowest above 0, with modes left out, or that can't be SET. */
+static unsigned odd_setting(void)
+{
+    unsigned place = below(shape->settings), steps = one_in(3) ? shape->settings : 0;
+    for (; steps > 0; steps--) {
+        const struct setting *setting = &shape->setting[place];
+        if (setting->lowest || setting->read_only || setting->number == 161)
+            break;
+        place = (place + 1) % shape->settings;
+    }
+    return place;
+}
+
+/* The place of a setting that can be SET. */
+static unsigned some_setting(void)
+{
+    unsigned place;
+    do {
+        place = below(shape->settings);
+    } while (shape->setting[place].read_only);
+    return place;
+}
+
 static const uint8_t stored[VALUES] = {11, 16, 21, 24, 34, 83, 84, 85, 86, 87, 88};
 
 static char stored_kind(unsigned place)
@@ -1322,14 +1438,14 @@ static void make_state(uint8_t *s)
     uint8_t put[VALUES];
     unsigned entries, scarce = below(4);
 
-    memset(s, 0, IMAGE);
-    s[0] = 1;
-    for (unsigned i = 0; i < SETTINGS; i++)
-        s[1 + i] = (uint8_t)below(settings[i].highest + 1u);
+    memset(s, 0, shape->image);
+    s[0] = shape->mark;
+    for (unsigned i = 0; i < shape->settings; i++)
+        s[1 + i] = some_parameter(i);
     for (unsigned i = 0; i < VALUES; i++) {
         put[i] = scarce == 0 ? one_in(4) : scarce == 1 || !one_in(4);
         if (put[i])
-            value_of(s + AT_VALUES + 11 * i, i, 0);
+            value_of(s + shape->values + VALUE * i, i, 0);
     }
     switch (below(6)) {
     case 0:
@@ -1348,9 +1464,9 @@ static void make_state(uint8_t *s)
         entries = below(6);
         break;
     }
-    s[AT_COUNT + 1] = (uint8_t)entries;
+    s[shape->count + 1] = (uint8_t)entries;
     while (entries > 0) {
-        uint8_t *e = s + AT_ENTRIES + 14 * --entries;
+        uint8_t *e = s + shape->entries + ENTRY * --entries;
         unsigned place = below(VALUES);
         if (one_in(2) && put[place]) {
             e[0] = 2;
@@ -1359,24 +1475,31 @@ static void make_state(uint8_t *s)
             if (put[place])
                 value_of(e + 3, place, 0);
         } else {
-            place = below(SETTINGS);
+            place = some_setting();
             e[0] = 1;
             e[1] = (uint8_t)place;
-            e[2] = (uint8_t)below(settings[place].highest + 1u);
+            e[2] = some_parameter(place);
         }
     }
 }
 
 /* A state's bytes, with room for the guard's. */
-static uint8_t state[IMAGE + GUARD + 8];
+static uint8_t state[MOST_IMAGE + GUARD + 8];
 
 /* Lends the spare image a state: the run's own (deep), or any. Answers its bytes in state. */
 static void take_state(void)
 {
     if (one_in(2))
-        memcpy(state, run.theirs + run.start, IMAGE);
+        memcpy(state, run->theirs + run->start, shape->image);
     else
         make_state(state);
+}
+
+/* The state's undo list emptied. */
+static void empty_undo(void)
+{
+    state[shape->count] = state[shape->count + 1] = 0;
+    memset(state + shape->entries, 0, ENTRIES * ENTRY);
 }
 
 static struct lent *lend_state(size_t n)
@@ -1389,9 +1512,9 @@ static struct lent *lend_state(size_t n)
 static struct lent *some_image(void)
 {
     if (one_in(2))
-        return &run;
+        return run;
     make_state(state);
-    return lend_state(IMAGE);
+    return lend_state(shape->image);
 }
 
 /* Lines */
@@ -1457,18 +1580,25 @@ static void say_odd_number(unsigned v)
     }
 }
 
-static void say_set(unsigned place, unsigned parameter)
+static void say_set_of(unsigned number, unsigned parameter)
 {
     say("SET/");
-    say_number(settings[place].number);
+    say_number(number);
     say("/");
     say_number(parameter);
 }
 
+static void say_set(unsigned place, unsigned parameter)
+{
+    say_set_of(shape->setting[place].number, parameter);
+}
+
 static void say_right_set(void)
 {
-    unsigned place = one_in(5) ? 10 : below(SETTINGS);
-    say_set(place, below(settings[place].highest + 1u));
+    unsigned place = one_in(5) ? shape->of_73 : some_setting();
+    if (shape->of_137 < shape->settings && one_in(6))
+        place = shape->of_137;
+    say_set(place, some_parameter(place));
 }
 
 static void say_put(unsigned place, int edge)
@@ -1481,7 +1611,7 @@ static void say_put(unsigned place, int edge)
 static void say_conf(void)
 {
     say("CONF/");
-    say_number(PICK(settings).number);
+    say_number(shape->setting[below(shape->settings)].number);
 }
 
 /* A GET of so many indexes, most of them put, with repeats; one in `odds` of the lines has others among them. */
@@ -1491,7 +1621,7 @@ static void say_get(const uint8_t *s, unsigned count, unsigned odds)
     say("GET/I");
     for (unsigned i = 0; i < count; i++) {
         unsigned place = below(VALUES);
-        for (int tries = 0; tries < 12 && !s[AT_VALUES + 11 * place]; tries++)
+        for (int tries = 0; tries < 12 && !s[shape->values + VALUE * place]; tries++)
             place = (place + 1) % VALUES;
         if (odd && one_in(8))
             place = below(VALUES);
@@ -1545,39 +1675,45 @@ static void say_odd_end(void)
     say(PICK(ends));
 }
 
-/* A room for the reply: ample, or about its length on this state. */
-static size_t some_room(const struct lent *image)
+/* A room about the length of the reply on this state. */
+static size_t near_room(const struct lent *image)
 {
-    static uint8_t trial[IMAGE + 1], room[400];
-    size_t told;
-    if (!one_in(3))
-        return one_in(2) ? 306 : 300 + below(11);
-    if (one_in(3))
-        return below(311);
-    if (one_in(4))
-        return below(13);
-    memcpy(trial, image->theirs + image->start, image->len < IMAGE ? image->len : IMAGE);
-    told = (size_t)(ref_line(trial, image->len < IMAGE ? image->len : IMAGE, src, len, room, sizeof room) & 0xFFFFFFFF);
+    static uint8_t trial[MOST_IMAGE + 1], room[MOST_REPLY];
+    size_t n = image->len < MOST_IMAGE ? image->len : MOST_IMAGE, told;
+    memcpy(trial, image->theirs + image->start, n);
+    told = (size_t)(ref_line(trial, n, src, len, room, sizeof room) & 0xFFFFFFFF);
     told += below(3);
     return told ? told - 1 : 0;
+}
+
+/* A room for the reply: ample, or about its length. */
+static size_t some_room(const struct lent *image)
+{
+    if (!one_in(3))
+        return one_in(2) ? shape->reply : one_in(2) ? 300 + below(11) : shape->reply - 6 + below(11);
+    if (one_in(3))
+        return below(shape->reply + 5);
+    if (one_in(4))
+        return below(13);
+    return near_room(image);
 }
 
 /* Cases of the run: two images in step */
 
 static const uint8_t *standing(void)
 {
-    return run.theirs + run.start;
+    return run->theirs + run->start;
 }
 
 static unsigned standing_entries(void)
 {
-    return standing()[AT_COUNT + 1];
+    return standing()[shape->count + 1];
 }
 
 static void play(size_t room)
 {
     say_end();
-    check_line(&run, len, room);
+    check_line(run, len, room);
     len = 0;
 }
 
@@ -1585,18 +1721,18 @@ static void play(size_t room)
 static void start_run(void)
 {
     if (one_in(2)) {
-        lend(&run, 0, IMAGE, 0);
-        check_factory(&run);
+        lend(run, 0, shape->image, 0);
+        check_factory(run, series);
     } else {
         make_state(state);
-        lend(&run, state, IMAGE, 0);
+        lend(run, state, shape->image, 0);
     }
 }
 
 /* Lines between, which show the state and may be wrong. */
 static void look(void)
 {
-    unsigned parameter = below(7);
+    unsigned place = odd_setting(), parameter = one_in(2) ? below(7) : odd_parameter(place);
     len = 0;
     switch (below(5)) {
     case 0:
@@ -1610,13 +1746,13 @@ static void look(void)
         damage(0, len);
         break;
     case 3:
-        say_set(below(SETTINGS), parameter);
+        say_set(place, parameter);
         break;
     default:
         say_put(below(VALUES), 1);
         break;
     }
-    play(one_in(4) ? below(30) : 306);
+    play(one_in(4) ? below(30) : shape->reply);
 }
 
 static void run_phase(void)
@@ -1630,13 +1766,13 @@ static void run_phase(void)
         /* fall through */
     case 1:
     case 2: /* up to the limit and a little beyond */
-        steps = 64 - standing_entries() + below(4);
+        steps = ENTRIES - standing_entries() + below(4);
         for (unsigned i = 0; i < steps; i++) {
             if (one_in(2))
                 say_right_set();
             else
                 say_put(below(VALUES), 0);
-            play(one_in(30) ? below(3) : 306);
+            play(one_in(30) ? below(3) : shape->reply);
             if (one_in(16))
                 look();
         }
@@ -1646,7 +1782,7 @@ static void run_phase(void)
         steps = standing_entries() + below(4);
         for (unsigned i = 0; i < steps; i++) {
             say("UNDO");
-            play(one_in(30) ? below(7) : 306);
+            play(one_in(30) ? below(7) : shape->reply);
             if (one_in(16))
                 look();
         }
@@ -1656,20 +1792,20 @@ static void run_phase(void)
             if (one_in(2))
                 say("UNDO");
             else if (one_in(2))
-                say_set(10, below(2));
+                say_set(shape->of_73, below(2));
             else
                 say_put(below(VALUES), 0);
-            play(306);
+            play(shape->reply);
         }
         break;
     case 6: /* setting 73 and the ends of replies */
         for (unsigned i = 0; i < 16; i++) {
             if (one_in(3))
-                say_set(10, below(2));
+                say_set(shape->of_73, below(2));
             else
                 say_some(standing());
-            check_line(&run, len, one_in(3) ? below(12) : 306); /* without an end */
-            play(one_in(3) ? 1 + below(8) : 306);
+            check_line(run, len, one_in(3) ? below(12) : shape->reply); /* without an end */
+            play(one_in(3) ? 1 + below(8) : shape->reply);
         }
         break;
     default:
@@ -1679,9 +1815,45 @@ static void run_phase(void)
                 len = 0;
                 say_some(standing());
             } while (len == 4 && src[0] == 'K' && !one_in(6)); /* KEEP more seldom, so that the list grows */
-            play(one_in(6) ? below(20) : 306);
+            play(one_in(6) ? below(20) : shape->reply);
         }
         break;
+    }
+}
+
+/* 137 on and off among the lines that it bears on and those that it doesn't, with rooms about either width's replies. TPS100
+   has no such setting. */
+static void run_wide(void)
+{
+    static const size_t rooms[] = {459, 458, 457, 307, 306, 305, 304, 50, 49, 27, 26, 25, 18, 17, 16, 7, 6, 5, 3, 2, 1, 0};
+    unsigned steps = 16 + below(24);
+    len = 0;
+    for (unsigned i = 0; i < steps; i++) {
+        unsigned wide = below(2), count = 1 + below(19);
+        size_t room;
+        switch (below(10)) {
+        case 0:
+        case 1:
+            say_set_of(137, wide);
+            break;
+        case 2:
+        case 3:
+            say_put(below(VALUES), 0);
+            break;
+        case 4:
+            say(one_in(6) ? "KEEP" : "UNDO");
+            break;
+        case 5:
+            say_set(shape->of_73, below(2));
+            break;
+        default:
+            say_get(standing(), one_in(4) ? 19 : count, 8);
+            break;
+        }
+        say_end();
+        room = one_in(3) ? near_room(run) : one_in(2) ? MOST_REPLY : PICK(rooms);
+        check_line(run, len, room);
+        len = 0;
     }
 }
 
@@ -1713,10 +1885,8 @@ static void line_each_value(void)
 {
     size_t at, n;
     take_state();
-    if (one_in(3)) { /* so that SET and PUT are often accepted */
-        state[AT_COUNT + 1] = 0;
-        memset(state + AT_ENTRIES, 0, 64 * 14);
-    }
+    if (one_in(3)) /* so that SET and PUT are often accepted */
+        empty_undo();
     len = 0;
     if (one_in(3))
         say_put(below(VALUES), 0);
@@ -1727,20 +1897,20 @@ static void line_each_value(void)
     at = below(n);
     for (unsigned b = 0; b < 256; b++) {
         src[at] = (uint8_t)b;
-        check_line(lend_state(IMAGE), n, 306);
+        check_line(lend_state(shape->image), n, shape->reply);
     }
 }
 
 static void line_numbers(void)
 {
     struct lent *image = some_image();
-    unsigned place = below(SETTINGS), number = settings[place].number, parameter;
+    unsigned place = odd_setting(), number = shape->setting[place].number, parameter;
     static const uint16_t odd[] = {0, 1, 9, 10, 99, 100, 255, 256, 257, 999, 1000, 9999};
     len = 0;
     if (one_in(2))
         number = one_in(3) ? number - 1 + below(3) : one_in(3) ? below(10000) : one_in(3) ? number + 256 * below(39) :
-                 one_in(2) ? below(140) : PICK(odd);
-    parameter = one_in(2) ? settings[place].highest + below(3) : one_in(2) ? PICK(odd) : below(7);
+                 one_in(2) ? below(180) : PICK(odd);
+    parameter = one_in(2) ? odd_parameter(place) : one_in(3) ? PICK(odd) : one_in(2) ? some_parameter(place) : below(7);
     if (one_in(4))
         parameter += 256 * below(39);
     say(one_in(3) ? "CONF/" : "SET/");
@@ -1859,8 +2029,8 @@ static void line_rooms(void)
     len = 0;
     say_some(state);
     say_end();
-    for (size_t room = 0; room <= 310; room++) {
-        check_line(lend_state(IMAGE), len, room);
+    for (size_t room = 0; room <= shape->reply + 4; room++) {
+        check_line(lend_state(shape->image), len, room);
         if (room > 20 && len < 30 && !one_in(40))
             return; /* short replies need no long sweep */
     }
@@ -1876,7 +2046,9 @@ static void line_shapes(void)
         "GET/I/WI", "GET/I/WI8", "GET/I/WI888", "GET/I/WI88/", "GET/I/WI88/W", "GET/I/WI88/WI", "GET/I/WI88/WI8", "GET/I//WI88",
         "GET/M/WI88", "GET/M/WI21", "GET/IWI88", "GET/I/wi88", "GET/I/WI88WI88", "GET/I/WI88,WI11", "UND", "UNDO/", "UNDO ",
         " UNDO", "undo", "UNDOO", "KEE", "KEEP/", "KEEP ", " KEEP", "keep", "KEEPKEEP", "UNDOKEEP", "?", "@W127", "a", "b", "c",
-        "SETOUT", "*", "GETI/WI88", "GET/J/WI88", "SET\\30\\1", "PUT/*88...0+0001550 ", "PUT/88...0+00001550 ", "GET/I/WI11"};
+        "SETOUT", "*", "GETI/WI88", "GET/J/WI88", "SET\\30\\1", "PUT/*88...0+0001550 ", "PUT/88...0+00001550 ", "GET/I/WI11",
+        "SET/90/9999", "SET/90/0", "SET/090/0", "SET/91/100", "SET/122/1", "SET/160/0", "SET/170/2", "CONF/90", "SET/137/1",
+        "SET/138/0", "CONF/138", "SET/161/8", "SET/161/10", "SET/55/0", "SET/56/10", "PUT/88...0+0000000000001550 "};
     struct lent *image = some_image();
     len = 0;
     say(PICK(bodies));
@@ -1904,17 +2076,17 @@ static void use(struct lent *image)
 {
     switch (below(8)) {
     case 0:
-        check_sheet_write(image, one_in(4) ? below(360) : 360);
+        check_sheet_write(image, one_in(4) ? below(shape->sheet + 8) : shape->sheet + 8);
         break;
     case 1:
-        len = (size_t)(ref_sheet_write(run.theirs + run.start, IMAGE, src, MOST) & 0xFFFFFFFF);
+        len = (size_t)(ref_sheet_write(run->theirs + run->start, shape->image, src, MOST) & 0xFFFFFFFF);
         if (one_in(4))
             src[below(len)]++;
         check_sheet_load(image, len);
         break;
     case 2:
         if (one_in(4)) {
-            check_factory(image);
+            check_factory(image, one_in(8) ? !series : series);
             break;
         }
         /* fall through */
@@ -1923,108 +2095,152 @@ static void use(struct lent *image)
         say_some(state);
         if (!one_in(8))
             say_end();
-        check_line(image, len, one_in(4) ? below(12) : 306);
+        check_line(image, len, one_in(4) ? below(12) : shape->reply);
         break;
     }
 }
 
+/* Lengths about those of either series' image and its parts. */
+static const size_t lengths_tried[] = {0, 1, 1024, 1037, 1038, 1039, 1040, 1048, 1049, 1050, 1051};
+
 static void factory(void)
 {
-    static const size_t lengths_tried[] = {0, 1, IMAGE - 1, IMAGE + 1, IMAGE - 2, 1024, 1040, 2048};
-    lend(&spare, 0, one_in(2) ? IMAGE : one_in(2) ? PICK(lengths_tried) : below(MOST), 0);
-    check_factory(&spare);
+    lend(&spare, 0, one_in(2) ? shape->image : one_in(2) ? PICK(lengths_tried) : below(MOST + 1), 0);
+    check_factory(&spare, series);
 }
 
 static void image_right(void)
 {
     make_state(state);
-    use(lend_state(IMAGE));
+    use(lend_state(shape->image));
 }
 
 static void image_random(void)
 {
     if (one_in(2)) {
-        memcpy(state, pool + below(sizeof pool - IMAGE), IMAGE);
-        state[0] = 1;
+        memcpy(state, pool + below(sizeof pool - MOST_IMAGE), shape->image);
+        state[0] = shape->mark;
     } else {
-        size_t at = below(IMAGE - 40), from = below(1000);
+        size_t at = below(shape->image - 40), from = below(1000);
         take_state();
         memcpy(state + at, pool + from, below(40));
     }
-    use(lend_state(IMAGE));
+    use(lend_state(shape->image));
 }
 
 static void image_one_wrong(void)
 {
-    static const uint16_t parts[][2] = {{0, 20}, {20, 121}, {141, 2}, {143, 28}, {143, 896}};
+    const size_t parts[][2] = {{0, shape->values}, {shape->values, VALUES * VALUE}, {shape->count, 2}, {shape->entries, 2 * ENTRY},
+                               {shape->entries, ENTRIES * ENTRY}};
     size_t at, part = below(5);
     take_state();
     at = parts[part][0] + below(parts[part][1]);
-    if (one_in(3) && state[AT_COUNT + 1]) /* in the newest entry, or just past it */
-        at = AT_ENTRIES + 14u * (state[AT_COUNT + 1] - 1u) + below(28);
-    if (at >= IMAGE)
-        at = IMAGE - 1;
+    if (one_in(3) && state[shape->count + 1]) /* in the newest entry, or just past it */
+        at = shape->entries + ENTRY * (state[shape->count + 1] - 1u) + below(2 * ENTRY);
+    if (at >= shape->image)
+        at = shape->image - 1;
     state[at] = telling_byte(state[at]);
-    use(lend_state(IMAGE));
+    use(lend_state(shape->image));
 }
 
 /* Each byte of an image in its turn. */
 static void image_each_byte(void)
 {
     take_state();
-    for (size_t at = 0; at < IMAGE; at += 1 + below(3)) {
+    for (size_t at = 0; at < shape->image; at += 1 + below(3)) {
         uint8_t old = state[at];
         state[at] = telling_byte(old);
-        use(lend_state(IMAGE));
+        use(lend_state(shape->image));
         state[at] = old;
     }
 }
 
 static void image_length(void)
 {
-    static const size_t lengths_tried[] = {0, IMAGE - 1, IMAGE + 1, 1, 142, 143, 1024};
     take_state();
-    if (one_in(3)) { /* a state whose last bytes say nothing: only the length is wrong */
-        state[AT_COUNT] = state[AT_COUNT + 1] = 0;
-        memset(state + AT_ENTRIES, 0, 64 * 14);
+    if (one_in(3)) /* a state whose last bytes say nothing: only the length is wrong */
+        empty_undo();
+    state[shape->image] = one_in(2) ? 0 : (uint8_t)below(256);
+    use(lend_state(one_in(8) ? below(shape->image + 8) : one_in(4) ? shape->entries - below(2) : PICK(lengths_tried)));
+}
+
+/* An image with the other series' first byte or length, or with both, its own bytes cut or filled up with 0. */
+static void image_other(void)
+{
+    size_t n = shape->image;
+    take_state();
+    if (one_in(2))
+        empty_undo();
+    memset(state + shape->image, 0, MOST_IMAGE - shape->image);
+    switch (below(6)) {
+    case 0:
+        state[0] = shapes[!series].mark;
+        break;
+    case 1:
+        n = shapes[!series].image;
+        break;
+    case 2:
+        state[0] = shapes[!series].mark;
+        n = shapes[!series].image;
+        break;
+    case 3: /* the other's settings too, each in its range, and this one's values at their places */
+        turn_to(!series);
+        state[0] = shape->mark;
+        n = shape->image;
+        for (unsigned i = 0; i < shape->settings; i++)
+            state[1 + i] = some_parameter(i);
+        turn_to(!series);
+        break;
+    case 4:
+        state[0] = (uint8_t)below(256);
+        if (one_in(2)) /* the form of a right one, whatever the series */
+            state[0] = (uint8_t)((state[0] & 0xF0) | 1);
+        break;
+    default: /* right for the other series: each function goes by the image */
+        turn_to(!series);
+        make_state(state);
+        n = shape->image;
+        turn_to(!series);
+        break;
     }
-    state[IMAGE] = one_in(2) ? 0 : (uint8_t)below(256);
-    use(lend_state(one_in(8) ? below(IMAGE + 8) : PICK(lengths_tried)));
+    use(lend_state(n));
 }
 
 /* The number of entries against the entries there are. */
 static void image_count(void)
 {
     unsigned count;
+    uint8_t *number;
     take_state();
-    count = state[AT_COUNT + 1];
+    number = state + shape->count;
+    count = number[1];
     switch (below(6)) {
     case 0:
-        state[AT_COUNT + 1] = (uint8_t)(count + 1);
+        number[1] = (uint8_t)(count + 1);
         break;
     case 1:
-        state[AT_COUNT + 1] = (uint8_t)(count - 1);
+        number[1] = (uint8_t)(count - 1);
         break;
     case 2:
-        state[AT_COUNT] = (uint8_t)below(3);
-        state[AT_COUNT + 1] = one_in(2) ? (uint8_t)count : (uint8_t)below(256);
+        number[0] = (uint8_t)below(3);
+        number[1] = one_in(2) ? (uint8_t)count : (uint8_t)below(256);
         break;
     case 3:
-        state[AT_COUNT + 1] = 64 + below(3);
+        number[1] = (uint8_t)(ENTRIES + below(3));
         break;
     case 4: /* an entry left standing past the number */
-        if (count < 64) {
-            uint8_t *e = state + AT_ENTRIES + 14 * (count + below(64 - count));
+        if (count < ENTRIES) {
+            uint8_t *e = state + shape->entries + ENTRY * (count + below(ENTRIES - count));
             e[0] = 1;
-            e[1] = (uint8_t)below(SETTINGS);
+            e[1] = (uint8_t)below(shape->settings);
         }
         break;
     default:
-        if (count < 64)
-            change(state + AT_ENTRIES + 14 * count, 14 * (64 - count));
+        if (count < ENTRIES)
+            change(state + shape->entries + ENTRY * count, ENTRY * (ENTRIES - count));
         break;
     }
-    use(lend_state(IMAGE));
+    use(lend_state(shape->image));
 }
 
 /* Undo lists that name a value then never put, or hold what no entry holds. */
@@ -2033,21 +2249,21 @@ static void image_undo(void)
     unsigned count, at;
     uint8_t *e;
     take_state();
-    count = state[AT_COUNT + 1];
+    count = state[shape->count + 1];
     if (count == 0) {
-        state[AT_COUNT + 1] = (uint8_t)(count = 1);
-        memset(state + AT_ENTRIES, 0, 14);
-        state[AT_ENTRIES] = (uint8_t)(1 + below(2));
+        state[shape->count + 1] = (uint8_t)(count = 1);
+        memset(state + shape->entries, 0, ENTRY);
+        state[shape->entries] = (uint8_t)(1 + below(2));
     }
     at = below(count);
-    e = state + AT_ENTRIES + 14 * at;
-    switch (below(9)) {
+    e = state + shape->entries + ENTRY * at;
+    switch (below(11)) {
     case 0: /* the value itself never put */
         if (e[0] == 2 && e[1] < VALUES)
-            memset(state + AT_VALUES + 11 * e[1], 0, 11);
+            memset(state + shape->values + VALUE * e[1], 0, VALUE);
         break;
     case 1: /* an entry that restores "never put" under older ones of the same value */
-        memset(e, 0, 14);
+        memset(e, 0, ENTRY);
         e[0] = 2;
         e[1] = (uint8_t)below(VALUES);
         break;
@@ -2058,25 +2274,34 @@ static void image_undo(void)
         e[0] = (uint8_t)(3 - e[0]);
         break;
     case 4:
-        e[1] = e[0] == 2 ? (uint8_t)(10 + below(3)) : (uint8_t)(17 + below(4));
+        e[1] = e[0] == 2 ? (uint8_t)(10 + below(3)) : (uint8_t)(shape->settings - 2 + below(4));
         break;
     case 5:
-        e[2] = e[0] == 2 ? (uint8_t)below(3) : e[1] < SETTINGS ? (uint8_t)(settings[e[1]].highest + below(3)) : 0;
+        e[2] = e[0] == 2 ? (uint8_t)below(3) : e[1] < shape->settings ? odd_parameter(e[1]) : 0;
         break;
     case 6: { /* two entries exchanged */
-        uint8_t *other = state + AT_ENTRIES + 14 * below(count);
-        swap(e, other, e == other ? 0 : 14);
+        uint8_t *other = state + shape->entries + ENTRY * below(count);
+        swap(e, other, e == other ? 0 : ENTRY);
         break;
     }
     case 7: /* the value of an entry under another index */
         if (e[0] == 2)
             e[1] = (uint8_t)below(VALUES);
         break;
-    default:
-        change(e + 3, 11);
+    case 8:
+    case 9: { /* an entry of any setting, read-only ones too */
+        unsigned place = odd_setting();
+        memset(e, 0, ENTRY);
+        e[0] = 1;
+        e[1] = (uint8_t)place;
+        e[2] = one_in(2) ? some_parameter(place) : odd_parameter(place);
         break;
     }
-    use(lend_state(IMAGE));
+    default:
+        change(e + 3, VALUE);
+        break;
+    }
+    use(lend_state(shape->image));
 }
 
 /* Values, standing or in an entry, at the limits of what a PUT can leave. */
@@ -2085,10 +2310,10 @@ static void image_values(void)
     unsigned place = below(VALUES), count;
     uint8_t *v;
     take_state();
-    v = state + AT_VALUES + 11 * place;
-    count = state[AT_COUNT + 1];
+    v = state + shape->values + VALUE * place;
+    count = state[shape->count + 1];
     if (one_in(2) && count) {
-        uint8_t *e = state + AT_ENTRIES + 14 * below(count);
+        uint8_t *e = state + shape->entries + ENTRY * below(count);
         if (e[0] == 2 && e[1] < VALUES) {
             place = e[1];
             v = e + 3;
@@ -2097,68 +2322,92 @@ static void image_values(void)
     value_of(v, place, 0);
     if (!one_in(6))
         spoil_value(v, place);
-    use(lend_state(IMAGE));
+    use(lend_state(shape->image));
 }
 
 static void image_settings(void)
 {
-    unsigned place = below(SETTINGS);
+    unsigned place = odd_setting();
     take_state();
-    state[1 + place] = (uint8_t)(settings[place].highest + below(3));
-    use(lend_state(IMAGE));
+    state[1 + place] = odd_parameter(place);
+    use(lend_state(shape->image));
 }
 
 /* Cases of sheets */
 
-/* The sheet of some state, in src, and the starts of its lines. */
-static size_t starts[32];
+/* The sheet of some state, in src, how many lines it has, and their starts. */
+static size_t starts[MOST_LINES + 1];
+static unsigned lines;
 
 static void lay_sheet(const uint8_t *s)
 {
-    unsigned lines = 0;
-    len = (size_t)(ref_sheet_write(s, IMAGE, src, MOST) & 0xFFFFFFFF);
-    starts[lines++] = 0;
-    for (size_t i = 0; i < len && lines < 32; i++)
+    len = (size_t)(ref_sheet_write(s, shape->image, src, MOST) & 0xFFFFFFFF);
+    lines = 0;
+    starts[0] = 0;
+    for (size_t i = 0; i < len && lines < MOST_LINES; i++)
         if (src[i] == LF)
-            starts[lines++] = i + 1;
+            starts[++lines] = i + 1;
 }
 
 static void make_sheet(void)
 {
-    uint8_t s[IMAGE];
+    uint8_t s[MOST_IMAGE];
     if (one_in(4))
-        memcpy(s, standing(), IMAGE);
+        memcpy(s, standing(), shape->image);
     else
         make_state(s);
     lay_sheet(s);
+}
+
+/* The line of the setting at a place, and of the value. */
+static unsigned setting_line(unsigned place)
+{
+    return 1 + place;
+}
+
+static unsigned value_line(unsigned place)
+{
+    return 1 + shape->settings + place;
+}
+
+/* Where the line's value begins: just past its key. */
+static size_t value_at(unsigned i)
+{
+    size_t at = starts[i];
+    while (src[at] != '=')
+        at++;
+    return at + 1;
 }
 
 /* The image a sheet is loaded into: seldom the run's, whose undo list a load empties. */
 static struct lent *some_target(void)
 {
     if (one_in(300))
-        return &run;
+        return run;
     take_state();
-    return lend_state(IMAGE);
+    return lend_state(shape->image);
 }
 
 static void sheet_rooms(void)
 {
     take_state();
-    for (size_t room = 0; room <= 355; room++)
-        check_sheet_write(lend_state(IMAGE), room);
+    for (size_t room = 0; room <= shape->sheet + 3; room++)
+        check_sheet_write(lend_state(shape->image), room);
 }
 
 static void sheet_written(void)
 {
     size_t need;
-    static uint8_t room[400];
+    static uint8_t room[MOST_SHEET];
     take_state();
-    need = (size_t)(ref_sheet_write(state, IMAGE, room, 400) & 0xFFFFFFFF);
+    need = (size_t)(ref_sheet_write(state, shape->image, room, sizeof room) & 0xFFFFFFFF);
     need += below(4);
-    check_sheet_write(lend_state(IMAGE), need - 1);
+    check_sheet_write(lend_state(shape->image), need - 1);
+    need = shape->least_sheet + 15 * below(12);
+    if (series == TPS300) /* as many as the parameters' second and third digits are */
+        need += below(14);
     if (one_in(3))
-        check_sheet_write(&run, 187 + 15 * below(12));
+        check_sheet_write(run, need);
 }
 
 static void sheet_whole(void)
@@ -2189,7 +2438,7 @@ static void sheet_each_value(void)
 {
     size_t at;
     make_sheet();
-    at = starts[below(31)];
+    at = starts[below(lines)];
     at += below(10);
     if (at >= len)
         at = len - 1;
@@ -2209,60 +2458,85 @@ static void splice(size_t at, size_t gone, const void *bytes, size_t n)
     len = len - gone + n;
 }
 
+/* The line left out; the other line, as it stands, put in before it; a line and a later one exchanged. */
+static void leave_out(unsigned i)
+{
+    splice(starts[i], starts[i + 1] - starts[i], "", 0);
+}
+
+static void put_in(unsigned i, unsigned other)
+{
+    splice(starts[i], 0, src + starts[other], starts[other + 1] - starts[other]);
+}
+
+static void exchange(unsigned i, unsigned later)
+{
+    uint8_t first[64];
+    size_t a = starts[i], b = starts[later], n = starts[i + 1] - a, m = starts[later + 1] - b;
+    memcpy(first, src + a, n);
+    splice(a, 0, src + b, m);
+    splice(b + m, m, first, n);
+    splice(a + m, n, "", 0);
+}
+
 static void sheet_lines(void)
 {
-    unsigned i = below(31), j = below(31);
-    size_t a, b;
+    unsigned i, j;
     make_sheet();
-    a = starts[i];
-    b = starts[j];
+    i = below(lines);
+    j = below(lines);
     switch (below(4)) {
-    case 0: /* left out */
-        splice(a, starts[i + 1] - a, "", 0);
+    case 0:
+        leave_out(i);
         break;
     case 1: /* doubled */
-        splice(a, 0, src + a, starts[i + 1] - a);
+        put_in(i, i);
         break;
     case 2: /* one put in elsewhere */
-        splice(a, 0, src + b, starts[j + 1] - b);
+        put_in(i, j);
         break;
-    default: /* exchanged */
-        if (i != j) {
-            uint8_t first[64];
-            size_t n = starts[i + 1] - a, m = starts[j + 1] - b;
-            if (a > b) {
-                size_t t = a;
-                a = b;
-                b = t;
-                t = n;
-                n = m;
-                m = t;
-            }
-            memcpy(first, src + a, n);
-            splice(a, 0, src + b, m);
-            splice(b + m, m, first, n);
-            splice(a + m, n, "", 0);
-        }
+    default:
+        if (i != j)
+            exchange(i < j ? i : j, i < j ? j : i);
         break;
     }
     check_sheet_load(some_target(), len);
 }
 
+/* A sheet of the other series, at times with this one's first line, and with a byte or two changed. */
+static void sheet_other(void)
+{
+    turn_to(!series);
+    make_sheet();
+    if (one_in(2))
+        memcpy(src + 7, shapes[!series].name, 6);
+    if (one_in(4))
+        damage(0, len);
+    if (one_in(4))
+        damage(starts[1], len);
+    turn_to(!series);
+    check_sheet_load(some_target(), len);
+}
+
 static void sheet_odd(void)
 {
-    unsigned i;
+    unsigned i, place;
     size_t at;
     make_sheet();
+    place = odd_setting();
+    i = setting_line(place);
+    at = value_at(i);
     switch (below(10)) {
     case 0: /* s30=01 and its like */
-        i = 1 + below(SETTINGS);
-        splice(starts[i + 1] - 2, 0, "0", 1);
+        if (one_in(4))
+            at += below(3);
+        splice(at, 0, "00", 1 + below(2));
         break;
     case 1: /* CR LF at one line, or at each */
         if (one_in(2)) {
-            splice(starts[1 + below(31)] - 1, 0, "\r", 1);
+            splice(starts[1 + below(lines)] - 1, 0, "\r", 1);
         } else {
-            for (i = 31; i > 0; i--)
+            for (i = lines; i > 0; i--)
                 splice(starts[i] - 1, 0, "\r", 1);
         }
         break;
@@ -2270,24 +2544,29 @@ static void sheet_odd(void)
         for (unsigned n = 1 + below(6); n > 0; n--)
             src[len++] = (uint8_t)(one_in(2) ? LF : (int)below(256));
         break;
-    case 3: /* a parameter about its highest */
-        i = 1 + below(SETTINGS);
-        src[starts[i + 1] - 2] = (uint8_t)('0' + settings[i - 1].highest + below(3));
+    case 3: { /* another parameter, most often about the ends of its range */
+        uint8_t number[4];
+        unsigned parameter = odd_parameter(place), n;
+        if (one_in(8))
+            parameter += 256 * below(30);
+        n = parameter < 10 ? 1 : parameter < 100 ? 2 : parameter < 1000 ? 3 : 4;
+        digits(number, n, parameter);
+        splice(at, starts[i + 1] - 1 - at, number, n);
         break;
+    }
     case 4: /* no parameter */
-        i = 1 + below(SETTINGS);
-        splice(starts[i + 1] - 2, 1, "", 0);
+        splice(at, starts[i + 1] - 1 - at, "", 0);
         break;
     case 5: /* the last LF gone */
         len--;
         break;
     case 6:
-        i = below(32);
+        i = below(lines + 1);
         splice(starts[i], 0, one_in(2) ? "\n" : " ", 1);
         break;
     default: { /* a value's 15 characters with data at the edges, and other information */
         uint8_t w[16];
-        unsigned place = below(VALUES);
+        place = below(VALUES);
         put_word(w, place, 1);
         if (place >= 2)
             w[4] = '1';
@@ -2295,9 +2574,11 @@ static void sheet_odd(void)
             change_to(w + 2, 4, "0123456789.");
         if (one_in(8))
             digits(w, 2, PICK(stored));
-        i = 20 + place;
-        at = starts[i] + 4;
+        i = value_line(place);
+        at = value_at(i);
         splice(at, starts[i + 1] - 1 - at, w, one_in(8) ? 14 + below(3) : 15);
+        if (one_in(16)) /* as a wide GET would have it */
+            splice(at + 7, 0, "00000000", 8);
         break;
     }
     }
@@ -2306,7 +2587,7 @@ static void sheet_odd(void)
 
 static void sheet_random(void)
 {
-    len = below(400);
+    len = below(shape->sheet + 50);
     for (size_t i = 0; i < len; i++)
         src[i] = (uint8_t)(one_in(3) ? below(256) : (unsigned)one_of("sv0123456789=\n.+"));
     check_sheet_load(some_target(), len);
@@ -2316,7 +2597,7 @@ static void sheet_random(void)
    PUT words and sheets, and keep the sign so that the bytes come back." What a case is to give is said here as well, so that
    a sign which both sides lose is seen too. */
 
-static uint64_t swept_noughts[FAMILIES + 1]; /* blocks and records by family, then lines, images and sheets */
+static uint64_t swept_noughts[FAMILIES + SERIES]; /* blocks and records by family, then lines, images and sheets by series */
 
 static void unasked(const char *what, uint64_t got)
 {
@@ -2612,31 +2893,71 @@ static void sweep_noughts_of_blocks(void)
     block_wide = 0;
 }
 
-/* Lays the factory state down in the image. */
-static void lay_factory(struct lent *image)
+/* One byte of the image made so on both sides. */
+static void poke(struct lent *image, size_t at, unsigned b)
 {
-    lend(image, 0, IMAGE, 0);
-    check_factory(image);
+    image->theirs[image->start + at] = image->ours[image->start + at] = (uint8_t)b;
 }
 
-/* Plays the line in src with its end; its number and reply are these. */
+/* Whether the sweep at hand asks for wide words. */
+static int sweep_wide;
+
+/* Lays the series' factory state down in the image, with 137 set where wide words are asked for. */
+static void lay_factory(struct lent *image)
+{
+    lend(image, 0, shape->image, 0);
+    if (check_factory(image, series) != 0)
+        unasked("the factory state isn't laid down", 0);
+    if (sweep_wide)
+        poke(image, 1 + shape->of_137, 1);
+}
+
+/* What setting 73 and, where the series has it, setting 137 say. */
+static size_t end_length(const struct lent *image)
+{
+    return image->theirs[image->start + 1 + shape->of_73] ? 2 : 1;
+}
+
+static int is_wide(const struct lent *image)
+{
+    return shape->of_137 < shape->settings && image->theirs[image->start + 1 + shape->of_137];
+}
+
+/* Plays the line in src, whose end it has; its number and reply are these, or 30 where the room is shorter than the reply. */
+static void ask_reply(struct lent *image, unsigned number, const void *answered, size_t n, size_t room)
+{
+    size_t end = end_length(image), need = number == 31 ? 0 : n + end;
+    uint64_t got = check_line(image, len, room);
+    if (need > room) {
+        if (got != UINT64_C(30) << 32)
+            unasked("the room is too short", got);
+        return;
+    }
+    if (got != ((uint64_t)number << 32 | need))
+        unasked("the line is answered otherwise", got);
+    if (number != 31 && (memcmp(reply.theirs + reply.start, answered, n) != 0 || memcmp(reply.theirs + reply.start + n, "\r\n", end) != 0))
+        unasked("the reply is another", got);
+}
+
+/* Plays the line in src with its end and an ample room. */
 static void ask_line(struct lent *image, unsigned number, const void *answered, size_t n)
 {
-    uint64_t got;
     say("\r\n");
-    got = check_line(image, len, 306);
+    ask_reply(image, number, answered, n, shape->reply);
     len = 0;
-    if (number == 31 ? got != UINT64_C(31) << 32 : got != ((uint64_t)number << 32 | (n + 2)))
-        unasked("the line is answered otherwise", got);
-    if (number != 31 && (memcmp(reply.theirs + reply.start, answered, n) != 0 || memcmp(reply.theirs + reply.start + n, "\r\n", 2) != 0))
-        unasked("the reply is another", got);
+}
+
+/* The same where the reply is `?`, or `@W127` for a number other than 0. */
+static void ask_said(struct lent *image, unsigned number)
+{
+    ask_line(image, number, number ? "@W127" : "?", number ? 5 : 1);
 }
 
 static void ask_plain(struct lent *image, const char *said, unsigned number)
 {
     len = 0;
     say(said);
-    ask_line(image, number, number ? "@W127" : "?", number ? 5 : 1);
+    ask_said(image, number);
 }
 
 /* The word that a PUT names, or that GET answers and the sheet has. */
@@ -2660,24 +2981,43 @@ static void ask_put(struct lent *image, unsigned number, unsigned place, char un
     say("PUT/");
     memcpy(src + len, value_word(place, 1, unit, sign, data), 16);
     len += 16;
-    ask_line(image, number, number ? "@W127" : "?", number ? 5 : 1);
+    ask_said(image, number);
+}
+
+/* What GET answers for so many words of 16 bytes. 103: "a `*` and then wide words, with zeros added on the left of the data" */
+static size_t lay_reply(uint8_t *to, const uint8_t *words, unsigned count, int wide)
+{
+    size_t n = 0;
+    if (wide)
+        to[n++] = '*';
+    for (unsigned i = 0; i < count; i++, words += 16) {
+        memcpy(to + n, words, 7);
+        n += 7;
+        memset(to + n, '0', wide ? 8 : 0);
+        n += wide ? 8 : 0;
+        memcpy(to + n, words + 7, 9);
+        n += 9;
+    }
+    return n;
 }
 
 static void ask_get(struct lent *image, unsigned number, unsigned place, char unit, char sign, const char *data)
 {
+    uint8_t answered[32];
+    size_t n = lay_reply(answered, value_word(place, 0, unit, sign, data), 1, is_wide(image));
     len = 0;
     say("GET/I/WI");
     say_number(stored[place]);
     if (number)
-        ask_line(image, number, "@W127", 5);
+        ask_said(image, number);
     else
-        ask_line(image, 0, value_word(place, 0, unit, sign, data), 16);
+        ask_line(image, 0, answered, n);
 }
 
 /* The image's sheet is the one in src. */
 static void ask_sheet(struct lent *image)
 {
-    uint64_t wrote = check_sheet_write(image, 352);
+    uint64_t wrote = check_sheet_write(image, shape->sheet);
     if (wrote != len || memcmp(sheet.theirs + sheet.start, src, len) != 0)
         unasked("the sheet is another", wrote);
 }
@@ -2704,7 +3044,7 @@ static int may_put(unsigned place, char unit, char sign)
 }
 
 /* The factory's state, and one with text and minus nought in every value. */
-static uint8_t factory_state[IMAGE], nought_state[IMAGE];
+static uint8_t factory_state[MOST_IMAGE], nought_state[MOST_IMAGE];
 
 /* One of the value's units. */
 static char unit_for(unsigned place, unsigned which)
@@ -2715,33 +3055,35 @@ static char unit_for(unsigned place, unsigned which)
 /* Every value put, all of them got, the sheet and back, and all of them undone. */
 static void sweep_noughts_together(unsigned which)
 {
-    uint8_t words[VALUES * 16];
-    lay_factory(&run);
-    memcpy(factory_state, standing(), IMAGE);
+    uint8_t words[VALUES * 16], answered[VALUES * 24 + 1];
+    size_t n;
+    lay_factory(run);
+    memcpy(factory_state, standing(), shape->image);
     for (unsigned place = 0; place < VALUES; place++) {
         char unit = unit_for(place, which + place), sign = place < 2 ? '+' : '-';
-        ask_put(&run, 0, place, unit, sign, "00000000");
+        ask_put(run, 0, place, unit, sign, "00000000");
         memcpy(words + 16 * place, value_word(place, 0, unit, sign, "00000000"), 16);
     }
-    memcpy(nought_state, standing(), IMAGE);
+    memcpy(nought_state, standing(), shape->image);
     say("GET/I");
     for (unsigned place = 0; place < VALUES; place++) {
         say("/WI");
         say_number(stored[place]);
     }
-    ask_line(&run, 0, words, sizeof words);
+    n = lay_reply(answered, words, VALUES, is_wide(run));
+    ask_line(run, 0, answered, n);
     lay_sheet(factory_state);
     for (unsigned place = VALUES; place > 0; place--)
-        splice(starts[20 + place] - 1, 0, words + 16 * (place - 1), 15);
-    ask_sheet(&run);
+        splice(value_at(value_line(place - 1)), 0, words + 16 * (place - 1), 15);
+    ask_sheet(run);
     lay_factory(&spare);
     ask_load(&spare, 0, 0);
-    ask_same(&spare, nought_state, AT_COUNT);
+    ask_same(&spare, nought_state, shape->count);
     ask_sheet(&spare);
     for (unsigned i = 0; i < VALUES; i++)
-        ask_plain(&run, "UNDO", 0);
-    ask_plain(&run, "UNDO", 29);
-    ask_same(&run, factory_state, IMAGE);
+        ask_plain(run, "UNDO", 0);
+    ask_plain(run, "UNDO", 29);
+    ask_same(run, factory_state, shape->image);
 }
 
 /* One value with a unit, a sign and data: put, got, in the sheet and back, undone. */
@@ -2753,108 +3095,109 @@ static void sweep_noughts_value(unsigned place, char unit, char sign, const char
     memcpy(w, value_word(place, 0, unit, sign, data), 16);
 
     /* "26 and 40 follow": the PUT and the sheet's line are right together. */
-    lay_factory(&run);
-    ask_put(&run, right ? 0 : 26, place, unit, sign, data);
-    ask_get(&run, right ? 0 : 27, place, unit, sign, data);
+    lay_factory(run);
+    ask_put(run, right ? 0 : 26, place, unit, sign, data);
+    ask_get(run, right ? 0 : 27, place, unit, sign, data);
     lay_sheet(factory_state);
     if (!right)
-        ask_sheet(&run);
-    splice(starts[20 + place] + 4, 0, w, 15);
+        ask_sheet(run);
+    splice(value_at(value_line(place)), 0, w, 15);
     if (right)
-        ask_sheet(&run);
+        ask_sheet(run);
     lay_factory(&spare);
-    ask_load(&spare, right ? 0 : 40, right ? 0 : starts[20 + place]);
-    ask_same(&spare, right ? standing() : factory_state, AT_COUNT);
+    ask_load(&spare, right ? 0 : 40, right ? 0 : starts[value_line(place)]);
+    ask_same(&spare, right ? standing() : factory_state, shape->count);
     if (right)
         ask_sheet(&spare);
     ask_get(&spare, right ? 0 : 27, place, unit, sign, data);
     ask_plain(&spare, "UNDO", 29);
     /* The line among the others' minus noughts. */
     lay_sheet(nought_state);
-    splice(starts[20 + place] + 4, 15, w, 15);
+    splice(value_at(value_line(place)), 15, w, 15);
     lay_factory(&spare);
-    ask_load(&spare, right ? 0 : 40, right ? 0 : starts[20 + place]);
+    ask_load(&spare, right ? 0 : 40, right ? 0 : starts[value_line(place)]);
     if (right)
         ask_sheet(&spare);
-    ask_plain(&run, "UNDO", right ? 0 : 29);
-    ask_same(&run, factory_state, IMAGE);
-    ask_get(&run, 27, place, unit, sign, data);
+    ask_plain(run, "UNDO", right ? 0 : 29);
+    ask_same(run, factory_state, shape->image);
+    ask_get(run, 27, place, unit, sign, data);
     if (!right || !may_put(place, unit, other))
         return;
 
     /* One sign put over the other, and taken back. */
-    ask_put(&run, 0, place, unit, other, data);
-    ask_put(&run, 0, place, unit, sign, data);
-    ask_get(&run, 0, place, unit, sign, data);
-    ask_plain(&run, "UNDO", 0);
-    ask_get(&run, 0, place, unit, other, data);
-    ask_plain(&run, "UNDO", 0);
-    ask_get(&run, 27, place, unit, sign, data);
-    ask_plain(&run, "UNDO", 29);
-    ask_put(&run, 0, place, unit, sign, data);
-    ask_plain(&run, "KEEP", 0);
-    ask_plain(&run, "UNDO", 29);
-    ask_get(&run, 0, place, unit, sign, data);
+    ask_put(run, 0, place, unit, other, data);
+    ask_put(run, 0, place, unit, sign, data);
+    ask_get(run, 0, place, unit, sign, data);
+    ask_plain(run, "UNDO", 0);
+    ask_get(run, 0, place, unit, other, data);
+    ask_plain(run, "UNDO", 0);
+    ask_get(run, 27, place, unit, sign, data);
+    ask_plain(run, "UNDO", 29);
+    ask_put(run, 0, place, unit, sign, data);
+    ask_plain(run, "KEEP", 0);
+    ask_plain(run, "UNDO", 29);
+    ask_get(run, 0, place, unit, sign, data);
 }
 
 /* 64 entries of both signs before nought, and back. */
 static void sweep_noughts_undone(void)
 {
-    enum { ENTRIES = 64, NUMBERS = VALUES - 2 };
-    lay_factory(&run);
+    enum { NUMBERS = VALUES - 2 };
+    lay_factory(run);
     for (unsigned i = 0; i < ENTRIES; i++)
-        ask_put(&run, 0, 2 + i % NUMBERS, unit_for(2 + i % NUMBERS, i), (i + i / NUMBERS) % 2 ? '+' : '-', "00000000");
-    ask_put(&run, 28, 5, '0', '-', "00000000");
-    ask_put(&run, 26, 5, '2', '-', "00000000");
+        ask_put(run, 0, 2 + i % NUMBERS, unit_for(2 + i % NUMBERS, i), (i + i / NUMBERS) % 2 ? '+' : '-', "00000000");
+    ask_put(run, 28, 5, '0', '-', "00000000");
+    ask_put(run, 26, 5, '2', '-', "00000000");
     for (unsigned i = ENTRIES; i-- > 0;) {
         unsigned place = 2 + i % NUMBERS, before = i - NUMBERS;
-        ask_plain(&run, "UNDO", 0);
+        ask_plain(run, "UNDO", 0);
         if (i < NUMBERS)
-            ask_get(&run, 27, place, 0, 0, "        ");
+            ask_get(run, 27, place, 0, 0, "        ");
         else
-            ask_get(&run, 0, place, unit_for(place, before), (before + before / NUMBERS) % 2 ? '+' : '-', "00000000");
+            ask_get(run, 0, place, unit_for(place, before), (before + before / NUMBERS) % 2 ? '+' : '-', "00000000");
     }
-    ask_plain(&run, "UNDO", 29);
-    ask_same(&run, factory_state, IMAGE);
+    ask_plain(run, "UNDO", 29);
+    ask_same(run, factory_state, shape->image);
 }
 
-/* 31: "each value never put or as a PUT can leave it", standing and in an entry, whatever byte the sign is. */
+/* 31: "each value never put or as a PUT can leave it", standing and in an entry, whatever byte the sign is; of TPS300, whose
+   values' bytes are the same, the signs and their neighbours. */
 static void sweep_noughts_images(unsigned place, char unit)
 {
-    for (unsigned sign = 0; sign < 256; sign++)
+    for (unsigned sign = 0; sign < (series == TPS100 ? 256 : 4); sign++)
         for (unsigned entry = 0; entry < 2; entry++) {
             int right = sign == 0 || (sign == 1 && place >= 2);
             uint8_t *v;
-            memcpy(state, nought_state, IMAGE);
-            state[AT_COUNT + 1] = (uint8_t)entry;
-            memset(state + AT_ENTRIES, 0, 64 * 14);
-            v = state + AT_VALUES + 11 * place;
+            memcpy(state, nought_state, shape->image);
+            empty_undo();
+            state[shape->count + 1] = (uint8_t)entry;
+            v = state + shape->values + VALUE * place;
             if (entry) {
-                state[AT_ENTRIES] = 2;
-                state[AT_ENTRIES + 1] = (uint8_t)place;
-                v = state + AT_ENTRIES + 3;
+                state[shape->entries] = 2;
+                state[shape->entries + 1] = (uint8_t)place;
+                v = state + shape->entries + 3;
             }
             v[0] = 1;
             v[1] = (uint8_t)unit;
             v[2] = (uint8_t)sign;
             memset(v + 3, '0', 8);
-            lend_state(IMAGE);
+            lend_state(shape->image);
             if (!right) {
                 ask_plain(&spare, "KEEP", 31);
-                check_sheet_write(&spare, 352);
+                check_sheet_write(&spare, shape->sheet);
                 continue;
             }
             if (entry)
                 ask_plain(&spare, "UNDO", 0);
             ask_get(&spare, 0, place, unit, sign ? '-' : '+', "00000000");
-            check_sheet_write(&spare, 352);
+            check_sheet_write(&spare, shape->sheet);
         }
 }
 
 static void sweep_noughts_of_lines(void)
 {
     kind_name = "sweep of minus nought";
-    kind_count = &swept_noughts[FAMILIES];
+    kind_count = &swept_noughts[FAMILIES + series];
     for (unsigned which = 0; which < 6; which++)
         sweep_noughts_together(which);
     for (unsigned place = 0; place < VALUES; place++)
@@ -2866,17 +3209,374 @@ static void sweep_noughts_of_lines(void)
         }
     sweep_noughts_undone();
     /* An angle out of range, with a minus too. */
-    lay_factory(&run);
+    lay_factory(run);
     for (unsigned place = 2; place < 4; place++)
         for (unsigned minus = 0; minus < 2; minus++) {
             char sign = minus ? '-' : '+';
-            ask_put(&run, 26, place, '2', sign, "40000000");
-            ask_put(&run, 26, place, '3', sign, "36000000");
-            ask_put(&run, 26, place, '4', sign, "36000000");
-            ask_put(&run, 26, place, '4', sign, "00060000");
-            ask_put(&run, 26, place, '4', sign, "00000600");
+            ask_put(run, 26, place, '2', sign, "40000000");
+            ask_put(run, 26, place, '3', sign, "36000000");
+            ask_put(run, 26, place, '4', sign, "36000000");
+            ask_put(run, 26, place, '4', sign, "00060000");
+            ask_put(run, 26, place, '4', sign, "00000600");
         }
-    ask_same(&run, factory_state, IMAGE);
+    ask_same(run, factory_state, shape->image);
+    len = 0;
+}
+
+/* Sweeps of the series: every number and parameter, every count of a GET, every line of a sheet, every byte of an image. What a
+   case is to give is said here too, where the settings' rows say it. */
+
+enum { OF_SETTINGS, OF_REPLIES, OF_SHEETS, OF_IMAGES, PARTS };
+static const char *const part_names[PARTS] = {"settings", "replies", "sheets", "images"};
+static uint64_t swept_parts[SERIES][PARTS];
+
+/* The place of the number among the series' settings, their count when it has none. */
+static unsigned place_of(unsigned number)
+{
+    unsigned place = 0;
+    while (place < shape->settings && shape->setting[place].number != number)
+        place++;
+    return place;
+}
+
+/* A SET with so many entries standing. 103: "38 for SET of a read-only number, after 23; 24 also covers a parameter below the
+   lowest or between modes." */
+static unsigned ask_set(struct lent *image, unsigned number, unsigned parameter, unsigned entries)
+{
+    unsigned place = place_of(number), wrong = 0;
+    if (place == shape->settings)
+        wrong = 23;
+    else if (shape->setting[place].read_only)
+        wrong = 38;
+    else if (!takes(&shape->setting[place], parameter))
+        wrong = 24;
+    else if (entries == ENTRIES)
+        wrong = 28;
+    len = 0;
+    say_set_of(number, parameter);
+    ask_said(image, wrong);
+    return wrong;
+}
+
+static void ask_conf(struct lent *image, unsigned number)
+{
+    unsigned place = place_of(number);
+    uint8_t answered[9];
+    len = 0;
+    say("CONF/");
+    say_number(number);
+    if (place == shape->settings) {
+        ask_said(image, 23);
+        return;
+    }
+    digits(answered, 4, number);
+    answered[4] = '/';
+    digits(answered + 5, 4, image->theirs[image->start + 1 + place]);
+    ask_line(image, 0, answered, 9);
+}
+
+/* Every number to 200 with every parameter to 300, at the factory; then parameters about the ends with 64 entries standing. */
+static void sweep_settings(void)
+{
+    kind_name = "sweep of settings";
+    kind_count = &swept_parts[series][OF_SETTINGS];
+    lay_factory(run);
+    memcpy(factory_state, standing(), shape->image);
+    for (unsigned place = 0; place < shape->settings; place++) {
+        const struct setting *setting = &shape->setting[place];
+        unsigned first = setting->lowest; /* 103: "Factory values are each setting's lowest." */
+        if (series == TPS100) /* "70 is 5, 73 is 1, 103 is 1, the rest 0" */
+            first = setting->number == 70 ? 5 : setting->number == 73 || setting->number == 103;
+        if (factory_state[1 + place] != first)
+            unasked("the factory's parameter is another", 0);
+    }
+    for (unsigned number = 0; number <= 200; number++) {
+        ask_conf(run, number);
+        for (unsigned parameter = 0; parameter <= 300; parameter++) {
+            if (ask_set(run, number, parameter, 0) != 0)
+                continue;
+            ask_conf(run, number);
+            ask_set(run, number, shape->setting[place_of(number)].lowest, 1); /* which UNDO is to take back to the parameter */
+            ask_plain(run, "UNDO", 0);
+            if (standing()[1 + place_of(number)] != parameter)
+                unasked("the parameter isn't stored", 0);
+            ask_conf(run, number);
+            ask_plain(run, "UNDO", 0);
+            ask_same(run, factory_state, shape->image);
+        }
+        ask_set(run, number, 9999, 0);
+        /* 30 replaces 23, 24 and 38 alike. */
+        len = 0;
+        say_set_of(number, 9999);
+        say("\r");
+        for (size_t room = 0; room < 9; room++) {
+            unsigned place = place_of(number);
+            ask_reply(run, place == shape->settings ? 23 : shape->setting[place].read_only ? 38 : 24, "@W127", 5, room);
+        }
+    }
+    /* Numbers that a byte would take for a setting's. */
+    for (unsigned place = 0; place < shape->settings; place++)
+        for (unsigned number = shape->setting[place].number + 256u; number <= 9999; number += 256) {
+            ask_set(run, number, shape->setting[place].lowest, 0);
+            ask_conf(run, number);
+        }
+    ask_same(run, factory_state, shape->image);
+    for (unsigned i = 0; i < ENTRIES; i++)
+        ask_set(run, 73, (i + 1) % 2, i);
+    for (unsigned number = 0; number <= 200; number++) {
+        unsigned place = place_of(number);
+        unsigned highest = place < shape->settings ? shape->setting[place].highest : 0;
+        for (unsigned parameter = 0; parameter < 12; parameter++)
+            ask_set(run, number, parameter, ENTRIES);
+        for (unsigned parameter = highest ? highest - 1 : 0; parameter <= highest + 2; parameter++)
+            ask_set(run, number, parameter, ENTRIES);
+        ask_set(run, number, 9999, ENTRIES);
+        ask_conf(run, number);
+    }
+    memcpy(state, standing(), shape->image);
+    ask_plain(lend_state(shape->image), "KEEP", 0);
+    empty_undo();
+    ask_same(&spare, state, shape->image);
+    for (unsigned i = 0; i < ENTRIES; i++)
+        ask_plain(run, "UNDO", 0);
+    ask_plain(run, "UNDO", 29);
+    ask_same(run, factory_state, shape->image);
+}
+
+/* GET of 1 to 19 indexes, with either end and, where the series has it, either width; rooms about the reply's length, and
+   those that are ample for other replies. */
+static void sweep_replies(void)
+{
+    static const size_t rooms[] = {0, 1, 2, 3, 5, 6, 7, 16, 17, 18, 24, 25, 26, 27, 304, 305, 306, 307, 456, 457, 458, 459, 460};
+    static const char *const data[] = {"00000000", "PNC0058A", "35959599", "00001550", "99999999"};
+    uint8_t words[VALUES * 16], asked_words[19 * 16], answered[MOST_REPLY];
+    unsigned widths = shape->of_137 < shape->settings ? 2 : 1;
+
+    kind_name = "sweep of replies";
+    kind_count = &swept_parts[series][OF_REPLIES];
+    for (unsigned k = 0; k < 2 * widths; k++) {
+        lay_factory(run);
+        poke(run, 1 + shape->of_73, k & 1);
+        for (unsigned place = 0; place < VALUES; place++) {
+            const char *put = data[place < 2 ? place : place < 4 ? 2 : 3 + place % 2];
+            char unit = unit_for(place, 2), sign = place > 2 && place % 2 ? '-' : '+';
+            ask_put(run, 0, place, unit, sign, put);
+            memcpy(words + 16 * place, value_word(place, 0, unit, sign, put), 16);
+        }
+        if (k & 2)
+            ask_plain(run, "SET/137/1", 0);
+        for (unsigned count = 1; count <= 19; count++) {
+            size_t n, need;
+            len = 0;
+            say("GET/I");
+            for (unsigned i = 0; i < count; i++) {
+                unsigned place = (i * 7 + count) % VALUES;
+                say("/WI");
+                say_number(stored[place]);
+                memcpy(asked_words + 16 * i, words + 16 * place, 16);
+            }
+            say(count % 2 ? "\r" : "\r\n");
+            n = lay_reply(answered, asked_words, count, (int)(k >> 1));
+            need = n + 1 + (k & 1);
+            for (size_t i = 0; i < COUNT_OF(rooms); i++)
+                ask_reply(run, 0, answered, n, rooms[i]);
+            for (size_t room = need - 2; room <= need + 2; room++)
+                ask_reply(run, 0, answered, n, room);
+        }
+        len = 0;
+    }
+}
+
+/* A state with every value put, each setting at its highest, and an undo list. */
+static void make_high_state(uint8_t *s)
+{
+    do {
+        make_state(s);
+    } while (s[shape->count + 1] < 3);
+    for (unsigned i = 0; i < shape->settings; i++)
+        s[1 + i] = shape->setting[i].highest;
+    for (unsigned i = 0; i < VALUES; i++)
+        if (!s[shape->values + VALUE * i])
+            value_of(s + shape->values + VALUE * i, i, 0);
+}
+
+/* Loads the sheet in src into the state at hand, and into an image of the other series, which refuses it at its first line. */
+static void ask_loads(unsigned number, size_t told)
+{
+    ask_load(lend_state(shape->image), number, told);
+    ask_load(&runs[!series], 40, 0);
+}
+
+/* Right sheets, each with each line left out, doubled, exchanged with each later one and changed, and with each byte changed. */
+static void sweep_sheets(void)
+{
+    static const uint8_t others[] = {0, LF, CR, ' ', '+', '-', '.', '/', '0', '1', '2', '9', ':', '=', 's', 'v', 127, 255};
+    static uint8_t loaded[MOST_IMAGE], right[MOST_SHEET];
+    size_t n;
+
+    kind_name = "sweep of sheets";
+    kind_count = &swept_parts[series][OF_SHEETS];
+    for (unsigned of = 0; of < SERIES; of++) { /* each run's image is there to be loaded into */
+        turn_to(!series);
+        lay_factory(run);
+    }
+    memcpy(factory_state, standing(), shape->image);
+    for (unsigned which = 0; which < 3; which++) {
+        if (which == 0)
+            memcpy(loaded, factory_state, shape->image);
+        else if (which == 1)
+            make_high_state(loaded);
+        else
+            make_state(loaded);
+        make_high_state(state);
+        lay_sheet(loaded);
+        n = len;
+        memcpy(right, src, n);
+        if ((which == 0 && n != shape->least_sheet) || (which == 1 && n != shape->sheet) || lines != 1 + shape->settings + VALUES)
+            unasked("the sheet has another length", n);
+        ask_loads(0, 0);
+        ask_same(&spare, loaded, shape->count);
+        ask_sheet(&spare);
+        for (size_t room = n - 3; room < n + 3; room++)
+            if (check_sheet_write(&spare, room) != (room < n ? UINT64_C(30) << 32 : n))
+                unasked("the sheet's room is another", room);
+        memcpy(src + 7, shapes[!series].name, 6); /* the other's first line, and this one's others */
+        ask_load(lend_state(shape->image), 40, 0);
+        ask_load(&runs[!series], 40, starts[1]);
+        for (unsigned i = 0; i < lines; i++) {
+            memcpy(src, right, len = n);
+            leave_out(i);
+            ask_loads(40, starts[i]);
+            memcpy(src, right, len = n);
+            put_in(i, i);
+            ask_loads(40, starts[i + 1]);
+            for (unsigned later = i + 1; later < lines; later++) {
+                memcpy(src, right, len = n);
+                exchange(i, later);
+                ask_loads(40, starts[i]);
+            }
+            memcpy(src, right, n);
+            len = starts[i];
+            ask_loads(40, i ? len : 0);
+            len = starts[i + 1] - 1;
+            ask_loads(40, starts[i]);
+        }
+        for (unsigned place = 0; which < 2 && place < shape->settings; place++)
+            for (unsigned parameter = 0; parameter <= 266; parameter += parameter == 130 ? 120 : 1)
+                for (unsigned noughts = 0; noughts < (parameter < 12 ? 2 : 1); noughts++) {
+                    unsigned i = setting_line(place);
+                    int is_right = !noughts && takes(&shape->setting[place], parameter);
+                    uint8_t number[4];
+                    size_t at, figures = noughts + (parameter < 10 ? 1 : parameter < 100 ? 2 : 3);
+                    memcpy(src, right, len = n);
+                    at = value_at(i);
+                    digits(number, figures, parameter);
+                    splice(at, starts[i + 1] - 1 - at, number, figures);
+                    ask_load(lend_state(shape->image), is_right ? 0 : 40, is_right ? 0 : starts[i]);
+                    if (is_right && spare.theirs[spare.start + 1 + place] != parameter)
+                        unasked("the parameter isn't loaded", 0);
+                }
+        for (size_t at = 0; which == 1 && at < n; at++) {
+            memcpy(src, right, len = n);
+            for (size_t i = 0; i < COUNT_OF(others); i++) {
+                src[at] = others[i];
+                check_sheet_load(lend_state(shape->image), len);
+            }
+            src[at] = right[at];
+            splice(at, 0, src + at, 1);
+            check_sheet_load(lend_state(shape->image), len);
+            memcpy(src, right, len = n);
+            splice(at, 1, "", 0);
+            check_sheet_load(lend_state(shape->image), len);
+        }
+    }
+    len = 0;
+}
+
+/* The image in state, of so many bytes, is a state or isn't: one of the functions in turn says so. */
+static void ask_image(size_t n, int is_state)
+{
+    static unsigned turn;
+    uint64_t got, asked_number = is_state ? 0 : 31;
+    lend_state(n);
+    len = 0;
+    switch (turn++ % 4) {
+    case 0:
+        got = check_sheet_write(&spare, MOST_SHEET) >> 32;
+        break;
+    case 1:
+        lay_sheet(factory_state);
+        got = check_sheet_load(&spare, len) >> 32;
+        break;
+    default:
+        say("KEEP\r");
+        got = check_line(&spare, len, MOST_REPLY) >> 32;
+        break;
+    }
+    if (got != asked_number)
+        unasked(is_state ? "a state is refused" : "what is no state is taken for one", got << 32);
+}
+
+/* The factory with every length; then right images, each with its bytes changed, every entry of a setting, every length, and
+   either first byte. */
+static void sweep_images(void)
+{
+    static const uint8_t others[] = {0, 1, 2, 3, 10, 11, '.', '/', '0', '1', '2', '9', ':', 64, 127, 128, 255};
+
+    kind_name = "sweep of images";
+    kind_count = &swept_parts[series][OF_IMAGES];
+    for (size_t n = 0; n <= MOST_IMAGE + 10; n++) {
+        uint64_t laid;
+        lend(&spare, 0, n, 0);
+        laid = check_factory(&spare, series);
+        if (laid != (n == shape->image ? 0 : UINT64_C(31) << 32))
+            unasked("the factory takes another length", laid);
+        if (n == shape->image)
+            ask_same(&spare, factory_state, n);
+    }
+    /* Every value of the first bytes, the number and the first two entries; of the rest those that matter, in their turn for the
+       other entries. */
+    make_high_state(state);
+    for (size_t at = 0; at < shape->image; at++) {
+        uint8_t old = state[at];
+        int all = at < shape->values || (at >= shape->count && at < shape->entries + 2 * ENTRY);
+        unsigned step = at < shape->entries || all ? 1 : 3;
+        for (unsigned i = all ? 0 : (unsigned)at % step; i < (all ? 256 : COUNT_OF(others) + 2); i += step) {
+            state[at] = all ? (uint8_t)i : i < COUNT_OF(others) ? others[i] : i & 1 ? (uint8_t)(old + 1) : (uint8_t)(old - 1);
+            if (at == 0)
+                ask_image(shape->image, i == shape->mark);
+            else if (at < shape->values)
+                ask_image(shape->image, takes(&shape->setting[at - 1], i));
+            else
+                use(lend_state(shape->image));
+        }
+        state[at] = old;
+    }
+
+    /* Only the entries of settings that can be SET, with what they take. */
+    make_high_state(state);
+    empty_undo();
+    state[shape->count + 1] = 1;
+    state[shape->entries] = 1;
+    for (unsigned place = 0; place < 256; place++)
+        for (unsigned parameter = 0; parameter < (place < MOST_SETTINGS + 2 ? 130 : 2); parameter++) {
+            const struct setting *setting = place < shape->settings ? &shape->setting[place] : 0;
+            state[shape->entries + 1] = (uint8_t)place;
+            state[shape->entries + 2] = (uint8_t)parameter;
+            ask_image(shape->image, setting && !setting->read_only && takes(setting, parameter));
+        }
+
+    /* The least state is a state of the one series at one length, with the one first byte. */
+    for (unsigned of = 0; of < SERIES; of++)
+        for (size_t n = 0; n <= MOST_IMAGE + 8; n++) {
+            memset(state, 0, sizeof state);
+            memcpy(state, factory_state, shape->image);
+            state[0] = shapes[of].mark;
+            /* Each of the TPS300's first parameters is one that TPS100 takes too, and then all is 0. */
+            if (series == TPS300 && of == TPS100 && n == shapes[of].image)
+                continue;
+            ask_image(n, of == series && n == shape->image);
+        }
     len = 0;
 }
 
@@ -2891,77 +3591,109 @@ static void sweep(void)
         sweep_noughts_of_blocks();
     }
     family = STATION;
+    for (unsigned of = 0; of < SERIES; of++) {
+        turn_to(of);
+        sweep_noughts_of_lines();
+        sweep_settings();
+        sweep_replies();
+        sweep_sheets();
+        sweep_images();
+    }
+    sweep_wide = 1;
     sweep_noughts_of_lines();
+    sweep_wide = 0;
     sweeping = 0;
 }
 
 /* The whole */
 
-/* The kinds of case, those of blocks and records for each family in the same share. */
-static struct { const char *name; void (*make)(void); unsigned weight, families; uint64_t count[FAMILIES]; } kinds[] = {
-    {"block right", read_right, 4, 2, {0}},
-    {"block with one byte wrong", read_one_wrong, 6, 2, {0}},
-    {"block with each value of a byte", read_each_value, 6, 2, {0}},
-    {"block information", read_info, 4, 2, {0}},
-    {"block cut", read_cut, 4, 2, {0}},
-    {"block words exchanged", read_exchanged, 2, 2, {0}},
-    {"block of 33 words", read_33, 2, 2, {0}},
-    {"list places", read_places, 2, 2, {0}},
-    {"block of both families", read_mixed, 2, 2, {0}},
-    {"block edges", read_edges, 6, 2, {0}},
-    {"block random", read_random, 2, 2, {0}},
-    {"records right", write_right, 3, 2, {0}},
-    {"record with one field wrong", write_one_wrong, 5, 2, {0}},
-    {"record extremes", write_extremes, 4, 2, {0}},
-    {"records of both families", write_mixed, 2, 2, {0}},
-    {"records of the other width", write_other_width, 1, 2, {0}},
-    {"records 0 to 34", write_counts, 2, 2, {0}},
-    {"writer rooms", write_rooms, 2, 2, {0}},
-    {"records random", write_random, 1, 2, {0}},
-    {"factory", factory, 1, 1, {0}},
-    {"image right", image_right, 2, 1, {0}},
-    {"image random", image_random, 1, 1, {0}},
-    {"image with one byte wrong", image_one_wrong, 4, 1, {0}},
-    {"image byte by byte", image_each_byte, 3, 1, {0}},
-    {"image length", image_length, 1, 1, {0}},
-    {"image count", image_count, 2, 1, {0}},
-    {"image undo list", image_undo, 4, 1, {0}},
-    {"image values", image_values, 4, 1, {0}},
-    {"image settings", image_settings, 1, 1, {0}},
-    {"run", run_phase, 16, 1, {0}},
-    {"line right", line_right, 4, 1, {0}},
-    {"line with one byte wrong", line_one_wrong, 4, 1, {0}},
-    {"line with each value of a byte", line_each_value, 5, 1, {0}},
-    {"line numbers", line_numbers, 4, 1, {0}},
-    {"line PUT", line_put, 5, 1, {0}},
-    {"line GET", line_get, 3, 1, {0}},
-    {"line ends and lengths", line_ends, 4, 1, {0}},
-    {"line rooms", line_rooms, 3, 1, {0}},
-    {"line shapes", line_shapes, 2, 1, {0}},
-    {"line random", line_random, 1, 1, {0}},
-    {"sheet rooms", sheet_rooms, 1, 1, {0}},
-    {"sheet written", sheet_written, 2, 1, {0}},
-    {"sheet whole", sheet_whole, 2, 1, {0}},
-    {"sheet cut", sheet_cut, 3, 1, {0}},
-    {"sheet with one byte wrong", sheet_one_wrong, 3, 1, {0}},
-    {"sheet with each value of a byte", sheet_each_value, 3, 1, {0}},
-    {"sheet lines", sheet_lines, 2, 1, {0}},
-    {"sheet odd", sheet_odd, 4, 1, {0}},
-    {"sheet random", sheet_random, 1, 1, {0}},
+/* The kinds of case, those of blocks and records for each family in the same share, the others for each series. */
+enum { BY_FAMILY, BY_SERIES, SORTS = 2 };
+_Static_assert((int)FAMILIES == (int)SORTS && (int)SERIES == (int)SORTS, "two of either");
+static const char *const sorts[][SORTS] = {{"", "level "}, {"", "TPS300 "}};
+static struct { const char *name; void (*make)(void); unsigned weight, by; uint64_t count[SORTS]; } kinds[] = {
+    {"block right", read_right, 4, BY_FAMILY, {0}},
+    {"block with one byte wrong", read_one_wrong, 6, BY_FAMILY, {0}},
+    {"block with each value of a byte", read_each_value, 6, BY_FAMILY, {0}},
+    {"block information", read_info, 4, BY_FAMILY, {0}},
+    {"block cut", read_cut, 4, BY_FAMILY, {0}},
+    {"block words exchanged", read_exchanged, 2, BY_FAMILY, {0}},
+    {"block of 33 words", read_33, 2, BY_FAMILY, {0}},
+    {"list places", read_places, 2, BY_FAMILY, {0}},
+    {"block of both families", read_mixed, 2, BY_FAMILY, {0}},
+    {"block edges", read_edges, 6, BY_FAMILY, {0}},
+    {"block random", read_random, 2, BY_FAMILY, {0}},
+    {"records right", write_right, 3, BY_FAMILY, {0}},
+    {"record with one field wrong", write_one_wrong, 5, BY_FAMILY, {0}},
+    {"record extremes", write_extremes, 4, BY_FAMILY, {0}},
+    {"records of both families", write_mixed, 2, BY_FAMILY, {0}},
+    {"records of the other width", write_other_width, 1, BY_FAMILY, {0}},
+    {"records 0 to 34", write_counts, 2, BY_FAMILY, {0}},
+    {"writer rooms", write_rooms, 2, BY_FAMILY, {0}},
+    {"records random", write_random, 1, BY_FAMILY, {0}},
+    {"factory", factory, 1, BY_SERIES, {0}},
+    {"image right", image_right, 2, BY_SERIES, {0}},
+    {"image random", image_random, 1, BY_SERIES, {0}},
+    {"image with one byte wrong", image_one_wrong, 4, BY_SERIES, {0}},
+    {"image byte by byte", image_each_byte, 3, BY_SERIES, {0}},
+    {"image length", image_length, 1, BY_SERIES, {0}},
+    {"image of the other series", image_other, 1, BY_SERIES, {0}},
+    {"image count", image_count, 2, BY_SERIES, {0}},
+    {"image undo list", image_undo, 4, BY_SERIES, {0}},
+    {"image values", image_values, 4, BY_SERIES, {0}},
+    {"image settings", image_settings, 1, BY_SERIES, {0}},
+    {"run", run_phase, 16, BY_SERIES, {0}},
+    {"run of wide replies", run_wide, 4, BY_SERIES, {0}},
+    {"line right", line_right, 4, BY_SERIES, {0}},
+    {"line with one byte wrong", line_one_wrong, 4, BY_SERIES, {0}},
+    {"line with each value of a byte", line_each_value, 5, BY_SERIES, {0}},
+    {"line numbers", line_numbers, 4, BY_SERIES, {0}},
+    {"line PUT", line_put, 5, BY_SERIES, {0}},
+    {"line GET", line_get, 3, BY_SERIES, {0}},
+    {"line ends and lengths", line_ends, 4, BY_SERIES, {0}},
+    {"line rooms", line_rooms, 3, BY_SERIES, {0}},
+    {"line shapes", line_shapes, 2, BY_SERIES, {0}},
+    {"line random", line_random, 1, BY_SERIES, {0}},
+    {"sheet rooms", sheet_rooms, 1, BY_SERIES, {0}},
+    {"sheet written", sheet_written, 2, BY_SERIES, {0}},
+    {"sheet whole", sheet_whole, 2, BY_SERIES, {0}},
+    {"sheet cut", sheet_cut, 3, BY_SERIES, {0}},
+    {"sheet with one byte wrong", sheet_one_wrong, 3, BY_SERIES, {0}},
+    {"sheet with each value of a byte", sheet_each_value, 3, BY_SERIES, {0}},
+    {"sheet lines", sheet_lines, 2, BY_SERIES, {0}},
+    {"sheet of the other series", sheet_other, 1, BY_SERIES, {0}},
+    {"sheet odd", sheet_odd, 4, BY_SERIES, {0}},
+    {"sheet random", sheet_random, 1, BY_SERIES, {0}},
 };
 
-/* The numbers each function can answer, as bits; a level's reader has no 10. */
+/* The numbers each function can answer, as bits; a level's reader has no 10, TPS100 no read-only setting. */
 #define BITS(from, to) ((((uint64_t)2 << (to)) - 1) & ~(((uint64_t)1 << (from)) - 1))
 static const uint64_t possible[FUNCTIONS] = {
-    BITS(0, 11), BITS(0, 9) | BITS(11, 11), 1 | BITS(12, 14), 1 | BITS(12, 14), 1 | BITS(31, 31), 1 | BITS(20, 31), 1 | BITS(30, 31),
+    BITS(0, 11), BITS(0, 9) | BITS(11, 11), 1 | BITS(12, 14), 1 | BITS(12, 14), 1 | BITS(31, 31), 1 | BITS(31, 31),
+    1 | BITS(20, 31), 1 | BITS(20, 31) | BITS(38, 38), 1 | BITS(30, 31), 1 | BITS(30, 31), 1 | BITS(31, 31) | BITS(40, 40),
     1 | BITS(31, 31) | BITS(40, 40)};
 
-/* The cases of a family's reader and writer. */
+/* Whether a minus nought may stand in what the function is lent or gives. */
+static int may_have_nought(unsigned function)
+{
+    return function < FACTORY || function >= LINE;
+}
+
+/* The cases of a family's reader and writer, and those of a series' functions. */
 static uint64_t seen_of(unsigned of)
 {
     uint64_t sum = 0;
     for (unsigned number = 0; number <= 40; number++)
         sum += seen[READ + of][number] + seen[WRITE + of][number];
+    return sum;
+}
+
+static uint64_t seen_of_series(unsigned of)
+{
+    uint64_t sum = 0;
+    for (unsigned f = FACTORY + of; f < FUNCTIONS; f += SERIES)
+        for (unsigned number = 0; number <= 40; number++)
+            sum += seen[f][number];
     return sum;
 }
 
@@ -2971,16 +3703,25 @@ static void finish(void)
     printf("%llu cases, 0 differences\n", (unsigned long long)cases);
     printf("by kind:");
     for (size_t i = 0; i < COUNT_OF(kinds); i++)
-        for (unsigned of = 0; of < kinds[i].families; of++)
-            printf("%s %s%s %llu", i || of ? "," : "", of == LEVEL ? "level " : "", kinds[i].name, (unsigned long long)kinds[i].count[of]);
+        for (unsigned of = 0; of < SORTS; of++)
+            printf("%s %s%s %llu", i || of ? "," : "", sorts[kinds[i].by][of], kinds[i].name, (unsigned long long)kinds[i].count[of]);
     printf("\nby family: station %llu, level %llu", (unsigned long long)seen_of(STATION), (unsigned long long)seen_of(LEVEL));
+    printf("\nby series:");
+    for (unsigned of = 0; of < SERIES; of++)
+        printf("%s %s %llu", of ? "," : "", shapes[of].name, (unsigned long long)seen_of_series(of));
     printf("\nsweeps before: station %llu, level %llu", (unsigned long long)swept[STATION], (unsigned long long)swept[LEVEL]);
-    printf("\nsweeps of minus nought: station %llu, level %llu, lines and sheets %llu", (unsigned long long)swept_noughts[STATION],
-           (unsigned long long)swept_noughts[LEVEL], (unsigned long long)swept_noughts[FAMILIES]);
+    printf("\nsweeps of minus nought: station %llu, level %llu, lines and sheets %llu, TPS300 lines and sheets %llu",
+           (unsigned long long)swept_noughts[STATION], (unsigned long long)swept_noughts[LEVEL],
+           (unsigned long long)swept_noughts[FAMILIES + TPS100], (unsigned long long)swept_noughts[FAMILIES + TPS300]);
+    printf("\nsweeps of series:");
+    for (unsigned of = 0; of < SERIES; of++)
+        for (unsigned part = 0; part < PARTS; part++)
+            printf("%s %s%s %llu", of || part ? "," : "", sorts[BY_SERIES][of], part_names[part], (unsigned long long)swept_parts[of][part]);
     printf("\nwith minus nought:");
     for (unsigned f = 0; f < FUNCTIONS; f++)
-        if (f != FACTORY)
+        if (may_have_nought(f))
             printf("%s %s %llu", f ? "," : "", names[f], (unsigned long long)with_nought[f]);
+    printf("\nwide replies: %llu", (unsigned long long)wide_replies);
     printf("\nby number:");
     for (unsigned number = 0; number <= 40; number++) {
         uint64_t sum = 0;
@@ -2997,10 +3738,14 @@ static void finish(void)
                 missing = 1;
             }
     for (unsigned f = 0; f < FUNCTIONS; f++)
-        if (f != FACTORY && with_nought[f] == 0) {
+        if (may_have_nought(f) && with_nought[f] == 0) {
             printf("%s never had a minus nought\n", names[f]);
             missing = 1;
         }
+    if (wide_replies == 0) {
+        printf("no reply was wide\n");
+        missing = 1;
+    }
     exit(missing);
 }
 
@@ -3032,30 +3777,39 @@ int main(int argc, char **argv)
         uint64_t r = next64();
         memcpy(pool + i, &r, 8);
     }
-    if (gsi_image_size() != ref_image_size()) {
-        printf("difference: image_size, library %llu, second %llu\n", (unsigned long long)gsi_image_size(),
-               (unsigned long long)ref_image_size());
-        return 1;
+    for (unsigned of = 0; of < SERIES; of++) {
+        uint64_t theirs = of == TPS300 ? gsi_image_size_300() : gsi_image_size();
+        uint64_t ours = of == TPS300 ? ref_image_size_300() : ref_image_size();
+        if (theirs != ours || ours != shapes[of].image) {
+            printf("difference: image_size of %s, library %llu, second %llu\n", shapes[of].name, (unsigned long long)theirs,
+                   (unsigned long long)ours);
+            return 1;
+        }
     }
     sweep();
     kind_name = "run";
-    for (size_t i = 0; i < COUNT_OF(kinds); i++)
-        if (kinds[i].make == run_phase)
-            kind_count = &kinds[i].count[STATION];
-    lend(&run, 0, IMAGE, 0);
-    check_factory(&run);
+    for (unsigned of = 0; of < SERIES; of++) {
+        for (size_t i = 0; i < COUNT_OF(kinds); i++)
+            if (kinds[i].make == run_phase)
+                kind_count = &kinds[i].count[of];
+        turn_to(of);
+        lend(run, 0, shape->image, 0);
+        check_factory(run, of);
+    }
     for (;;) {
         /* The kind furthest behind its share comes next, so that long sweeps don't crowd the others out. */
         size_t least = 0;
-        family = STATION;
+        unsigned sort = 0;
         for (size_t i = 0; i < COUNT_OF(kinds); i++)
-            for (unsigned of = 0; of < kinds[i].families; of++)
-                if (kinds[i].count[of] * kinds[least].weight < kinds[least].count[family] * kinds[i].weight) {
+            for (unsigned of = 0; of < SORTS; of++)
+                if (kinds[i].count[of] * kinds[least].weight < kinds[least].count[sort] * kinds[i].weight) {
                     least = i;
-                    family = of;
+                    sort = of;
                 }
         kind_name = kinds[least].name;
-        kind_count = &kinds[least].count[family];
+        kind_count = &kinds[least].count[sort];
+        family = kinds[least].by == BY_FAMILY ? sort : STATION;
+        turn_to(kinds[least].by == BY_SERIES ? sort : TPS100);
         kinds[least].make();
     }
 }

@@ -1,6 +1,6 @@
-/* reference.c: a second implementation of document 01 and document 02's requests 101 and 102 in plain C: the block of
-   either family, the line machine and the sheet. What stands in quotes is the documents' own sentence; the image's bytes
-   are those of IMAGE.md. */
+/* reference.c: a second implementation of document 01 and document 02's requests 101 to 103 in plain C: the block of
+   either family, the line machine and the sheet of either series. What stands in quotes is the documents' own sentence;
+   the image's bytes are those of IMAGE.md. */
 #include "reference.h"
 
 enum { CR = 13, LF = 10, MOST_WORDS = 32 };
@@ -444,33 +444,122 @@ uint64_t ref_write_level(const ref_word *list, size_t words, uint64_t wide, uint
     return write_block(LEVEL, list, words, wide, crlf, block, room);
 }
 
-/* The image of a state */
+/* The series and their settings */
 
-enum {
-    SETTINGS = 19, VALUES = 11, VALUE_BYTES = 11, MOST_ENTRIES = 64, ENTRY_BYTES = 14,
-    AT_SETTINGS = 1, AT_VALUES = 20, AT_COUNT = 141, AT_ENTRIES = 143,
-    IMAGE_BYTES = AT_ENTRIES + MOST_ENTRIES * ENTRY_BYTES,
-    ENTRY_OF_SET = 1, ENTRY_OF_PUT = 2,
-    PLACE_OF_73 = 10,
+/* 103: "24 also covers a parameter below the lowest or between modes"; "90, 91 (0 to 100 here), 122, 160 and 170 can't be
+   SET and have no undo entries". */
+enum { READ_ONLY = 1 };
+struct setting {
+    uint16_t number;
+    uint8_t lowest, highest;
+    uint32_t left_out; /* bit p: the range has no mode p; modes past 31 are never left out */
+    uint8_t read_only, factory;
 };
 
-/* "Settings (000, SET list of TPS100; all equipment fitted), those up to 136 only, as number:highest parameter" and
-   "Factory: 70 is 5, 73 is 1, 103 is 1, the rest 0"; with the sheet's key, "`s` and each setting". */
-static const struct { uint8_t number, highest, factory, key_length; char key[6]; } settings[SETTINGS] = {
-    {30, 1, 0, 4, "s30="}, {32, 3, 0, 4, "s32="}, {34, 1, 0, 4, "s34="}, {40, 2, 0, 4, "s40="},
-    {41, 1, 0, 4, "s41="}, {44, 2, 0, 4, "s44="}, {49, 1, 0, 4, "s49="}, {50, 2, 0, 4, "s50="},
-    {70, 5, 5, 4, "s70="}, {71, 2, 0, 4, "s71="}, {73, 1, 1, 4, "s73="}, {76, 1, 0, 4, "s76="},
-    {80, 1, 0, 4, "s80="}, {81, 2, 0, 4, "s81="}, {95, 1, 0, 4, "s95="}, {102, 1, 0, 5, "s102="},
-    {103, 1, 1, 5, "s103="}, {135, 1, 0, 5, "s135="}, {136, 1, 0, 5, "s136="},
+/* "Settings (000, SET list of TPS100; all equipment fitted), those up to 136 only, as number:highest parameter, lowest 0
+   each" and "Factory: 70 is 5, 73 is 1, 103 is 1, the rest 0". */
+static const struct setting settings_of_100[] = {
+    {30, 0, 1, 0, 0, 0}, {32, 0, 3, 0, 0, 0}, {34, 0, 1, 0, 0, 0}, {40, 0, 2, 0, 0, 0}, {41, 0, 1, 0, 0, 0},
+    {44, 0, 2, 0, 0, 0}, {49, 0, 1, 0, 0, 0}, {50, 0, 2, 0, 0, 0}, {70, 0, 5, 0, 0, 5}, {71, 0, 2, 0, 0, 0},
+    {73, 0, 1, 0, 0, 1}, {76, 0, 1, 0, 0, 0}, {80, 0, 1, 0, 0, 0}, {81, 0, 2, 0, 0, 0}, {95, 0, 1, 0, 0, 0},
+    {102, 0, 1, 0, 0, 0}, {103, 0, 1, 0, 0, 1}, {135, 0, 1, 0, 0, 0}, {136, 0, 1, 0, 0, 0},
 };
 
-/* The place of a setting, or SETTINGS when it isn't in the list. */
-static unsigned place_of_setting(unsigned number)
+/* 103: "Use source document 000's CONF list from 41 to 171, with its ranges: 55 and 56 from 1 to 10, 78 from 0 to 50, 104
+   and 105 from 0 to 100, and 161 only 0, 1, 5, 6, 7, 9 or 10. Leave out 138, given twice." "Factory values are each
+   setting's lowest." */
+static const struct setting settings_of_300[] = {
+    {41, 0, 4, 0, 0, 0},           /* distance unit */
+    {42, 0, 1, 0, 0, 0},           /* temperature unit */
+    {43, 0, 6, 0, 0, 0},           /* pressure unit */
+    {50, 0, 4, 0, 0, 0},           /* angle decimals */
+    {51, 0, 4, 0, 0, 0},           /* distance decimals */
+    {55, 1, 10, 0, 0, 1},          /* angle rounding */
+    {56, 1, 10, 0, 0, 1},          /* distance rounding */
+    {70, 0, 6, 0, 0, 0},           /* baud rate */
+    {71, 0, 2, 0, 0, 0},           /* parity */
+    {73, 0, 1, 0, 0, 0},           /* terminator */
+    {75, 0, 1, 0, 0, 0},           /* protocol */
+    {76, 0, 1, 0, 0, 0},           /* recording device */
+    {78, 0, 50, 0, 0, 0},          /* timeout delay */
+    {90, 0, 10, 0, READ_ONLY, 0},  /* battery level */
+    {91, 0, 100, 0, READ_ONLY, 0}, /* temperature */
+    {95, 0, 1, 0, 0, 0},           /* auto-off; the CONF list has no sleep mode */
+    {102, 0, 1, 0, 0, 0},          /* laser plummet */
+    {103, 0, 1, 0, 0, 0},          /* its availability */
+    {104, 0, 100, 0, 0, 0},        /* its pulse rate */
+    {105, 0, 100, 0, 0, 0},        /* its intensity */
+    {106, 0, 1, 0, 0, 0},          /* display heat */
+    {120, 0, 1, 0, 0, 0},          /* face definition */
+    {122, 0, 1, 0, READ_ONLY, 0},  /* face status */
+    {135, 0, 8, 0, 0, 0},          /* recording mask */
+    {136, 0, 127, 0, 0, 0},        /* output format */
+    {137, 0, 1, 0, 0, 0},          /* GSI8 or GSI16 */
+    {160, 0, 1, 0, READ_ONLY, 0},  /* validity of the distance */
+    {161, 0, 10, 1u << 2 | 1u << 3 | 1u << 4 | 1u << 8, 0, 0}, /* EDM mode */
+    {170, 0, 1, 0, READ_ONLY, 0},  /* current face */
+    {171, 0, 1, 0, 0, 0},          /* direction of the circle */
+};
+
+enum { TPS100, TPS300, SERIES };
+#define ROWS(table) (sizeof(table) / sizeof *(table)), (table)
+static const struct series {
+    uint8_t mark; /* the image's first byte: "the series in the high four bits, the form in the low four" */
+    size_t settings;
+    const struct setting *setting;
+    const char *first_line; /* of the sheet */
+} all_series[SERIES] = {
+    [TPS100] = {1, ROWS(settings_of_100), "series=TPS100\n"},
+    [TPS300] = {17, ROWS(settings_of_300), "series=TPS300\n"},
+};
+
+/* The place of a setting in its series' order, or the number of settings when it isn't in the list. */
+static size_t place_of_setting(const struct series *of, unsigned number)
 {
-    unsigned place = 0;
-    while (place < SETTINGS && settings[place].number != number)
+    size_t place = 0;
+    while (place < of->settings && of->setting[place].number != number)
         place++;
     return place;
+}
+
+static int in_range(const struct setting *setting, unsigned parameter)
+{
+    if (parameter < setting->lowest || parameter > setting->highest)
+        return 0;
+    return parameter > 31 || (setting->left_out >> parameter & 1) == 0;
+}
+
+/* The image of a state */
+
+/* The place of a setting is one byte of an entry. */
+enum { MOST_SETTINGS = 256, VALUES = 11, VALUE_BYTES = 11, MOST_ENTRIES = 64, ENTRY_BYTES = 14 };
+enum { ENTRY_OF_SET = 1, ENTRY_OF_PUT = 2 };
+enum { AT_SETTINGS = 1 };
+
+static size_t at_values(const struct series *of)
+{
+    return AT_SETTINGS + of->settings;
+}
+
+static size_t at_value(const struct series *of, unsigned place)
+{
+    return at_values(of) + place * VALUE_BYTES;
+}
+
+/* The number of undo entries, high byte first. */
+static size_t at_count(const struct series *of)
+{
+    return at_value(of, VALUES);
+}
+
+static size_t at_entry(const struct series *of, unsigned entry)
+{
+    return at_count(of) + 2 + entry * ENTRY_BYTES;
+}
+
+static size_t image_bytes(const struct series *of)
+{
+    return at_entry(of, MOST_ENTRIES);
 }
 
 /* "Values: 11, 16 text; 21, 24 angles, unit 2, 3 or 4; 34 and 83-88 lengths, unit 0 or 1." */
@@ -514,34 +603,38 @@ static int value_right(unsigned place, const uint8_t *v)
 }
 
 /* "A state is settings in range, each value never put or as a PUT can leave it, and 0 to 64 entries holding the same;
-   taken back newest first, none names a value then never put." */
-static int is_state(const uint8_t *image, size_t n)
+   taken back newest first, none names a value then never put." Of the series that is given. */
+static int is_state_of(const struct series *of, const uint8_t *image, size_t n)
 {
     uint8_t put[VALUES];
     unsigned count;
 
-    if (n != IMAGE_BYTES || image[0] != 1)
+    /* "Each series has its own image length", and "the image says its series". */
+    if (n != image_bytes(of) || image[0] != of->mark)
         return 0;
-    for (unsigned i = 0; i < SETTINGS; i++)
-        if (image[AT_SETTINGS + i] > settings[i].highest)
+    for (size_t i = 0; i < of->settings; i++)
+        if (!in_range(&of->setting[i], image[AT_SETTINGS + i]))
             return 0;
     for (unsigned i = 0; i < VALUES; i++) {
-        const uint8_t *v = image + AT_VALUES + i * VALUE_BYTES;
+        const uint8_t *v = image + at_value(of, i);
         if (!value_right(i, v))
             return 0;
         put[i] = v[0];
     }
-    count = (unsigned)image[AT_COUNT] << 8 | image[AT_COUNT + 1];
+    count = (unsigned)image[at_count(of)] << 8 | image[at_count(of) + 1];
     if (count > MOST_ENTRIES)
         return 0;
     /* Entries past the number are 0, so that each state has one image. */
-    if (!all_zero(image + AT_ENTRIES + count * ENTRY_BYTES, (MOST_ENTRIES - count) * ENTRY_BYTES))
+    if (!all_zero(image + at_entry(of, count), (MOST_ENTRIES - count) * ENTRY_BYTES))
         return 0;
     while (count > 0) {
-        const uint8_t *e = image + AT_ENTRIES + --count * ENTRY_BYTES;
+        const uint8_t *e = image + at_entry(of, --count);
         unsigned place = e[1];
         if (e[0] == ENTRY_OF_SET) {
-            if (place >= SETTINGS || e[2] > settings[place].highest || !all_zero(e + 3, VALUE_BYTES))
+            /* 103: "An entry of a read-only setting makes no state." */
+            if (place >= of->settings || of->setting[place].read_only)
+                return 0;
+            if (!in_range(&of->setting[place], e[2]) || !all_zero(e + 3, VALUE_BYTES))
                 return 0;
         } else if (e[0] == ENTRY_OF_PUT) {
             if (place >= VALUES || e[2] != 0 || !put[place] || !value_right(place, e + 3))
@@ -554,22 +647,53 @@ static int is_state(const uint8_t *image, size_t n)
     return 1;
 }
 
+/* The series of the state whose image the bytes are, or null when they are no state's. */
+static const struct series *series_of(const uint8_t *image, size_t n)
+{
+    for (unsigned i = 0; i < SERIES; i++)
+        if (is_state_of(&all_series[i], image, n))
+            return &all_series[i];
+    return NULL;
+}
+
 uint64_t ref_image_size(void)
 {
-    return IMAGE_BYTES;
+    return image_bytes(&all_series[TPS100]);
+}
+
+uint64_t ref_image_size_300(void)
+{
+    return image_bytes(&all_series[TPS300]);
 }
 
 /* "Laying down the factory state takes lent bytes of exactly the image's length, with any contents, and refuses 31
    otherwise." "At the factory no value has been put." */
+static uint64_t lay_factory(const struct series *of, uint8_t *image, size_t n)
+{
+    if (n != image_bytes(of))
+        return answer(31, 0);
+    clear(image, n);
+    image[0] = of->mark;
+    for (size_t i = 0; i < of->settings; i++)
+        image[AT_SETTINGS + i] = of->setting[i].factory;
+    return answer(0, 0);
+}
+
 uint64_t ref_factory(uint8_t *image, size_t n)
 {
-    if (n != IMAGE_BYTES)
-        return answer(31, 0);
-    clear(image, IMAGE_BYTES);
-    image[0] = 1;
-    for (unsigned i = 0; i < SETTINGS; i++)
-        image[AT_SETTINGS + i] = settings[i].factory;
-    return answer(0, 0);
+    return lay_factory(&all_series[TPS100], image, n);
+}
+
+uint64_t ref_factory_300(uint8_t *image, size_t n)
+{
+    return lay_factory(&all_series[TPS300], image, n);
+}
+
+/* The parameter that stands for the number; 0 where the series has no such setting. */
+static unsigned parameter_of(const struct series *of, const uint8_t *image, unsigned number)
+{
+    size_t place = place_of_setting(of, number);
+    return place < of->settings ? image[AT_SETTINGS + place] : 0;
 }
 
 /* The line machine */
@@ -579,7 +703,7 @@ enum act { ACT_SET, ACT_CONF, ACT_PUT, ACT_GET, ACT_UNDO, ACT_KEEP };
 
 struct request {
     enum act act;
-    unsigned place;     /* SET, CONF: of the setting; PUT: of the value */
+    size_t place;       /* SET, CONF: of the setting; PUT: of the value */
     unsigned parameter; /* SET */
     const uint8_t *at;  /* PUT: the word; GET: the first `/WI` */
     size_t count;       /* GET: the number of indexes */
@@ -598,8 +722,8 @@ static size_t take_number(const uint8_t *p, size_t n, unsigned *number)
     return taken > 1 && p[0] == '0' ? 0 : taken;
 }
 
-/* Judges `SET/number/parameter` and `CONF/number` after their first slash, by 22 to 24 and 28. */
-static unsigned judge_setting(const uint8_t *p, size_t n, unsigned entries, struct request *r)
+/* Judges `SET/number/parameter` and `CONF/number` after their first slash, by 22 to 24, 38 and 28. */
+static unsigned judge_setting(const struct series *of, const uint8_t *p, size_t n, unsigned entries, struct request *r)
 {
     unsigned number;
     size_t taken = take_number(p, n, &number);
@@ -619,12 +743,15 @@ static unsigned judge_setting(const uint8_t *p, size_t n, unsigned entries, stru
         return 22;
 
     /* 23: "setting not in the list" */
-    r->place = place_of_setting(number);
-    if (r->place == SETTINGS)
+    r->place = place_of_setting(of, number);
+    if (r->place == of->settings)
         return 23;
     if (r->act == ACT_SET) {
-        /* 24: "parameter above its highest" */
-        if (r->parameter > settings[r->place].highest)
+        /* 103: "38 for SET of a read-only number, after 23"; "Order: 23, 38, 24." */
+        if (of->setting[r->place].read_only)
+            return 38;
+        /* 24: "parameter above its highest"; 103: "also covers a parameter below the lowest or between modes" */
+        if (!in_range(&of->setting[r->place], r->parameter))
             return 24;
         /* 28: "SET or PUT with 64 entries standing" */
         if (entries == MOST_ENTRIES)
@@ -633,31 +760,32 @@ static unsigned judge_setting(const uint8_t *p, size_t n, unsigned entries, stru
     return 0;
 }
 
-/* Judges the 16 characters of a PUT by 25, 26 and 28. */
+/* Judges the 16 characters of a PUT by 25, 26 and 28. 103: "Stored values and their units stay those of TPS100." */
 static unsigned judge_put(const uint8_t *word, unsigned entries, struct request *r)
 {
     ref_word record;
+    unsigned place = place_of_value(word);
 
     /* 25: "PUT or GET index not a stored value" */
-    r->place = place_of_value(word);
-    if (r->place == VALUES)
+    if (place == VALUES)
         return 25;
     /* 26: "A PUT word has dots at 3-5 (3-6 for text) and otherwise obeys the block rules", with the value's units. #102:
        "26 and 40 follow": a minus before zero breaks no rule. */
     if (word[2] != '.' || word[3] != '.' || word[4] != '.')
         return 26;
-    if (word[5] < values[r->place].unit_from || word[5] > values[r->place].unit_to)
+    if (word[5] < values[place].unit_from || word[5] > values[place].unit_to)
         return 26;
     if (read_word(STATION, word, 8, &record) != 0)
         return 26;
     if (entries == MOST_ENTRIES)
         return 28;
+    r->place = place;
     r->at = word;
     return 0;
 }
 
 /* Judges what follows `GET/I`: "one or more `/WI` with two digits". */
-static unsigned judge_get(const uint8_t *image, const uint8_t *p, size_t n, struct request *r)
+static unsigned judge_get(const struct series *of, const uint8_t *image, const uint8_t *p, size_t n, struct request *r)
 {
     if (n == 0 || n % 5 != 0)
         return 22;
@@ -670,7 +798,7 @@ static unsigned judge_get(const uint8_t *image, const uint8_t *p, size_t n, stru
         if (place == VALUES)
             return 25;
         /* 27: "GET of a value never put" */
-        if (image[AT_VALUES + place * VALUE_BYTES] == 0)
+        if (image[at_value(of, place)] == 0)
             return 27;
     }
     r->at = p;
@@ -678,8 +806,9 @@ static unsigned judge_get(const uint8_t *image, const uint8_t *p, size_t n, stru
     return 0;
 }
 
-/* Judges a line by 20 to 29, in their order; answers 0 with the request filled when it is right. */
-static unsigned judge_line(const uint8_t *image, unsigned entries, const uint8_t *line, size_t m, struct request *r)
+/* Judges a line by 20 to 29, in their order, 38 after 23; answers 0 with the request filled when it is right. */
+static unsigned judge_line(const struct series *of, const uint8_t *image, unsigned entries, const uint8_t *line, size_t m,
+                           struct request *r)
 {
     size_t n = m;
 
@@ -702,11 +831,11 @@ static unsigned judge_line(const uint8_t *image, unsigned entries, const uint8_t
         return 22;
     if (same(line, "SET/", 4)) {
         r->act = ACT_SET;
-        return judge_setting(line + 4, n - 4, entries, r);
+        return judge_setting(of, line + 4, n - 4, entries, r);
     }
     if (n >= 5 && same(line, "CONF/", 5)) {
         r->act = ACT_CONF;
-        return judge_setting(line + 5, n - 5, entries, r);
+        return judge_setting(of, line + 5, n - 5, entries, r);
     }
     if (n == 20 && same(line, "PUT/", 4)) {
         /* "`PUT/` and 16 characters: a word 8 wide with its blank" */
@@ -715,7 +844,7 @@ static unsigned judge_line(const uint8_t *image, unsigned entries, const uint8_t
     }
     if (n >= 5 && same(line, "GET/I", 5)) {
         r->act = ACT_GET;
-        return judge_get(image, line + 5, n - 5, r);
+        return judge_get(of, image, line + 5, n - 5, r);
     }
     if (n == 4 && same(line, "UNDO", 4)) {
         r->act = ACT_UNDO;
@@ -730,8 +859,8 @@ static unsigned judge_line(const uint8_t *image, unsigned entries, const uint8_t
 }
 
 /* The 15 characters of a value that was put: "GET/I answers text words with four dots, others as dot, dot, `1`, the
-   unit; sign and data as put". Answers the place after them. */
-static uint8_t *lay_value(uint8_t *to, unsigned place, const uint8_t *v)
+   unit; sign and data as put"; or the 23 of its wide word. Answers the place after them. */
+static uint8_t *lay_value(uint8_t *to, unsigned place, const uint8_t *v, int wide)
 {
     to = lay(to, values[place].index, 2);
     to[0] = '.';
@@ -739,26 +868,37 @@ static uint8_t *lay_value(uint8_t *to, unsigned place, const uint8_t *v)
     to[2] = values[place].kind == TEXT ? '.' : '1';
     to[3] = v[1];
     to[4] = v[2] ? '-' : '+';
-    copy(to + 5, v + 3, 8);
-    return to + 13;
+    to += 5;
+    /* 103: "7 positions as before, eight zeros, the eight characters" */
+    if (wide)
+        to = lay(to, "00000000", 8);
+    copy(to, v + 3, 8);
+    return to + 8;
+}
+
+/* 103: "When 137 is 1, GET answers a `*` and then wide words" */
+static int is_wide(const struct series *of, const uint8_t *image)
+{
+    return parameter_of(of, image, 137) == 1;
 }
 
 /* Makes room for an entry at the end of the undo list and answers its place. */
-static uint8_t *add_entry(uint8_t *image, unsigned entries)
+static uint8_t *add_entry(const struct series *of, uint8_t *image, unsigned entries)
 {
-    image[AT_COUNT + 1] = (uint8_t)(entries + 1);
-    return image + AT_ENTRIES + entries * ENTRY_BYTES;
+    image[at_count(of) + 1] = (uint8_t)(entries + 1);
+    return image + at_entry(of, entries);
 }
 
 /* Does what an accepted line asks for and writes its reply, all but the end. Answers the place after it. */
-static uint8_t *obey(uint8_t *image, unsigned entries, const struct request *r, uint8_t *reply)
+static uint8_t *obey(const struct series *of, uint8_t *image, unsigned entries, const struct request *r, uint8_t *reply)
 {
     uint8_t *e, *v;
+    int wide;
 
     switch (r->act) {
     case ACT_SET:
         /* "An accepted SET or PUT adds one, even if nothing altered." */
-        e = add_entry(image, entries);
+        e = add_entry(of, image, entries);
         v = image + AT_SETTINGS + r->place;
         e[0] = ENTRY_OF_SET;
         e[1] = (uint8_t)r->place;
@@ -766,8 +906,8 @@ static uint8_t *obey(uint8_t *image, unsigned entries, const struct request *r, 
         *v = (uint8_t)r->parameter;
         break;
     case ACT_PUT:
-        e = add_entry(image, entries);
-        v = image + AT_VALUES + r->place * VALUE_BYTES;
+        e = add_entry(of, image, entries);
+        v = image + at_value(of, (unsigned)r->place);
         e[0] = ENTRY_OF_PUT;
         e[1] = (uint8_t)r->place;
         copy(e + 3, v, VALUE_BYTES);
@@ -778,30 +918,33 @@ static uint8_t *obey(uint8_t *image, unsigned entries, const struct request *r, 
         break;
     case ACT_UNDO:
         /* "UNDO takes the newest back, restoring "never put" too." "Freed entries are used again." */
-        image[AT_COUNT + 1] = (uint8_t)--entries;
-        e = image + AT_ENTRIES + entries * ENTRY_BYTES;
+        image[at_count(of) + 1] = (uint8_t)--entries;
+        e = image + at_entry(of, entries);
         if (e[0] == ENTRY_OF_SET)
             image[AT_SETTINGS + e[1]] = e[2];
         else
-            copy(image + AT_VALUES + e[1] * VALUE_BYTES, e + 3, VALUE_BYTES);
+            copy(image + at_value(of, e[1]), e + 3, VALUE_BYTES);
         clear(e, ENTRY_BYTES);
         break;
     case ACT_KEEP:
         /* "KEEP empties the list" */
-        image[AT_COUNT + 1] = 0;
-        clear(image + AT_ENTRIES, entries * ENTRY_BYTES);
+        image[at_count(of) + 1] = 0;
+        clear(image + at_entry(of, 0), entries * ENTRY_BYTES);
         break;
     case ACT_CONF:
         /* "Reply both as four digits, `0070/0005`." */
-        write_digits(reply, 4, settings[r->place].number);
+        write_digits(reply, 4, of->setting[r->place].number);
         reply[4] = '/';
         write_digits(reply + 5, 4, image[AT_SETTINGS + r->place]);
         return reply + 9;
     case ACT_GET:
         /* "Reply: the words in that order, each with its blank; an index may repeat." */
+        wide = is_wide(of, image);
+        if (wide)
+            *reply++ = '*';
         for (size_t i = 0; i < r->count; i++) {
             unsigned place = place_of_value(r->at + i * 5 + 3);
-            reply = lay_value(reply, place, image + AT_VALUES + place * VALUE_BYTES);
+            reply = lay_value(reply, place, image + at_value(of, place), wide);
             *reply++ = ' ';
         }
         return reply;
@@ -811,24 +954,25 @@ static uint8_t *obey(uint8_t *image, unsigned entries, const struct request *r, 
 
 uint64_t ref_line(uint8_t *image, size_t n, const uint8_t *line, size_t m, uint8_t *reply, size_t room)
 {
+    const struct series *of = series_of(image, n);
     struct request request = {0};
     unsigned entries, number;
     size_t length, ending;
 
     /* "Order: 31, then 20 to 29 as numbered ..., then 30, which replaces any of them." */
-    if (!is_state(image, n))
+    if (!of)
         return answer(31, 0);
-    entries = image[AT_COUNT + 1];
-    number = judge_line(image, entries, line, m, &request);
+    entries = image[at_count(of) + 1];
+    number = judge_line(of, image, entries, line, m, &request);
 
     /* "Each reply ends as setting 73 said before the line (0 CR, 1 CR LF)." */
-    ending = image[AT_SETTINGS + PLACE_OF_73] ? 2 : 1;
+    ending = parameter_of(of, image, 73) ? 2 : 1;
 
     /* 30: "reply or sheet, `@W127` included, longer than the room: nothing written or changed" */
     if (number != 0)
         length = 5;
     else if (request.act == ACT_GET)
-        length = request.count * 16;
+        length = is_wide(of, image) ? 1 + request.count * 24 : request.count * 16;
     else
         length = request.act == ACT_CONF ? 9 : 1;
     length += ending;
@@ -836,48 +980,89 @@ uint64_t ref_line(uint8_t *image, size_t n, const uint8_t *line, size_t m, uint8
         return answer(30, 0);
 
     /* "A refused line replies `@W127`, with nothing else altered; reply room beyond the reply is untouched." */
-    reply = number != 0 ? lay(reply, "@W127", 5) : obey(image, entries, &request, reply);
+    reply = number != 0 ? lay(reply, "@W127", 5) : obey(of, image, entries, &request, reply);
     lay(reply, "\r\n", ending);
     return answer(number, length);
 }
 
 /* The state sheet */
 
-static const char first_line[] = "series=TPS100\n";
-enum { FIRST_LINE = sizeof first_line - 1, SHORTEST_SHEET = 187 };
+static size_t length_of(const char *string)
+{
+    size_t n = 0;
+    while (string[n])
+        n++;
+    return n;
+}
+
+/* How many digits the number has: "numbers have no leading zeros". */
+static size_t digits_of(unsigned number)
+{
+    return number < 10 ? 1 : 1 + digits_of(number / 10);
+}
+
+/* Writes the number without leading zeros and answers the place after it. */
+static uint8_t *lay_number(uint8_t *to, unsigned number)
+{
+    size_t n = digits_of(number);
+    write_digits(to, n, number);
+    return to + n;
+}
 
 uint64_t ref_sheet_write(const uint8_t *image, size_t n, uint8_t *sheet, size_t room)
 {
-    size_t length = SHORTEST_SHEET;
+    const struct series *of = series_of(image, n);
+    size_t length;
 
     /* "for writing, 31, then 30" */
-    if (!is_state(image, n))
+    if (!of)
         return answer(31, 0);
-    /* "the 15 characters GET/I gives, or nothing when never put. 187 to 352 bytes." */
+    length = length_of(of->first_line);
+    for (size_t i = 0; i < of->settings; i++)
+        length += 3 + digits_of(of->setting[i].number) + digits_of(image[AT_SETTINGS + i]);
+    /* "the 15 characters GET/I gives, or nothing when never put"; 103: "the sheet keeps eight characters" */
     for (unsigned i = 0; i < VALUES; i++)
-        if (image[AT_VALUES + i * VALUE_BYTES])
-            length += 15;
+        length += image[at_value(of, i)] ? 20 : 5;
     if (length > room)
         return answer(30, 0);
 
     /* "key=value lines ended by LF: `series=TPS100`, then `s` and each setting in the order above, then `v` and each
-       index" */
-    sheet = lay(sheet, first_line, FIRST_LINE);
-    for (unsigned i = 0; i < SETTINGS; i++) {
-        sheet = lay(sheet, settings[i].key, settings[i].key_length);
-        *sheet++ = (uint8_t)('0' + image[AT_SETTINGS + i]);
+       index"; 103: "numbers have no leading zeros" */
+    sheet = lay(sheet, of->first_line, length_of(of->first_line));
+    for (size_t i = 0; i < of->settings; i++) {
+        *sheet++ = 's';
+        sheet = lay_number(sheet, of->setting[i].number);
+        *sheet++ = '=';
+        sheet = lay_number(sheet, image[AT_SETTINGS + i]);
         *sheet++ = LF;
     }
     for (unsigned i = 0; i < VALUES; i++) {
-        const uint8_t *v = image + AT_VALUES + i * VALUE_BYTES;
+        const uint8_t *v = image + at_value(of, i);
         *sheet++ = 'v';
         sheet = lay(sheet, values[i].index, 2);
         *sheet++ = '=';
         if (v[0])
-            sheet = lay_value(sheet, i, v);
+            sheet = lay_value(sheet, i, v, 0);
         *sheet++ = LF;
     }
     return answer(0, length);
+}
+
+/* Takes the n bytes at p for a line `sNN=` of the setting, into its parameter. Answers the line's length, 0 when wrong. 103:
+   "a sheet may hold any of" a read-only number's values. */
+static size_t take_setting_line(const uint8_t *p, size_t n, const struct setting *setting, uint8_t *to)
+{
+    size_t key = digits_of(setting->number), taken;
+    unsigned number;
+
+    if (n < key + 2 || p[0] != 's' || take_number(p + 1, key, &number) != key || number != setting->number || p[key + 1] != '=')
+        return 0;
+    key += 2;
+    taken = take_number(p + key, n - key, &number);
+    if (taken == 0 || !in_range(setting, number) || key + taken == n || p[key + taken] != LF)
+        return 0;
+    *to = (uint8_t)number;
+    return key + taken + 1;
 }
 
 /* Takes the n bytes at p for a line `vNN=` of the value, into its 11 bytes. Answers the line's length, 0 when wrong. */
@@ -903,40 +1088,35 @@ static size_t take_value_line(const uint8_t *p, size_t n, unsigned place, uint8_
 uint64_t ref_sheet_load(uint8_t *image, size_t n, const uint8_t *sheet, size_t m)
 {
     /* The image up to the undo list's number; it waits here since 40 "leaves the state as it was". */
-    uint8_t fresh[AT_COUNT];
-    size_t at = 0;
+    uint8_t fresh[AT_SETTINGS + MOST_SETTINGS + VALUES * VALUE_BYTES];
+    const struct series *of = series_of(image, n);
+    size_t at, taken;
 
     /* "Order: 31 (telling 0), then 40" */
-    if (!is_state(image, n))
+    if (!of)
         return answer(31, 0);
 
     /* "Loading takes exactly the bytes some sheet has"; "otherwise refusal 40 tells the start of the first wrong,
-       missing or surplus line" */
-    if (m < FIRST_LINE || !same(sheet, first_line, FIRST_LINE))
+       missing or surplus line"; 103: "a sheet of the other series is 40 at that line" */
+    at = length_of(of->first_line);
+    if (m < at || !same(sheet, of->first_line, at))
         return answer(40, 0);
-    fresh[0] = 1;
-    at = FIRST_LINE;
-    for (unsigned i = 0; i < SETTINGS; i++) {
-        const uint8_t *p = sheet + at;
-        size_t key = settings[i].key_length;
-        if (m - at < key + 2 || !same(p, settings[i].key, key) || p[key + 1] != LF)
-            return answer(40, at);
-        if (p[key] < '0' || p[key] > '0' + settings[i].highest)
-            return answer(40, at);
-        fresh[AT_SETTINGS + i] = (uint8_t)(p[key] - '0');
-        at += key + 2;
-    }
-    for (unsigned i = 0; i < VALUES; i++) {
-        size_t taken = take_value_line(sheet + at, m - at, i, fresh + AT_VALUES + i * VALUE_BYTES);
+    fresh[0] = of->mark;
+    for (size_t i = 0; i < of->settings; i++, at += taken) {
+        taken = take_setting_line(sheet + at, m - at, &of->setting[i], fresh + AT_SETTINGS + i);
         if (taken == 0)
             return answer(40, at);
-        at += taken;
+    }
+    for (unsigned i = 0; i < VALUES; i++, at += taken) {
+        taken = take_value_line(sheet + at, m - at, i, fresh + at_value(of, i));
+        if (taken == 0)
+            return answer(40, at);
     }
     if (at != m)
         return answer(40, at);
 
     /* "makes the settings and stored values those it names and empties the undo list" */
-    copy(image, fresh, AT_COUNT);
-    clear(image + AT_COUNT, IMAGE_BYTES - AT_COUNT);
+    copy(image, fresh, at_count(of));
+    clear(image + at_count(of), n - at_count(of));
     return answer(0, 0);
 }

@@ -1,4 +1,4 @@
-/* reference.h: a second implementation of document 01 and requests 101 and 102 in plain C, which the library is compared with.
+/* reference.h: a second implementation of document 01 and requests 101 to 103 in plain C, which the library is compared with.
    The functions and the record are those of the C interface, under the prefix ref_. */
 #ifndef REFERENCE_H
 #define REFERENCE_H
@@ -21,7 +21,9 @@ uint64_t ref_write(const ref_word *list, size_t words, uint64_t wide, uint64_t c
 uint64_t ref_read_level(const uint8_t *block, size_t n, ref_word *list, size_t places);
 uint64_t ref_write_level(const ref_word *list, size_t words, uint64_t wide, uint64_t crlf, uint8_t *block, size_t room);
 uint64_t ref_image_size(void);
+uint64_t ref_image_size_300(void);
 uint64_t ref_factory(uint8_t *image, size_t n);
+uint64_t ref_factory_300(uint8_t *image, size_t n);
 uint64_t ref_line(uint8_t *image, size_t n, const uint8_t *line, size_t m, uint8_t *reply, size_t room);
 uint64_t ref_sheet_write(const uint8_t *image, size_t n, uint8_t *sheet, size_t room);
 uint64_t ref_sheet_load(uint8_t *image, size_t n, const uint8_t *sheet, size_t m);

@@ -1,8 +1,10 @@
 /* selftest.c: checks the second implementation alone against the worked readings of document 01, the level's listing of
-   003, request 102's minus nought and what is easy to slip on. Prints `ok`, or the lines of this file whose reading failed. */
+   003, request 102's minus nought, request 103's TPS300 and what is easy to slip on. Prints `ok`, or the lines of this file
+   whose reading failed. */
 #include "reference.h"
 
 int printf(const char *, ...);
+int snprintf(char *, size_t, const char *, ...);
 int memcmp(const void *, const void *, size_t);
 void *memcpy(void *, const void *, size_t);
 void *memset(void *, int, size_t);
@@ -628,24 +630,34 @@ static void check_minus_nought(void)
 
 /* Lines */
 
-static uint8_t image[1039];
-static uint8_t reply[400];
+/* The image at hand and its length, which goes with its series; there is memory beyond either. */
+static uint8_t image[1060];
+static size_t bytes = 1039;
+static uint8_t reply[500];
 
 static void fresh(void)
 {
+    bytes = 1039;
     memset(image, 0x77, sizeof image);
-    CHECK(ref_factory(image, sizeof image) == 0);
+    CHECK(ref_factory(image, bytes) == 0);
+}
+
+static void fresh_300(void)
+{
+    bytes = 1050;
+    memset(image, 0x77, sizeof image);
+    CHECK(ref_factory_300(image, bytes) == 0);
 }
 
 /* Plays one line; checks that only what was told is written, and that a refused line alters no byte of the state. */
 static uint64_t play_in(const char *line, size_t m, size_t room)
 {
-    uint8_t before[1039];
+    uint8_t before[1060];
     uint64_t got;
     size_t told;
     memcpy(before, image, sizeof image);
     memset(reply, 0x5A, sizeof reply);
-    got = ref_line(image, sizeof image, (const uint8_t *)line, m, reply, room);
+    got = ref_line(image, bytes, (const uint8_t *)line, m, reply, room);
     told = (size_t)(got & 0xFFFFFFFF);
     CHECK(told <= room);
     for (size_t i = told; i < sizeof reply; i++)
@@ -653,6 +665,7 @@ static uint64_t play_in(const char *line, size_t m, size_t room)
             CHECK(!"reply room beyond the reply is untouched");
             break;
         }
+    CHECK(memcmp(before + bytes, image + bytes, sizeof image - bytes) == 0);
     if (got >> 32) {
         CHECK(memcmp(before, image, sizeof image) == 0);
         if (told)
@@ -668,7 +681,7 @@ static unsigned play(const char *body)
     size_t n = strlen(body);
     memcpy(line, body, n);
     memcpy(line + n, "\r\n", 2);
-    return (unsigned)(play_in(line, n + 2, 306) >> 32);
+    return (unsigned)(play_in(line, n + 2, bytes == 1039 ? 306 : 459) >> 32);
 }
 
 static int replied(const char *expected)
@@ -841,8 +854,8 @@ static void check_states(void)
         memcpy(image, whole, sizeof whole); \
         change; \
         CHECK(play("KEEP") == 31); \
-        CHECK(ref_sheet_write(image, sizeof image, reply, 0) == ANSWER(31, 0)); \
-        CHECK(ref_sheet_load(image, sizeof image, reply, 0) == ANSWER(31, 0)); \
+        CHECK(ref_sheet_write(image, bytes, reply, 0) == ANSWER(31, 0)); \
+        CHECK(ref_sheet_load(image, bytes, reply, 0) == ANSWER(31, 0)); \
     } while (0)
     NO_STATE(image[0] = 0);
     NO_STATE(image[1] = 2);
@@ -874,26 +887,41 @@ static const char example[] =
     "series=TPS100\ns30=1\ns32=0\ns34=0\ns40=0\ns41=0\ns44=0\ns49=0\ns50=0\ns70=5\ns71=0\ns73=1\ns76=0\ns80=0\ns81=0\n"
     "s95=0\ns102=0\ns103=1\ns135=0\ns136=0\nv11=\nv16=\nv21=\nv24=\nv34=\nv83=\nv84=\nv85=\nv86=\nv87=\nv88=88..10+00001550\n";
 
+/* The right sheet that the checks below change. */
+static const char *given = example;
+
 static uint64_t load(const char *sheet, size_t n)
 {
-    uint8_t before[1039];
+    uint8_t before[1060];
     uint64_t got;
     memcpy(before, image, sizeof image);
-    got = ref_sheet_load(image, sizeof image, (const uint8_t *)sheet, n);
+    got = ref_sheet_load(image, bytes, (const uint8_t *)sheet, n);
+    CHECK(memcmp(before + bytes, image + bytes, sizeof image - bytes) == 0);
     if (got >> 32)
         CHECK(memcmp(before, image, sizeof image) == 0);
     return got;
 }
 
-/* Loads the example with the part from `at` of so many bytes replaced. */
+/* Loads the given sheet with the part from `at` of so many bytes replaced. */
 static uint64_t load_with(size_t at, size_t gone, const char *instead)
 {
-    char sheet[500];
-    size_t n = sizeof example - 1, added = strlen(instead);
-    memcpy(sheet, example, at);
+    char sheet[600];
+    size_t n = strlen(given), added = strlen(instead);
+    memcpy(sheet, given, at);
     memcpy(sheet + at, instead, added);
-    memcpy(sheet + at + added, example + at + gone, n - at - gone);
+    memcpy(sheet + at + added, given + at + gone, n - at - gone);
     return load(sheet, n - gone + added);
+}
+
+/* Loads the given sheet cut at each length: 40 tells the start of the line that isn't whole. */
+static void load_cut(void)
+{
+    size_t at = 0;
+    for (size_t cut = 0; given[cut]; cut++) {
+        CHECK(load(given, cut) == ANSWER(40, at));
+        if (given[cut] == '\n')
+            at = cut + 1;
+    }
 }
 
 /* Runs a text as program sheet does: "cuts after each CR (with LF if next)", "a last piece without CR included". */
@@ -916,14 +944,14 @@ static void run(const char *text)
 static void check_sheets(void)
 {
     uint8_t sheet[400];
-    size_t n = sizeof example - 1, at;
+    size_t n = sizeof example - 1;
 
     /* The example of program sheet. */
     fresh();
     run("SET/30/1\r\nPUT/88...0+00001550 \r\nSET/40/2\r\nUNDO\r\n");
     memset(sheet, 0x5A, sizeof sheet);
-    CHECK(ref_sheet_write(image, sizeof image, sheet, n - 1) == ANSWER(30, 0) && sheet[0] == 0x5A);
-    CHECK(n == 202 && ref_sheet_write(image, sizeof image, sheet, sizeof sheet) == ANSWER(0, 202));
+    CHECK(ref_sheet_write(image, bytes, sheet, n - 1) == ANSWER(30, 0) && sheet[0] == 0x5A);
+    CHECK(n == 202 && ref_sheet_write(image, bytes, sheet, sizeof sheet) == ANSWER(0, 202));
     CHECK(memcmp(sheet, example, n) == 0 && sheet[n] == 0x5A);
     /* A last piece without CR is a line, which 20 refuses. */
     run("SET/40/2\rKEEP");
@@ -931,12 +959,12 @@ static void check_sheets(void)
 
     /* "187 to 352 bytes" */
     fresh();
-    CHECK(ref_sheet_write(image, sizeof image, sheet, 187) == ANSWER(0, 187));
+    CHECK(ref_sheet_write(image, bytes, sheet, 187) == ANSWER(0, 187));
     run("PUT/11....+00000000 \rPUT/16....+00000000 \rPUT/21...2+00000000 \rPUT/24...3-00000001 \rPUT/34...0+00000000 \r"
         "PUT/83...0+00000000 \rPUT/84...0+00000000 \rPUT/85...0+00000000 \rPUT/86...0+00000000 \rPUT/87...0+00000000 \r"
         "PUT/88...1+00000000 \r");
-    CHECK(ref_sheet_write(image, sizeof image, sheet, 351) == ANSWER(30, 0));
-    CHECK(ref_sheet_write(image, sizeof image, sheet, 352) == ANSWER(0, 352));
+    CHECK(ref_sheet_write(image, bytes, sheet, 351) == ANSWER(30, 0));
+    CHECK(ref_sheet_write(image, bytes, sheet, 352) == ANSWER(0, 352));
     CHECK(load((const char *)sheet, 352) == 0 && play("UNDO") == 29 && play("GET/I/WI24") == 0);
     CHECK(replied("24..13-00000001 \r\n"));
 
@@ -944,13 +972,7 @@ static void check_sheets(void)
     CHECK(play("SET/30/1") == 0 && load(example, n) == 0 && play("UNDO") == 29 && play("GET/I/WI24") == 27);
     CHECK(play("GET/I/WI88") == 0 && replied("88..10+00001550 \r\n"));
 
-    /* Cut at each length: the start of the line that isn't whole. */
-    at = 0;
-    for (size_t cut = 0; cut < n; cut++) {
-        CHECK(load(example, cut) == ANSWER(40, at));
-        if (example[cut] == '\n')
-            at = cut + 1;
-    }
+    load_cut();
     CHECK(load_with(n, 0, "x") == ANSWER(40, n));
     CHECK(load_with(n, 0, "\n") == ANSWER(40, n));
     CHECK(load_with(13, 0, "\r") == ANSWER(40, 0));
@@ -968,11 +990,11 @@ static void check_sheets(void)
 
 /* Minus nought, in lines, images and sheets */
 
-/* The start of the value's line in a sheet. */
+/* The start of the line in a sheet that has the key. */
 static size_t line_of(const char *sheet, const char *key)
 {
     size_t at = 0;
-    while (memcmp(sheet + at, key, 4) != 0)
+    while (memcmp(sheet + at, key, strlen(key)) != 0)
         at++;
     return at;
 }
@@ -1006,7 +1028,7 @@ static void check_minus_nought_put(void)
             if (!right)
                 continue;
             CHECK(play(get) == 0 && replied(got));
-            CHECK(ref_sheet_write(image, sizeof image, sheet, sizeof sheet) == ANSWER(0, i == 10 ? 202 : 217));
+            CHECK(ref_sheet_write(image, bytes, sheet, sizeof sheet) == ANSWER(0, i == 10 ? 202 : 217));
             CHECK(memcmp(sheet + at + 4, got, 15) == 0);
             /* UNDO brings either sign back, and "never put". */
             fresh();
@@ -1014,7 +1036,7 @@ static void check_minus_nought_put(void)
             CHECK(play(put) == 0);
             put[10] = '-';
             CHECK(play(put) == 0 && play(get) == 0 && replied(got));
-            CHECK(ref_sheet_write(image, sizeof image, sheet, sizeof sheet) == ANSWER(0, 202));
+            CHECK(ref_sheet_write(image, bytes, sheet, sizeof sheet) == ANSWER(0, 202));
             memcpy(whole, image, sizeof whole);
             put[10] = '+';
             CHECK(play(put) == 0 && play("UNDO") == 0 && memcmp(image, whole, sizeof whole) == 0);
@@ -1027,7 +1049,7 @@ static void check_minus_nought_put(void)
             CHECK(load((const char *)sheet, 202) == 0 && play(get) == 0);
             got[6] = '-';
             CHECK(replied(got) && play("UNDO") == 29);
-            CHECK(ref_sheet_write(image, sizeof image, (uint8_t *)full, 202) == ANSWER(0, 202) && memcmp(full, sheet, 202) == 0);
+            CHECK(ref_sheet_write(image, bytes, (uint8_t *)full, 202) == ANSWER(0, 202) && memcmp(full, sheet, 202) == 0);
         }
 
     /* 26 with a minus: an angle out of range, text. */
@@ -1043,10 +1065,10 @@ static void check_minus_nought_put(void)
     CHECK(play("GET/I/WI21/WI24/WI34/WI83/WI84/WI85/WI86/WI87/WI88") == 0);
     CHECK(replied("21..12-00000000 24..14-00000000 34..11-00000000 83..10-00000000 84..11-00000000 85..10-00000000 "
                   "86..11-00000000 87..10-00000000 88..11-00000000 \r\n"));
-    CHECK(ref_sheet_write(image, sizeof image, sheet, sizeof sheet) == ANSWER(0, 322));
+    CHECK(ref_sheet_write(image, bytes, sheet, sizeof sheet) == ANSWER(0, 322));
     memcpy(full, sheet, 322);
     CHECK(load(full, 322) == 0 && play("UNDO") == 29);
-    CHECK(ref_sheet_write(image, sizeof image, sheet, sizeof sheet) == ANSWER(0, 322) && memcmp(full, sheet, 322) == 0);
+    CHECK(ref_sheet_write(image, bytes, sheet, sizeof sheet) == ANSWER(0, 322) && memcmp(full, sheet, 322) == 0);
     /* A sign that text can't have, and angles out of range, at their lines. */
     CHECK(load_with(line_of(example, "v11=") + 4, 0, "11....-00000000") == ANSWER(40, line_of(example, "v11=")));
     CHECK(load_with(line_of(example, "v21=") + 4, 0, "21..12-40000000") == ANSWER(40, line_of(example, "v21=")));
@@ -1071,6 +1093,417 @@ static void check_minus_nought_put(void)
     CHECK(play("KEEP") == 31);
 }
 
+/* TPS300 */
+
+/* 01's settings of TPS100, "as number:highest parameter, lowest 0 each". */
+static const char list_of_01[] = "30:1 32:3 34:1 40:2 41:1 44:2 49:1 50:2 70:5 71:2 73:1 76:1 80:1 81:2 95:1 102:1 103:1 135:1 136:1";
+
+/* 000's CONF list of TPS300/700 (Tab. 8) from 41 to 171, row by row: the number and the parameters that its responses have,
+   each where it lists them, the two ends where it gives a range. #103: "55 and 56 from 1 to 10, 78 from 0 to 50, 104 and 105
+   from 0 to 100, and 161 only 0, 1, 5, 6, 7, 9 or 10. Leave out 138"; "91 (0 to 100 here)". */
+static const struct row { unsigned number; const char *parameters; } conf_list[] = {
+    {41, "0 1 2 3 4"}, {42, "0 1"}, {43, "0 1 2 3 4 5 6"}, {50, "0 1 2 3 4"}, {51, "0 1 2 3 4"}, {55, "1-10"}, {56, "1-10"},
+    {70, "0 1 2 3 4 5 6"}, {71, "0 1 2"}, {73, "0 1"}, {75, "0 1"}, {76, "0 1"}, {78, "0-50"}, {90, "0-10"}, {91, "0-100"},
+    {95, "0 1"}, {102, "0 1"}, {103, "0 1"}, {104, "0-100"}, {105, "0-100"}, {106, "0 1"}, {120, "0 1"}, {122, "0 1"},
+    {135, "0-8"}, {136, "0-127"}, {137, "0 1"}, {160, "0 1"}, {161, "0 1 5 6 7 9 10"}, {170, "0 1"}, {171, "0 1"},
+};
+enum { ROWS = sizeof conf_list / sizeof *conf_list };
+
+/* "90, 91 (0 to 100 here), 122, 160 and 170 can't be SET" */
+static int is_asked_only(unsigned number)
+{
+    return number == 90 || number == 91 || number == 122 || number == 160 || number == 170;
+}
+
+/* Reads a number and goes past it. */
+static unsigned number_at(const char **p)
+{
+    unsigned v = 0;
+    while (**p >= '0' && **p <= '9')
+        v = v * 10 + (unsigned)(*(*p)++ - '0');
+    return v;
+}
+
+static int lists(const char *parameters, unsigned parameter)
+{
+    for (;; parameters++) {
+        unsigned from = number_at(&parameters), to = from;
+        if (*parameters == '-') {
+            parameters++;
+            to = number_at(&parameters);
+        }
+        if (parameter >= from && parameter <= to)
+            return 1;
+        if (!*parameters)
+            return 0;
+    }
+}
+
+static unsigned lowest_of(const struct row *row)
+{
+    const char *p = row->parameters;
+    return number_at(&p);
+}
+
+/* The row of the number in 01's list of TPS100, as one of the other list; null when it has none. */
+static const struct row *row_of_01(unsigned number)
+{
+    static struct row row;
+    static char range[8];
+    for (const char *p = list_of_01; *p; p += *p == ' ') {
+        row.number = number_at(&p);
+        p++;
+        snprintf(range, sizeof range, "0-%u", number_at(&p));
+        row.parameters = range;
+        if (row.number == number)
+            return &row;
+    }
+    return NULL;
+}
+
+static const struct row *row_of_000(unsigned number)
+{
+    for (size_t i = 0; i < ROWS; i++)
+        if (conf_list[i].number == number)
+            return &conf_list[i];
+    return NULL;
+}
+
+static unsigned play_two(const char *form, unsigned a, unsigned b)
+{
+    char line[40];
+    snprintf(line, sizeof line, form, a, b);
+    return play(line);
+}
+
+static int replied_conf(unsigned number, unsigned parameter, const char *end)
+{
+    char asked[20];
+    snprintf(asked, sizeof asked, "%04u/%04u%s", number, parameter, end);
+    return replied(asked);
+}
+
+/* Every number to 200 with every parameter to 300, for either series. */
+static void check_ranges(void)
+{
+    uint8_t factory[1060];
+
+    for (int series = 0; series < 2; series++) {
+        const char *end = series ? "\r" : "\r\n";
+        series ? fresh_300() : fresh();
+        memcpy(factory, image, sizeof factory);
+        for (unsigned number = 0; number <= 200; number++) {
+            const struct row *row = series ? row_of_000(number) : row_of_01(number);
+            int asked_only = series && is_asked_only(number);
+            /* TPS100: "Factory: 70 is 5, 73 is 1, 103 is 1, the rest 0". TPS300: "each setting's lowest". */
+            unsigned first = !row ? 0 : series ? lowest_of(row) : number == 70 ? 5 : number == 73 || number == 103;
+            CHECK(play_two("CONF/%u", number, 0) == (row ? 0 : 23));
+            CHECK(row ? replied_conf(number, first, end) : replied(series ? "@W127\r" : "@W127\r\n"));
+            for (unsigned parameter = 0; parameter <= 300; parameter++) {
+                unsigned wanted = !row ? 23 : asked_only ? 38 : lists(row->parameters, parameter) ? 0 : 24;
+                CHECK(play_two("SET/%u/%u", number, parameter) == wanted);
+                if (wanted != 0)
+                    continue;
+                CHECK(play_two("CONF/%u", number, 0) == 0);
+                CHECK(replied_conf(number, parameter, number != 73 ? end : parameter ? "\r\n" : "\r"));
+                CHECK(play_two("SET/%u/%u", number, first) == 0 && play("UNDO") == 0 && play_two("CONF/%u", number, 0) == 0);
+                CHECK(replied_conf(number, parameter, number != 73 ? end : parameter ? "\r\n" : "\r"));
+                CHECK(play("UNDO") == 0 && memcmp(image, factory, sizeof factory) == 0);
+            }
+            for (unsigned parameter = 301; parameter <= 9999; parameter += 211)
+                CHECK(play_two("SET/%u/%u", number, parameter) == (!row ? 23 : asked_only ? 38 : 24));
+        }
+        for (unsigned number = 201; number <= 9999; number++)
+            CHECK(play_two("CONF/%u", number, 0) == 23 && play_two("SET/%u/1", number, 0) == 23);
+    }
+}
+
+static void check_lines_300(void)
+{
+    static const char *const others[] = {"30", "31", "32", "34", "35", "36", "40", "44", "49", "52", "57", "72", "74", "80", "81",
+                                         "138", "162", "172", "173", "178", "179"};
+    char line[120] = "GET/I";
+    size_t n = 5;
+
+    /* The readings of 103 one by one. */
+    fresh_300();
+    CHECK(play("SET/90/9999") == 38 && replied("@W127\r"));
+    CHECK(play("SET/90/0") == 38 && play("SET/91/100") == 38 && play("SET/122/1") == 38 && play("SET/160/0") == 38);
+    CHECK(play("SET/170/1") == 38 && play("SET/170/2") == 38 && play("SET/91/101") == 38 && play("UNDO") == 29);
+    CHECK(play("CONF/90") == 0 && replied("0090/0000\r") && play("CONF/91") == 0 && replied("0091/0000\r"));
+    CHECK(play("CONF/122") == 0 && play("CONF/160") == 0 && play("CONF/170") == 0 && replied("0170/0000\r"));
+    CHECK(play("SET/161/0") == 0 && play("SET/161/1") == 0 && play("SET/161/5") == 0 && play("SET/161/6") == 0);
+    CHECK(play("SET/161/7") == 0 && play("SET/161/9") == 0 && play("SET/161/10") == 0 && play("SET/161/11") == 24);
+    CHECK(play("SET/161/2") == 24 && play("SET/161/3") == 24 && play("SET/161/4") == 24 && play("SET/161/8") == 24);
+    CHECK(play("CONF/161") == 0 && replied("0161/0010\r") && play("UNDO") == 0 && play("CONF/161") == 0 && replied("0161/0009\r"));
+    CHECK(play("SET/55/0") == 24 && play("SET/56/0") == 24 && play("SET/55/10") == 0 && play("SET/56/1") == 0);
+    CHECK(play("SET/55/11") == 24 && play("SET/56/11") == 24 && play("CONF/55") == 0 && replied("0055/0010\r"));
+    CHECK(play("SET/95/2") == 24 && play("SET/95/1") == 0 && play("SET/78/50") == 0 && play("SET/78/51") == 24);
+    CHECK(play("SET/136/127") == 0 && play("SET/136/128") == 24 && play("CONF/136") == 0 && replied("0136/0127\r"));
+    CHECK(play("SET/104/100") == 0 && play("SET/105/101") == 24 && play("CONF/104") == 0 && replied("0104/0100\r"));
+    for (size_t i = 0; i < sizeof others / sizeof *others; i++) {
+        char other[20];
+        snprintf(other, sizeof other, "SET/%s/0", others[i]);
+        CHECK(play(other) == 23);
+        snprintf(other, sizeof other, "CONF/%s", others[i]);
+        CHECK(play(other) == 23);
+    }
+    CHECK(play("SET/138/9999") == 23 && play("SET/0/0") == 23 && play("CONF/9999") == 23);
+    /* 22 comes before them, and 30 in the place of 38. */
+    CHECK(play("SET/090/0") == 22 && play("SET/90/00") == 22 && play("SET/90/") == 22 && play("SET/90") == 22);
+    CHECK(play("SET/90/12345") == 22 && play("set/90/0") == 22 && play("SET/90/0/0") == 22);
+    CHECK(play_in("SET/90/0\r", 9, 5) == ANSWER(30, 0) && play_in("SET/90/0\r", 9, 6) == ANSWER(38, 6));
+
+    /* With 64 entries each keeps its own number. */
+    fresh_300();
+    for (int i = 0; i < 64; i++)
+        CHECK(play("SET/55/10") == 0);
+    CHECK(play("SET/55/10") == 28 && play("SET/90/0") == 38 && play("SET/91/9999") == 38 && play("SET/55/0") == 24);
+    CHECK(play("SET/161/8") == 24 && play("SET/30/0") == 23 && play("SET/171/1") == 28 && play("PUT/88...0+00000000 ") == 28);
+    for (int i = 0; i < 64; i++)
+        CHECK(play("UNDO") == 0);
+    CHECK(play("UNDO") == 29 && play("CONF/55") == 0 && replied("0055/0001\r"));
+    /* KEEP with 64 of them leaves the settings and no entry. */
+    for (int i = 0; i < 64; i++)
+        CHECK(play(i % 2 ? "PUT/88...1-99999999 " : "SET/171/1") == 0);
+    CHECK(play("KEEP") == 0 && image[30] == 1 && image[141] == 1);
+    for (size_t i = 152; i < 1050; i++)
+        CHECK(image[i] == 0);
+
+    /* "Each reply ends as setting 73 said before the line": at this factory it is 0. */
+    CHECK(play("KEEP") == 0 && replied("?\r"));
+    CHECK(play("SET/73/1") == 0 && replied("?\r"));
+    CHECK(play("CONF/73") == 0 && replied("0073/0001\r\n"));
+    CHECK(play("SET/90/0") == 38 && replied("@W127\r\n"));
+    CHECK(play("UNDO") == 0 && replied("?\r\n"));
+    CHECK(play("UNDO") == 29 && replied("@W127\r"));
+
+    /* "When 137 is 1, GET answers a `*` and then wide words, with zeros added on the left of the data"; "text too". */
+    fresh_300();
+    CHECK(play("PUT/11....+PNC0058A ") == 0 && play("PUT/21...4-35959599 ") == 0 && play("PUT/34...0-00000000 ") == 0);
+    CHECK(play("GET/I/WI11/WI21") == 0 && replied("11....+PNC0058A 21..14-35959599 \r"));
+    CHECK(play("SET/137/1") == 0 && replied("?\r"));
+    CHECK(play("GET/I/WI11") == 0 && replied("*11....+00000000PNC0058A \r"));
+    CHECK(play("GET/I/WI21") == 0 && replied("*21..14-0000000035959599 \r"));
+    CHECK(play("GET/I/WI34/WI11/WI34/WI21") == 0);
+    CHECK(replied("*34..10-0000000000000000 11....+00000000PNC0058A 34..10-0000000000000000 21..14-0000000035959599 \r"));
+    /* Such a reply is a wide block that reads. */
+    CHECK(reading_in((const char *)reply, 98, 32) == READ(98, 4, 1, 0) && list[0].minus == 1 && list[0].size == 0);
+    CHECK(list[3].size == 12959999 && list[3].minus == 1 && memcmp(list[1].text, "00000000PNC0058A", 16) == 0);
+    /* Nothing else is wide. */
+    CHECK(play("CONF/137") == 0 && replied("0137/0001\r") && play("GET/I/WI16") == 27 && replied("@W127\r"));
+    CHECK(play("GET/I/WI11/WI12") == 25 && play("GET/I/WI11/WI16/WI12") == 27 && play("GET/I") == 22);
+    CHECK(play("PUT/16....+!~000000 ") == 0 && replied("?\r") && play("PUT/16....+0000000000000001 ") == 22);
+    CHECK(play("GET/I/WI16") == 0 && replied("*16....+00000000!~000000 \r"));
+    CHECK(play("UNDO") == 0 && play("GET/I/WI16") == 27 && play("UNDO") == 0);
+    CHECK(play("GET/I/WI11") == 0 && replied("11....+PNC0058A \r"));
+    CHECK(play("SET/137/2") == 24 && play("SET/137/1") == 0 && play("KEEP") == 0 && play("SET/137/0") == 0);
+    CHECK(play("GET/I/WI11") == 0 && replied("11....+PNC0058A \r") && play("UNDO") == 0);
+    CHECK(play_in("GET/I/WI11\r", 11, 25) == ANSWER(30, 0) && play_in("GET/I/WI11\r", 11, 26) == ANSWER(0, 26));
+    CHECK(play_in("GET/I/WI11/WI21\r", 16, 49) == ANSWER(30, 0) && play_in("GET/I/WI11/WI21\r", 16, 50) == ANSWER(0, 50));
+
+    /* "The longest reply is 459 bytes": `*`, 19 words of 24, CR LF. */
+    for (int i = 0; i < 19; i++, n += 5)
+        memcpy(line + n, i % 2 ? "/WI11" : "/WI21", 5);
+    memcpy(line + n, "\r", 1);
+    CHECK(play_in(line, n + 1, 457) == ANSWER(30, 0) && play_in(line, n + 1, 458) == ANSWER(0, 458) && reply[457] == '\r');
+    CHECK(play("SET/73/1") == 0);
+    CHECK(n == 100 && play_in(line, n + 1, 458) == ANSWER(30, 0));
+    CHECK(play_in(line, n + 1, 459) == ANSWER(0, 459) && reply[0] == '*');
+    for (int i = 0; i < 19; i++)
+        CHECK(memcmp(reply + 1 + i * 24, i % 2 ? "11....+00000000PNC0058A " : "21..14-0000000035959599 ", 24) == 0);
+    CHECK(memcmp(reply + 457, "\r\n", 2) == 0);
+    CHECK(play_in(line, n + 1, 480) == ANSWER(0, 459));
+    CHECK(play("UNDO") == 0 && play("SET/137/0") == 0 && play("SET/73/1") == 0);
+    CHECK(play_in(line, n + 1, 305) == ANSWER(30, 0) && play_in(line, n + 1, 306) == ANSWER(0, 306));
+    memcpy(line + n, "/WI11\r", 6);
+    CHECK(play_in(line, n + 6, 459) == ANSWER(21, 7));
+    /* TPS100 has no 137. */
+    fresh();
+    CHECK(play("SET/137/1") == 23 && play("SET/135/1") == 0 && play("SET/136/1") == 0 && play("PUT/11....+PNC0058A ") == 0);
+    CHECK(play("GET/I/WI11") == 0 && replied("11....+PNC0058A \r\n"));
+}
+
+static void check_states_300(void)
+{
+    static uint8_t lent[1060];
+    uint8_t whole[1050];
+
+    CHECK(ref_image_size_300() == 1050 && ref_image_size() == 1039);
+    for (size_t n = 0; n <= sizeof lent; n++) {
+        memset(lent, 0x5A, sizeof lent);
+        CHECK(ref_factory_300(lent, n) == (n == 1050 ? 0 : ANSWER(31, 0)));
+        CHECK(lent[0] == (n == 1050 ? 17 : 0x5A) && lent[n < sizeof lent ? n : 0] == 0x5A);
+        memset(lent, 0x5A, sizeof lent);
+        CHECK(ref_factory(lent, n) == (n == 1039 ? 0 : ANSWER(31, 0)));
+        CHECK(lent[0] == (n == 1039 ? 1 : 0x5A) && lent[n < sizeof lent ? n : 0] == 0x5A);
+    }
+
+    /* The image's bytes: 17, the thirty settings, the values, the entries. */
+    fresh_300();
+    CHECK(image[0] == 17);
+    for (size_t i = 0; i < ROWS; i++)
+        CHECK(image[1 + i] == lowest_of(&conf_list[i]));
+    for (size_t i = 1 + ROWS; i < 1050; i++)
+        CHECK(image[i] == 0);
+    CHECK(play("PUT/88...0+00001550 ") == 0 && play("SET/56/7") == 0 && play("SET/171/1") == 0);
+    CHECK(image[0] == 17 && image[7] == 7 && image[30] == 1 && memcmp(image + 141, "\0010\00000001550", 11) == 0);
+    CHECK(image[152] == 0 && image[153] == 3 && image[154] == 2 && image[155] == 10);
+    CHECK(memcmp(image + 156, "\0\0\0\0\0\0\0\0\0\0\0", 12) == 0 && memcmp(image + 168, "\001\006\001", 4) == 0);
+    CHECK(memcmp(image + 182, "\001\035\0", 4) == 0);
+    memcpy(whole, image, sizeof whole);
+
+    /* Each setting's byte, and the same in an entry; "An entry of a read-only setting makes no state." */
+    for (unsigned place = 0; place < 256; place++)
+        for (unsigned parameter = 0; parameter < 256; parameter++) {
+            int right = place < ROWS && lists(conf_list[place].parameters, parameter);
+            if (place < ROWS) {
+                memcpy(image, whole, sizeof whole);
+                image[1 + place] = (uint8_t)parameter;
+                CHECK(play("KEEP") == (right ? 0 : 31));
+            }
+            memcpy(image, whole, sizeof whole);
+            image[169] = (uint8_t)place;
+            image[170] = (uint8_t)parameter;
+            CHECK(play("KEEP") == (right && !is_asked_only(conf_list[place].number) ? 0 : 31));
+        }
+
+#define NO_STATE(change) \
+    do { \
+        memcpy(image, whole, sizeof whole); \
+        bytes = 1050; \
+        change; \
+        CHECK(play("KEEP") == 31); \
+        CHECK(ref_sheet_write(image, bytes, reply, 0) == ANSWER(31, 0)); \
+        CHECK(ref_sheet_load(image, bytes, reply, 0) == ANSWER(31, 0)); \
+    } while (0)
+    for (unsigned mark = 0; mark < 256; mark++)
+        if (mark != 17)
+            NO_STATE(image[0] = (uint8_t)mark);
+    NO_STATE(image[31] = 1);
+    NO_STATE(image[143] = 2);
+    NO_STATE(image[142] = '2');
+    NO_STATE(image[152] = 1);
+    NO_STATE(image[153] = 2);
+    NO_STATE(image[153] = 4);
+    NO_STATE(image[153] = 65);
+    NO_STATE(image[154] = 3);
+    NO_STATE(image[168] = 2);
+    NO_STATE(image[171] = 1);
+    NO_STATE(memset(image + 141, 0, 11));
+    NO_STATE(image[1049] = 1);
+    /* The five by name: 90, 91, 122, 160 and 170 stand at 13, 14, 22, 26 and 28. */
+    NO_STATE(image[183] = 13);
+    NO_STATE(image[183] = 14);
+    NO_STATE(image[183] = 22);
+    NO_STATE(image[183] = 26);
+    NO_STATE(image[183] = 28);
+    /* "Each series has its own image length", and an image says its series. */
+    for (size_t n = 0; n <= sizeof image; n++)
+        for (int series = 0; series < 2; series++)
+            if (n != (series ? 1050 : 1039))
+                NO_STATE(series ? (void)0 : fresh(); memset(image + (series ? 1050 : 1039), 0, 10); bytes = n);
+    NO_STATE(bytes = 1039; memset(image + 154, 0, 896); image[153] = 0);
+    NO_STATE(fresh(); image[0] = 17);
+    NO_STATE(fresh(); memset(image + 1039, 0, 11); bytes = 1050; image[0] = 17);
+    NO_STATE(fresh_300(); image[0] = 1);
+    NO_STATE(fresh_300(); bytes = 1039);
+#undef NO_STATE
+    /* This factory's first 1,039 bytes with a 1 before them happen to be a state of TPS100, all of it in range. */
+    fresh_300();
+    image[0] = 1;
+    bytes = 1039;
+    CHECK(play("CONF/44") == 0 && replied("0044/0001\r"));
+    memcpy(image, whole, sizeof whole);
+    bytes = 1050;
+    CHECK(play("UNDO") == 0 && play("UNDO") == 0 && play("UNDO") == 0 && play("UNDO") == 29);
+}
+
+/* The least sheet, which is the factory's, and the greatest. */
+static const char least_300[] =
+    "series=TPS300\ns41=0\ns42=0\ns43=0\ns50=0\ns51=0\ns55=1\ns56=1\ns70=0\ns71=0\ns73=0\ns75=0\ns76=0\ns78=0\ns90=0\ns91=0\n"
+    "s95=0\ns102=0\ns103=0\ns104=0\ns105=0\ns106=0\ns120=0\ns122=0\ns135=0\ns136=0\ns137=0\ns160=0\ns161=0\ns170=0\ns171=0\n"
+    "v11=\nv16=\nv21=\nv24=\nv34=\nv83=\nv84=\nv85=\nv86=\nv87=\nv88=\n";
+static const char greatest_300[] =
+    "series=TPS300\ns41=4\ns42=1\ns43=6\ns50=4\ns51=4\ns55=10\ns56=10\ns70=6\ns71=2\ns73=1\ns75=1\ns76=1\ns78=50\ns90=10\ns91=100\n"
+    "s95=1\ns102=1\ns103=1\ns104=100\ns105=100\ns106=1\ns120=1\ns122=1\ns135=8\ns136=127\ns137=1\ns160=1\ns161=10\ns170=1\ns171=1\n"
+    "v11=11....+PNC0058A\nv16=16....+!~!~!~!~\nv21=21..12-39999999\nv24=24..14+35959599\nv34=34..10-00000000\nv83=83..11+99999999\n"
+    "v84=84..10+00100000\nv85=85..11-00100000\nv86=86..10+00045000\nv87=87..10+00001700\nv88=88..10+00001500\n";
+
+static void check_sheets_300(void)
+{
+    enum { LEAST = 263, GREATEST = 441 };
+    uint8_t sheet[500];
+    char instead[20], key[20];
+
+    fresh_300();
+    memset(sheet, 0x5A, sizeof sheet);
+    CHECK(ref_sheet_write(image, bytes, sheet, LEAST - 1) == ANSWER(30, 0) && sheet[0] == 0x5A);
+    CHECK(sizeof least_300 - 1 == LEAST && ref_sheet_write(image, bytes, sheet, LEAST) == ANSWER(0, LEAST));
+    CHECK(memcmp(sheet, least_300, LEAST) == 0 && sheet[LEAST] == 0x5A);
+    CHECK(load(greatest_300, GREATEST) == 0 && sizeof greatest_300 - 1 == GREATEST);
+    memset(sheet, 0x5A, sizeof sheet);
+    CHECK(ref_sheet_write(image, bytes, sheet, GREATEST - 1) == ANSWER(30, 0) && sheet[0] == 0x5A);
+    CHECK(ref_sheet_write(image, bytes, sheet, GREATEST) == ANSWER(0, GREATEST));
+    CHECK(memcmp(sheet, greatest_300, GREATEST) == 0 && sheet[GREATEST] == 0x5A);
+    /* What the sheet says stands; "the sheet keeps eight characters" though 137 is 1. */
+    CHECK(play("UNDO") == 29 && replied("@W127\r\n") && play("CONF/90") == 0 && replied("0090/0010\r\n"));
+    CHECK(play("CONF/91") == 0 && replied("0091/0100\r\n") && play("CONF/161") == 0 && replied("0161/0010\r\n"));
+    CHECK(play("GET/I/WI16/WI34") == 0 && replied("*16....+00000000!~!~!~!~ 34..10-0000000000000000 \r\n"));
+    /* A load in mid-trial counts as a KEEP; a refused one changes nothing, which load sees to. */
+    CHECK(play("SET/41/0") == 0 && load(least_300, LEAST) == 0 && play("UNDO") == 29 && play("CONF/90") == 0 && replied("0090/0000\r"));
+
+    /* "a sheet of the other series is 40 at that line" */
+    CHECK(load(example, sizeof example - 1) == ANSWER(40, 0));
+    given = example;
+    CHECK(load_with(0, 13, "series=TPS300") == ANSWER(40, 14));
+    fresh();
+    CHECK(load(least_300, LEAST) == ANSWER(40, 0) && load(greatest_300, GREATEST) == ANSWER(40, 0));
+    given = least_300;
+    CHECK(load_with(0, 13, "series=TPS100") == ANSWER(40, 14));
+    fresh_300();
+    CHECK(load_with(0, 13, "series=TPS100") == ANSWER(40, 0) && load_with(0, 13, "series=TPS700") == ANSWER(40, 0));
+    CHECK(load_with(0, 13, "series=TPS30") == ANSWER(40, 0) && load_with(0, 13, "series=tps300") == ANSWER(40, 0));
+    CHECK(load_with(0, 14, "") == ANSWER(40, 0) && load_with(13, 0, "\r") == ANSWER(40, 0));
+
+    /* Each setting's line with each parameter: "a sheet may hold any of their values", and no leading zeros. */
+    for (size_t i = 0; i < ROWS; i++) {
+        static const char *const wrong[] = {"", "+1", "-1", "1 ", " 1", "1\r", "1.", "a", "00001", "10000", "4294967296", "4294967297"};
+        size_t from, at;
+        snprintf(key, sizeof key, "s%u=", conf_list[i].number);
+        from = line_of(least_300, key);
+        at = from + strlen(key);
+        for (unsigned parameter = 0; parameter <= 1300; parameter++) {
+            int right = lists(conf_list[i].parameters, parameter);
+            snprintf(instead, sizeof instead, "%u", parameter);
+            CHECK(load_with(at, 1, instead) == (right ? 0 : ANSWER(40, from)));
+            if (right) {
+                CHECK(image[1 + i] == parameter);
+                CHECK(ref_sheet_write(image, bytes, sheet, sizeof sheet) == ANSWER(0, LEAST - 1 + strlen(instead)));
+                CHECK(memcmp(sheet + at, instead, strlen(instead)) == 0);
+            }
+            snprintf(instead, sizeof instead, "0%u", parameter);
+            CHECK(load_with(at, 1, instead) == ANSWER(40, from));
+        }
+        for (size_t k = 0; k < sizeof wrong / sizeof *wrong; k++)
+            CHECK(load_with(at, 1, wrong[k]) == ANSWER(40, from));
+        CHECK(load_with(from + 1, 0, "0") == ANSWER(40, from) && load_with(at - 1, 1, "") == ANSWER(40, from));
+    }
+    /* Lines cut, left out, doubled, exchanged, put in; and 138. */
+    load_cut();
+    CHECK(load_with(LEAST, 0, "\n") == ANSWER(40, LEAST) && load_with(LEAST, 0, "v88=\n") == ANSWER(40, LEAST));
+    CHECK(load_with(14, 6, "") == ANSWER(40, 14) && load_with(14, 0, "s41=0\n") == ANSWER(40, 20));
+    CHECK(load_with(14, 12, "s42=0\ns41=0\n") == ANSWER(40, 14) && load_with(14, 0, "s40=0\n") == ANSWER(40, 14));
+    CHECK(load_with(line_of(least_300, "s160="), 0, "s138=0\n") == ANSWER(40, line_of(least_300, "s160=")));
+    /* A value's line has 15 characters, never the wide word. */
+    given = greatest_300;
+    load_cut();
+    CHECK(load_with(line_of(greatest_300, "v88=") + 11, 0, "00000000") == ANSWER(40, line_of(greatest_300, "v88=")));
+    CHECK(load_with(line_of(greatest_300, "v11=") + 11, 0, "00000000") == ANSWER(40, line_of(greatest_300, "v11=")));
+    CHECK(load_with(line_of(greatest_300, "v88=") + 4, 15, "") == 0 && play("GET/I/WI88") == 27);
+    given = example;
+}
+
 int main(void)
 {
     check_proved_blocks();
@@ -1083,6 +1516,10 @@ int main(void)
     check_states();
     check_sheets();
     check_minus_nought_put();
+    check_ranges();
+    check_lines_300();
+    check_states_300();
+    check_sheets_300();
     if (failures == 0)
         printf("ok\n");
     return failures != 0;

@@ -12,6 +12,7 @@ import tty
 HERE = os.path.dirname(os.path.dirname(os.path.abspath(__file__)))
 GSI = os.path.join(HERE, "gsi")
 PATIENCE = 10.0  # seconds that a reply, or the program's end, is waited for
+CR = b"\r"
 CRLF = b"\r\n"
 WRONG = b"@W127\r\n"
 DONE = b"?\r\n"
@@ -91,6 +92,23 @@ def run(arguments, text=b""):
     return done.stdout, done.stderr
 
 
+def file(folder, name, text):
+    path = os.path.join(folder, name)
+    with open(path, "wb") as out:
+        out.write(text)
+    return path
+
+
+def example_sheet():
+    with open(os.path.join(HERE, "crates", "sheet", "stdout"), "rb") as example:
+        return example.read()
+
+
+def refuses(path, place):
+    told = f"standin: {path} refused=40 place={place}\n".encode()
+    check(f"a sheet file that is refused ({os.path.basename(path)})", (b"", told), run([path], b"CONF/70\r"))
+
+
 FACTORY = {30: 0, 32: 0, 40: 0, 49: 0, 70: 5, 71: 0, 73: 1, 81: 0, 103: 1, 136: 0}
 VALUES = [11, 16, 21, 24, 34, 83, 84, 85, 86, 87, 88]
 
@@ -111,7 +129,10 @@ def trial():
     s = Standin()
     factory_answers(s)
     entries = 0
-    for line in [b"SET/30/1", b"PUT/11....+0000A-12 ", b"SET/40/2", b"SET/40/1", b"PUT/21...2+39999999 ", b"PUT/88...0+00001550 ", b"PUT/88...1-00002000 ", b"SET/70/0"]:
+    for line in [
+        *[b"SET/30/1", b"PUT/11....+0000A-12 ", b"SET/40/2", b"SET/40/1", b"PUT/21...2+39999999 "],
+        *[b"PUT/88...0+00001550 ", b"PUT/88...1-00002000 ", b"SET/70/0"],
+    ]:
         s.ask(line, DONE)
         entries += 1
     for line in [b"SET/40/3", b"SET/33/0", b"SET/30/01", b"PUT/21...2+40000000 ", b"PUT/22...2+00000000 ", b"set/30/1", b"GET/M/WI11", b"CONF/70 "]:
@@ -124,7 +145,7 @@ def trial():
     # "Each reply ends as setting 73 said before the line"
     s.ask(b"SET/73/0", DONE)
     entries += 1
-    s.ask(*conf(73, 0, b"\r"))
+    s.ask(*conf(73, 0, CR))
     s.silent("no LF ends a reply while setting 73 is 0")
     s.ask(b"UNDO", b"?\r")
     entries -= 1
@@ -197,16 +218,8 @@ def long_lines():
 
 def sheets(folder):
     """A start from a sheet file, and the files that are refused."""
-
-    def file(name, text):
-        path = os.path.join(folder, name)
-        with open(path, "wb") as out:
-            out.write(text)
-        return path
-
-    with open(os.path.join(HERE, "crates", "sheet", "stdout"), "rb") as example:
-        sheet = example.read()
-    s = Standin(file("right", sheet))
+    sheet = example_sheet()
+    s = Standin(file(folder, "right", sheet))
     s.ask(*conf(30, 1))
     s.ask(*conf(40, 0))
     s.ask(*conf(70, 5))
@@ -217,11 +230,10 @@ def sheets(folder):
     s.ask(b"UNDO", DONE)
     s.ask(*conf(30, 1))
     s.hang_up()
-    s = Standin(file("cr", sheet.replace(b"s73=1", b"s73=0")))
-    s.ask(*conf(73, 0, b"\r"))
+    s = Standin(file(folder, "cr", sheet.replace(b"s73=1", b"s73=0")))
+    s.ask(*conf(73, 0, CR))
     s.hang_up()
 
-    ask = b"CONF/70\r"
     for name, text, place in [
         ("parameter", sheet.replace(b"s30=1", b"s30=2"), sheet.index(b"s30")),
         ("value", sheet.replace(b"88..10", b"88..12"), sheet.index(b"v88")),
@@ -231,13 +243,105 @@ def sheets(folder):
         ("crlf", sheet.replace(b"\n", b"\r\n"), 0),
         ("empty", b"", 0),
     ]:
-        path = file(name, text)
-        told = f"standin: {path} refused=40 place={place}\n".encode()
-        check(f"a sheet file that is refused ({name})", (b"", told), run([path], ask))
+        refuses(file(folder, name, text), place)
+    ask = b"CONF/70\r"
     missing = os.path.join(folder, "none")
     check("a sheet file that is missing", (b"", f"standin: {missing}: No such file or directory\n".encode()), run([missing], ask))
     check("a folder for a sheet file", (b"", f"standin: {folder}: Is a directory\n".encode()), run([folder], ask))
-    check("two arguments", (b"", b"usage: standin [SHEET]\n"), run([missing, missing], ask))
+    usage = b"usage: standin [TPS100 | TPS300 | SHEET]\n"
+    check("two arguments", (b"", usage), run([missing, missing], ask))
+    check("a series and a sheet file", (b"", usage), run(["TPS300", missing], ask))
+
+
+# A TPS300's settings, from their lowest to their highest parameter; the factory's is the lowest.
+TPS300 = {
+    **{41: (0, 4), 42: (0, 1), 43: (0, 6), 50: (0, 4), 51: (0, 4), 55: (1, 10), 56: (1, 10), 70: (0, 6), 71: (0, 2), 73: (0, 1)},
+    **{75: (0, 1), 76: (0, 1), 78: (0, 50), 90: (0, 10), 91: (0, 100), 95: (0, 1), 102: (0, 1), 103: (0, 1), 104: (0, 100), 105: (0, 100)},
+    **{106: (0, 1), 120: (0, 1), 122: (0, 1), 135: (0, 8), 136: (0, 127), 137: (0, 1), 160: (0, 1), 161: (0, 10), 170: (0, 1), 171: (0, 1)},
+}
+ASKED = [90, 91, 122, 160, 170]
+
+
+def sheet_300(parameters, values):
+    settings = b"".join(b"s%d=%d\n" % (number, parameters.get(number, lowest)) for number, (lowest, _) in TPS300.items())
+    return b"series=TPS300\n" + settings + b"".join(b"v%d=%s\n" % (index, values.get(index, b"")) for index in VALUES)
+
+
+def tps300(folder):
+    """The other series: its factory, the numbers that can only be asked for, GET in wide words, and its sheets."""
+    done, wrong = b"?\r", b"@W127\r"
+    narrow, wide = b"83..10+00000001 ", b"83..10+0000000000000001 "
+    s = Standin("TPS300")
+    s.ask(b"CONF/137", b"0137/0000\r")
+    s.silent("no LF ends a TPS300's reply at the factory")
+    for number, (lowest, _) in TPS300.items():
+        s.ask(*conf(number, lowest, CR))
+    for number in ASKED:
+        s.ask(b"SET/%d/1" % number, wrong)
+        s.ask(b"SET/%d/9999" % number, wrong)
+    for line in [b"CONF/30", b"SET/30/1", b"CONF/138", b"SET/138/0", b"SET/55/0", b"SET/55/11", b"SET/95/2", b"SET/161/2", b"SET/161/8", b"SET/161/11"]:
+        s.ask(line, wrong)
+    s.ask(b"UNDO", wrong, "an UNDO where no SET was accepted")
+    for number, parameter in [(55, 10), (161, 9), (161, 10), (103, 1), (136, 127)]:
+        s.ask(b"SET/%d/%d" % (number, parameter), done)
+        s.ask(*conf(number, parameter, CR))
+        s.ask(b"UNDO", done)
+        s.ask(*conf(number, TPS300[number][0], CR))
+    # "When 137 is 1, GET answers a `*` and then wide words"
+    s.ask(b"PUT/11....+0000A-12 ", done)
+    s.ask(b"PUT/83...0+00000001 ", done)
+    s.ask(b"GET/I/WI83", narrow + CR)
+    s.ask(b"SET/137/1", done)
+    s.ask(b"GET/I/WI83", b"*83..10+0000000000000001 \r")
+    s.ask(b"GET/I/WI11/WI83", b"*11....+000000000000A-12 " + wide + CR)
+    s.ask(b"GET/I/WI83/WI88", wrong)
+    s.ask(*conf(137, 1, CR))
+    s.ask(b"PUT/83...0+0000000000000001 ", wrong, "a PUT of a wide word")
+    s.ask(b"SET/73/1", done)
+    s.ask(b"GET/I" + b"/WI83" * 19, b"*" + wide * 19 + CRLF, "the longest reply")
+    s.ask(b"UNDO", DONE)
+    s.ask(b"UNDO", done)
+    s.ask(b"GET/I/WI83", narrow + CR)
+    s.hang_up()
+
+    # a file of a series' name is a file where the path says so, and any file starts the series that it names
+    sheet = sheet_300({90: 10, 91: 100, 122: 1, 137: 1, 160: 1, 170: 1}, {83: narrow[:15]})
+    s = Standin(file(folder, "TPS100", sheet))
+    for number, parameter in [(41, 0), (55, 1), (90, 10), (91, 100), (122, 1), (137, 1), (160, 1), (170, 1)]:
+        s.ask(*conf(number, parameter, CR))
+    s.ask(b"GET/I/WI83", b"*" + wide + CR)
+    s.ask(b"UNDO", wrong)
+    s.ask(b"SET/90/0", wrong)
+    s.hang_up()
+    s = Standin(file(folder, "TPS300", example_sheet()))
+    s.ask(*conf(30, 1))
+    s.hang_up()
+    most = {number: highest for number, (_, highest) in TPS300.items()}
+    units = {11: b"..", 16: b"..", 21: b"12", 24: b"12"}
+    longest = sheet_300(most, {index: b"%d..%s+00000001" % (index, units.get(index, b"10")) for index in VALUES})
+    check("the longest sheet's bytes", 441, len(longest))
+    s = Standin(file(folder, "longest", longest))
+    s.ask(*conf(136, 127))
+    s.ask(b"GET/I/WI11/WI21", b"*11....+0000000000000001 21..12+0000000000000001 " + CRLF)
+    s.hang_up()
+
+    for name, text, place in [
+        ("neither", sheet.replace(b"TPS300", b"TPS200"), 0),
+        ("series alone", b"series=TPS300", 0),
+        ("named TPS100", sheet.replace(b"TPS300", b"TPS100"), len(b"series=TPS100\n")),
+        ("named TPS300", example_sheet().replace(b"TPS100", b"TPS300"), len(b"series=TPS300\n")),
+        ("below", sheet.replace(b"s55=1", b"s55=0"), sheet.index(b"s55")),
+        ("between", sheet.replace(b"s161=0", b"s161=2"), sheet.index(b"s161")),
+        ("leading zero", sheet.replace(b"s90=10", b"s90=010"), sheet.index(b"s90")),
+        ("wide", sheet.replace(narrow[:15], wide[:23]), sheet.index(b"v83")),
+        ("longer than the longest", longest + b"\n", len(longest)),
+    ]:
+        refuses(file(folder, name, text), place)
+
+    lines = b"CONF/30\rCONF/73\rCONF/137\rPUT/83...0+00000001 \rGET/I/WI83\r"
+    answers = b"0030/0000\r\n0073/0001\r\n@W127\r\n?\r\n83..10+00000001 \r\n"
+    check("standin", (answers, b""), run([], lines))
+    check("standin TPS100", (answers, b""), run(["TPS100"], lines))
 
 
 def noughts(folder):
@@ -301,6 +405,7 @@ def main():
     long_lines()
     with tempfile.TemporaryDirectory() as folder:
         sheets(folder)
+        tps300(folder)
         noughts(folder)
     input_ends()
     output_fails()

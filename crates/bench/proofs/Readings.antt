@@ -6,7 +6,7 @@ use Rattle.figures.specs.Decimal.{numberFrom, digitsOf}
 use Rattle.blocks.specs.Judging.{blockFrom}
 use Rattle.blocks.specs.Composing.{unlessWrong, wordsBytes}
 use Rattle.instrument.specs.Rows.{seek}
-use Rattle.instrument.specs.Settings.{rows}
+use Rattle.instrument.specs.Settings.{rows100}
 use Rattle.instrument.specs.Values.{stored}
 use Rattle.lines.specs.Shapes.{slashAt, groupsRight}
 use Rattle.lines.specs.Verdicts.{getVerdict}
@@ -15,7 +15,7 @@ use Rattle.bench.specs.Readings.{All, table}
 use Rattle.bench.specs.Levels.{listing, levels}
 
 pub readings : All Station table
-unfolding among every startsWith numberFrom digitsOf blockFrom unlessWrong wordsBytes seek rows stored slashAt groupsRight getVerdict
+unfolding among every startsWith numberFrom digitsOf blockFrom unlessWrong wordsBytes seek rows100 stored slashAt groupsRight getVerdict
 readings =
     let later : All Station (drop 9 table) =
     ((refl, refl), ((refl, refl), ((refl, refl), ((refl, refl), ((refl, refl), ((refl, refl), ((refl, refl), tt))))))) in

@@ -16,6 +16,8 @@ use Rattle.words.specs.Reading.{wordSize}
 use Rattle.blocks.specs.Judging.{firstAt}
 use Rattle.blocks.specs.Composing.{starBytes}
 use Rattle.blocks.specs.declared.answers.Answer.{Answer}
+use Rattle.instrument.specs.Settings as own
+use Rattle.instrument.specs.declared.settings.Series.the-variants.{Tps100}
 use Rattle.state.specs.Entries.{factoryState}
 use Rattle.state.specs.declared.entries.State.{State}
 use Rattle.lines.specs.Machine.{step}
@@ -85,7 +87,7 @@ beside =
 
 -- a fresh stand-in after lines, each with its CR and 306 bytes of room, and its reply to one more
 abbrev pub sent : List String → State
-sent lines = after factoryState (map (λ l. record { line = word l; room = 306 }) lines)
+sent lines = after (factoryState Tps100) (map (λ l. record { line = word l; room = 306 }) lines)
 
 abbrev pub replies : List String → String → List ℕ
 replies lines l = step (sent lines) (word l) 306 .reply
@@ -106,4 +108,4 @@ pub record Stored : Type 0 where
   pub undone : replies ("PUT/83...0+00000000 " ∷ put ∷ "UNDO" ∷ []) "GET/I/WI83" ≡ codes "83..10+00000000 \r\n"
   pub undone-first : replies (put ∷ "UNDO" ∷ []) "GET/I/WI83" ≡ codes "@W127\r\n"
   pub held : sheetOf (sent (put ∷ [])) ≡ sheet
-  pub loads : loadingOf sheet ≡ right (sent (put ∷ []) .settings) (sent (put ∷ []) .values)
+  pub loads : loadingOf Tps100 sheet ≡ right (own.held Tps100 (sent (put ∷ []) .settings)) (sent (put ∷ []) .values)

@@ -18,6 +18,7 @@ use Rattle.blocks.specs.Composing.{Written·room, written}
 use Rattle.blocks.specs.declared.answers.Answer.{Answer}
 use Rattle.blocks.specs.declared.answers.Answer.the-variants.{Refused, Read}
 use Rattle.blocks.specs.declared.answers.Wrote.the-variants.{Written}
+use Rattle.instrument.specs.declared.settings.Series.the-variants.{Tps100}
 use Rattle.state.specs.Entries.{factoryState}
 use Rattle.lines.specs.Verdicts.{verdictNumber}
 use Rattle.lines.specs.Machine.{Outcome, step}
@@ -50,7 +51,7 @@ abbrev pub back : Family → List ℕ → Written·room
 back f s = written f (reading f s .words) (isWide s) (isCrlf (reading f s .answer)) (replicate (length s) 0)
 
 abbrev pub reply : List ℕ → Outcome
-reply line = step factoryState line 306
+reply line = step (factoryState Tps100) line 306
 
 abbrev pub Holds : Family → Reading → Type 0
 Holds f (accepted s answer counts) = (reading f s .answer ≡ answer) × (map (typedOf f) (reading f s .words) ≡ counts)

@@ -14,6 +14,7 @@ use Rattle.blocks.specs.Composing.{written}
 use Rattle.blocks.specs.Keeping.{listOf}
 use Rattle.blocks.specs.declared.answers.Answer.{Answer}
 use Rattle.blocks.specs.declared.judging.Block.{Block}
+use Rattle.instrument.specs.declared.settings.Series.{Series}
 use Rattle.state.specs.Entries.{factoryState}
 use Rattle.state.specs.Image.{imageN, imageOf}
 use Rattle.lines.specs.Machine.{call}
@@ -49,12 +50,14 @@ told-line-determined = by-equation Told ℕ toldLine
 pub told-sheet-determined : Determined Sheeted ℕ (λ i r. r ≡ toldSheet i)
 told-sheet-determined = by-equation Sheeted ℕ toldSheet
 
-pub gsi-image-size-determined : Determined (Unit {0}) ℕ (λ i r. r ≡ imageN)
-gsi-image-size-determined = by-equation (Unit {0}) ℕ (λ i. imageN)
+-- of either series: `gsi_image_size` and `gsi_image_size_300`, `gsi_factory` and `gsi_factory_300`
+pub gsi-image-size-determined : (k : Series) → Determined (Unit {0}) ℕ (λ i r. r ≡ imageN k)
+gsi-image-size-determined k = by-equation (Unit {0}) ℕ (λ i. imageN k)
 
-pub gsi-factory-determined : Determined (List ℕ) (ℕ × List ℕ) (λ i o. LaysFactory i (o .0) (o .1))
-gsi-factory-determined =
-    by-two (List ℕ) ℕ (List ℕ) (λ i. cond (eqb (length i) imageN) 0 (31 * 4294967296)) (λ i. cond (eqb (length i) imageN) (imageOf factoryState) i)
+pub gsi-factory-determined : (k : Series) → Determined (List ℕ) (ℕ × List ℕ) (λ i o. LaysFactory k i (o .0) (o .1))
+gsi-factory-determined k =
+    by-two (List ℕ) ℕ (List ℕ) (λ i. cond (eqb (length i) (imageN k)) 0 (31 * 4294967296))
+    (λ i. cond (eqb (length i) (imageN k)) (imageOf (factoryState k)) i)
 
 pub gsi-line-determined : Determined (List ℕ × List ℕ × List ℕ) (ℕ × (List ℕ × List ℕ)) (λ i o. CallsC (i .0) (i .1) (i .2) (o .0) (o .1 .0) (o .1 .1))
 gsi-line-determined =

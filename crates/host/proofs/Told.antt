@@ -10,7 +10,7 @@ use Rattle.blocks.specs.declared.answers.Refusal.{Refusal}
 use Rattle.blocks.specs.declared.answers.Refusal.the-variants as refusal
 use Rattle.blocks.specs.Answers.{refusalNumber}
 use Rattle.lines.specs.declared.verdicts.Verdict.{Verdict}
-use Rattle.lines.specs.declared.verdicts.Verdict.the-variants.{Accepted, Unended, Long, Shape, Setting, Parameter, Index}
+use Rattle.lines.specs.declared.verdicts.Verdict.the-variants.{Accepted, Unended, Long, Shape, Setting, ReadOnly, Parameter, Index}
 use Rattle.lines.specs.declared.verdicts.Verdict.the-variants.{Word, NeverPut, Full, NoEntry, Room, NoState}
 use Rattle.lines.specs.Verdicts.{verdictNumber}
 use Rattle.sheets.specs.declared.answers.Sheeted.{Sheeted}
@@ -41,12 +41,13 @@ number-small refusal.Count = omega arith
 number-small (refusal.Record at) = omega arith
 number-small (refusal.Room bytes) = omega arith
 
-pub verdict-small : (v : Verdict) → verdictNumber v ≤ 31
+pub verdict-small : (v : Verdict) → verdictNumber v ≤ 38
 verdict-small Accepted = omega arith
 verdict-small Unended = omega arith
 verdict-small Long = omega arith
 verdict-small Shape = omega arith
 verdict-small Setting = omega arith
+verdict-small ReadOnly = omega arith
 verdict-small Parameter = omega arith
 verdict-small Index = omega arith
 verdict-small Word = omega arith

@@ -5,6 +5,7 @@ use mathlib.Core.Bool.{cond}
 use mathlib.Core.List.{List}
 use lib.Dec.{eqb}
 use lib.ListN.{length}
+use Rattle.instrument.specs.declared.settings.Series.{Series}
 use Rattle.state.specs.Entries.{factoryState}
 use Rattle.state.specs.Image.{imageN, imageOf}
 use Rattle.lines.specs.Verdicts.{verdictNumber}
@@ -30,9 +31,9 @@ abbrev pub sheetWhole : Sheeted → ℕ
 sheetWhole a = sheetNumber a * 4294967296 + sheetTells a
 
 -- "Laying down the factory state takes lent bytes of exactly the image's length, with any contents, and refuses 31 otherwise."
-abbrev pub LaysFactory : List ℕ → ℕ → List ℕ → Type 0
-LaysFactory image r image′ =
-    (r ≡ cond (eqb (length image) imageN) 0 (31 * 4294967296)) × (image′ ≡ cond (eqb (length image) imageN) (imageOf factoryState) image)
+abbrev pub LaysFactory : Series → List ℕ → ℕ → List ℕ → Type 0
+LaysFactory k image r image′ =
+    (r ≡ cond (eqb (length image) (imageN k)) 0 (31 * 4294967296)) × (image′ ≡ cond (eqb (length image) (imageN k)) (imageOf (factoryState k)) image)
 
 abbrev pub CallsC : List ℕ → List ℕ → List ℕ → ℕ → List ℕ → List ℕ → Type 0
 CallsC image line room r image′ room′ =

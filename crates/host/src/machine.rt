@@ -1,13 +1,17 @@
 // The stand-in's functions for a host in C: the image and a line.
 ghost use mathlib.Core.Path.{_≡_};
+ghost use Rattle.instrument.specs.declared.settings.Series.the-variants.{Tps100, Tps300};
 ghost use Rattle.state.specs.Image.{imageN};
 ghost use Rattle.host.specs.Machine.{toldLine, LaysFactory, CallsC};
+use instrument::settings::Series;
 use lines::machine::Told;
 use lines::machine::line;
 use lines::verdicts::verdict_number;
 use state::entries::factory;
-use state::image::IMAGE;
+use state::image::IMAGE_100;
+use state::image::IMAGE_300;
 use state::image::encode;
+use state::image::image_size;
 
 // The answer of a line: its number, and the bytes of its reply.
 pub fn told_line(told: Told) -> u64
@@ -19,24 +23,47 @@ pub fn told_line(told: Told) -> u64
     number * 4294967296 + count % 4294967296
 }
 
-// The image's length.
+// The length of a TPS100's image.
 #[no_mangle]
 pub extern "C" fn gsi_image_size() -> u64
-    ensures { λ r. ⌜ r ≡ imageN ⌝ }
+    ensures { λ r. ⌜ r ≡ imageN Tps100 ⌝ }
 {
-    IMAGE as u64
+    IMAGE_100 as u64
 }
 
-// Lays the factory state down in exactly the image's length; 31 otherwise, and nothing touched.
+// The length of a TPS300's image.
 #[no_mangle]
-pub extern "C" fn gsi_factory(image: &mut [u8]) -> u64
-    ensures { λ r. ⌜ LaysFactory (now (image .entry)) r (now (image .exit)) ⌝ }
+pub extern "C" fn gsi_image_size_300() -> u64
+    ensures { λ r. ⌜ r ≡ imageN Tps300 ⌝ }
 {
-    if image.len() != IMAGE {
+    IMAGE_300 as u64
+}
+
+// Lays the series' factory state down in exactly its image's length; 31 otherwise, and nothing touched.
+fn lay_factory(series: Series, image: &mut [u8]) -> u64
+    ensures { λ r. ⌜ LaysFactory series (now (image .entry)) r (now (image .exit)) ⌝ }
+{
+    if image.len() != image_size(series) {
         return 31 * 4294967296;
     }
-    encode(factory(), image);
+    encode(factory(series), image);
     0
+}
+
+// Lays the factory state of a TPS100 down.
+#[no_mangle]
+pub extern "C" fn gsi_factory(image: &mut [u8]) -> u64
+    ensures { λ r. ⌜ LaysFactory Tps100 (now (image .entry)) r (now (image .exit)) ⌝ }
+{
+    lay_factory(Series::Tps100, image)
+}
+
+// Lays the factory state of a TPS300 down.
+#[no_mangle]
+pub extern "C" fn gsi_factory_300(image: &mut [u8]) -> u64
+    ensures { λ r. ⌜ LaysFactory Tps300 (now (image .entry)) r (now (image .exit)) ⌝ }
+{
+    lay_factory(Series::Tps300, image)
 }
 
 // Runs one line on the image and writes its reply.

@@ -5,30 +5,35 @@ use mathlib.Core.List.{List}
 use Prim.Native.Nat.{ℕ}
 use Rattle.figures.specs.Promises.{Determined}
 use Rattle.figures.proofs.Determined.{by-equation}
-use Rattle.instrument.specs.Settings.{rowAt, settingPlace, parameterOf, factorySettings, inRange, rows, inRanges}
-use Rattle.instrument.specs.Values.{storedAt, valuePlace, isPut, putRight, putKept, keptRight, getWord}
+use Rattle.instrument.specs.Settings.{settingNumber, rowAt, settingsN, settingPlace, factorySettings, places, inRange, inRanges}
+use Rattle.instrument.specs.Values.{storedAt, valuePlace, isPut, putRight, putKept, keptRight, getWord, widened}
+use Rattle.instrument.specs.Rows.{keyBytes}
+use Rattle.instrument.specs.declared.settings.Series.{Series}
 use Rattle.instrument.specs.declared.settings.Row.{Row}
 use Rattle.instrument.specs.declared.settings.Found.{Found}
 use Rattle.instrument.specs.declared.values.Stored.{Stored}
 use Rattle.instrument.specs.declared.values.Kept.{Kept}
 
-pub row-at-determined : Determined ℕ Row (λ i r. r ≡ rowAt i)
-row-at-determined = by-equation ℕ Row rowAt
+pub row-at-determined : Determined (Series × ℕ) Row (λ i r. r ≡ rowAt (i .0) (i .1))
+row-at-determined = by-equation (Series × ℕ) Row (λ i. rowAt (i .0) (i .1))
 
-pub setting-at-determined : Determined ℕ Found (λ i r. r ≡ settingPlace i)
-setting-at-determined = by-equation ℕ Found settingPlace
+pub key-at-determined : Determined (Series × ℕ) (List ℕ) (λ i r. r ≡ keyBytes "s" (settingNumber (rowAt (i .0) (i .1))))
+key-at-determined = by-equation (Series × ℕ) (List ℕ) (λ i. keyBytes "s" (settingNumber (rowAt (i .0) (i .1))))
 
-pub parameter-of-determined : Determined (List ℕ × ℕ) ℕ (λ i r. r ≡ parameterOf (i .0) (i .1))
-parameter-of-determined = by-equation (List ℕ × ℕ) ℕ (λ i. parameterOf (i .0) (i .1))
+pub settings-of-determined : Determined Series ℕ (λ i r. r ≡ settingsN i)
+settings-of-determined = by-equation Series ℕ settingsN
+
+pub setting-at-determined : Determined (Series × ℕ) Found (λ i r. r ≡ settingPlace (i .0) (i .1))
+setting-at-determined = by-equation (Series × ℕ) Found (λ i. settingPlace (i .0) (i .1))
 
 pub in-range-determined : Determined (Row × ℕ) Bool (λ i r. r ≡ inRange (i .0) (i .1))
 in-range-determined = by-equation (Row × ℕ) Bool (λ i. inRange (i .0) (i .1))
 
-pub factory-settings-determined : Determined (Unit {0}) (List ℕ) (λ i r. r ≡ factorySettings)
-factory-settings-determined = by-equation (Unit {0}) (List ℕ) (λ i. factorySettings)
+pub factory-settings-determined : Determined Series (List ℕ) (λ i r. r ≡ factorySettings i)
+factory-settings-determined = by-equation Series (List ℕ) factorySettings
 
-pub in-ranges-determined : Determined (List ℕ) Bool (λ i r. r ≡ inRanges rows i)
-in-ranges-determined = by-equation (List ℕ) Bool (inRanges rows)
+pub in-ranges-determined : Determined (Series × List ℕ) Bool (λ i r. r ≡ inRanges (places (i .0)) (i .1))
+in-ranges-determined = by-equation (Series × List ℕ) Bool (λ i. inRanges (places (i .0)) (i .1))
 
 pub stored-at-determined : Determined ℕ Stored (λ i r. r ≡ storedAt i)
 stored-at-determined = by-equation ℕ Stored storedAt
@@ -50,3 +55,6 @@ kept-right-determined = by-equation (ℕ × Kept) Bool (λ i. keptRight (i .0) (
 
 pub get-word-determined : Determined (ℕ × Kept) (List ℕ) (λ i r. r ≡ getWord (i .0) (i .1))
 get-word-determined = by-equation (ℕ × Kept) (List ℕ) (λ i. getWord (i .0) (i .1))
+
+pub widen-determined : Determined (List ℕ) (List ℕ) (λ i r. r ≡ widened i)
+widen-determined = by-equation (List ℕ) (List ℕ) widened

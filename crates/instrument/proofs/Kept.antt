@@ -30,7 +30,6 @@ use Rattle.words.specs.declared.reading.Fault.the-variants.{Short}
 use Rattle.words.specs.declared.reading.Judged as one
 use Rattle.words.specs.declared.reading.OneWord.{OneWord}
 use Rattle.words.specs.declared.records.Word.{Word}
-use Rattle.instrument.specs.Settings.{rows}
 use Rattle.instrument.specs.Values.{unitsOf, stored, noStored, storedAt, isRightWord, putRight, putKept, valueWord, keptRight, eightOf, eightBytes}
 use Rattle.instrument.specs.declared.values.Stored.{Stored}
 use Rattle.instrument.specs.declared.values.Eight.{Eight}
@@ -41,11 +40,11 @@ kept-put : (place : ℕ) (k : Kept) (u m : ℕ) (d : Eight) → k ≡ Put u m d 
 kept-put place k u m d e h = rw e (ap (λ (t : Bool). t && putRight place (valueWord 46 place u m d)) (le-leb m 1 h))
 
 -- the n elements from i on
-elements : ℕ → ℕ → List ℕ → List ℕ
+unfoldable pub elements : ℕ → ℕ → List ℕ → List ℕ
 elements zero i b = []
 elements (suc n) i b = getD b i 0 ∷ elements n (suc i) b
 
-elements-are : (n i : ℕ) (b : List ℕ) → length b ≡ i + n → drop i b ≡ elements n i b
+pub elements-are : (n i : ℕ) (b : List ℕ) → length b ≡ i + n → drop i b ≡ elements n i b
 unfolding elements
 elements-are zero i b h = drop-of-length-le b {i = i} (omega arith)
 elements-are (suc n) i b h = rw (drop-cons b i 0 (omega arith), elements-are n (suc i) b (omega arith))

@@ -1,16 +1,83 @@
--- Laws of the loops over the rows: parameters in range, and a list mapped into an array.
+-- Laws of the series and of the loops over their rows: parameters in range, and a list mapped into an array.
 use Prim.Native.Nat.{ℕ, zero, suc, _+_, _-_, _<_, _≤_}
-use mathlib.Core.Path.{_≡_, refl, sym, _∙_}
-use mathlib.Core.Bool.{true, false, _&&_, false≢true, and-eq-true-iff}
-use mathlib.Core.List.{List, [], _∷_, map}
+use mathlib.Core.Path.{_≡_, refl, sym, ap, _∙_}
+use mathlib.Core.Bool.{true, false, not, _&&_, false≢true, and-eq-true-iff}
+use mathlib.Core.List.{List, [], _∷_, _++_, map}
 use native.Mathlib.Numerals.{add-one}
+use native.Mathlib.Omega.{arith}
 use borrow.Author.Tests.{leb-true}
 use lib.Dec.{leb}
-use lib.ListN.{length, getD, set, take, drop, drop-of-length-le, length-map, List·getD-map}
-use lib.Seq.{drop-cons, take-suc, take-suc-set, take-all}
+use lib.ListN.{length, getD, set, take, drop, replicate, drop-of-length-le, length-map, length-append, length-drop, length-replicate, List·getD-map}
+use lib.Seq.{drop-cons, drop-at, take-suc, take-suc-set, take-all}
 use Rattle.instrument.specs.declared.settings.Row.{Row}
-use Rattle.instrument.specs.Settings.{noRow, inRange, inRanges}
-use Rattle.figures.proofs.Tests.{and-on, and-off}
+use Rattle.instrument.specs.declared.settings.Series.{Series}
+use Rattle.instrument.specs.declared.settings.Series.the-variants.{Tps100, Tps300}
+use Rattle.instrument.specs.Settings.{rows100, rows300, settingNumber, rowsOf, settingsN, settingsMost, noRow, rowAt, places, isGap, inRange, inRanges}
+use Rattle.instrument.specs.Rows.{keyBytes}
+use Rattle.instrument.proofs.Seek.{NoneOf, past-place}
+use Rattle.figures.specs.Bytes.{within, every}
+use Rattle.figures.proofs.Tests.{and-on, and-off, by-test}
+
+-- the series
+
+pub rows-long : (k : Series) → length (rowsOf k) ≡ settingsN k
+unfolding rows100 rows300
+rows-long Tps100 = refl
+rows-long Tps300 = refl
+
+pub settings-few : (k : Series) → settingsN k ≤ settingsMost
+settings-few Tps100 = omega arith
+settings-few Tps300 = omega arith
+
+pub places-long : (k : Series) → length (places k) ≡ settingsMost
+places-long k =
+    let all = length-append (rowsOf k) (replicate (settingsMost - settingsN k) noRow) in
+    omega (arith, rows-long k, settings-few k, length-replicate (settingsMost - settingsN k) noRow)
+
+getD-same : {A : Type 0} (n : ℕ) (d : A) (i : ℕ) → getD (replicate n d) i d ≡ d
+getD-same zero d i = refl
+getD-same (suc n) d zero = refl
+getD-same (suc n) d (suc i) = getD-same n d i
+
+row-there : (rs : List Row) (n i : ℕ) → getD (rs ++ replicate n noRow) i noRow ≡ getD rs i noRow
+row-there [] n i = getD-same n noRow i
+row-there (r ∷ rs) n zero = refl
+row-there (r ∷ rs) n (suc i) = row-there rs n i
+
+-- past the series' last both are blank
+pub place-row : (k : Series) (i : ℕ) → getD (places k) i noRow ≡ rowAt k i
+place-row k i = row-there (rowsOf k) (settingsMost - settingsN k) i
+
+-- what a `match` on a place gives of the rows' keys: the key of an arm's row, and past the last
+
+abbrev keyIn : List Row → ℕ → List ℕ
+keyIn rs i = keyBytes "s" (settingNumber (getD rs i noRow))
+
+pub key-place : (rs : List Row) {r : List ℕ} {place i : ℕ} → place ≡ i → r ≡ keyIn rs i → r ≡ keyIn rs place
+key-place rs e h = rw e h
+
+pub key-past : (rs : List Row) (n place : ℕ) {r : List ℕ} → r ≡ keyBytes "s" 0 → length rs ≡ n → NoneOf place n → r ≡ keyIn rs place
+key-past rs n place e long none = e ∙ ap (λ (x : Row). keyBytes "s" (settingNumber x)) (past-place rs noRow n place long none)
+
+-- a blank row has nought alone
+
+blank-within : (p : ℕ) → inRange noRow p ≡ within 0 0 p
+blank-within p = by-test (leb p 0) (λ e. let z : p ≡ 0 = omega (arith, leb-true p 0 e) in rw z) (λ e. rw e)
+
+blanks-within : (n : ℕ) (ps : List ℕ) → length ps ≡ n → inRanges (replicate n noRow) ps ≡ every (within 0 0) ps
+unfolding inRanges every
+blanks-within zero [] e = refl
+blanks-within zero (p ∷ ps) e = absurd (omega arith)
+blanks-within (suc n) [] e = absurd (omega arith)
+blanks-within (suc n) (p ∷ ps) e = rw (blank-within p, blanks-within n ps (omega arith))
+
+-- so what is left past the series' last
+pub ranges-past : (k : Series) (ps : List ℕ) → length ps ≡ settingsMost
+    → inRanges (drop (settingsN k) (places k)) (drop (settingsN k) ps) ≡ every (within 0 0) (drop (settingsN k) ps)
+ranges-past k ps long =
+    let n = settingsN k in
+    let rest : drop n (places k) ≡ replicate (settingsMost - n) noRow = drop-at (rowsOf k) (replicate (settingsMost - n) noRow) n (rows-long k) in
+    ap (λ (rs : List Row). inRanges rs (drop n ps)) rest ∙ blanks-within (settingsMost - n) (drop n ps) (length-drop n ps ∙ omega arith)
 
 -- parameters
 
@@ -37,7 +104,10 @@ ranges-at (r ∷ rs) (p ∷ ps) zero e = and-eq-true-iff (inRange r p) (inRanges
 ranges-at (r ∷ rs) (p ∷ ps) (suc i) e = ranges-at rs ps i (and-eq-true-iff (inRange r p) (inRanges rs ps) .0 e .1)
 
 pub range-high : (r : Row) (p : ℕ) → inRange r p ≡ true → p ≤ r .2
-range-high r p e = leb-true p (r .2) (and-eq-true-iff (leb (r .1) p) (leb p (r .2)) .0 e .1)
+range-high r p e =
+    let top = leb p (r .2) in
+    let held = not (isGap (r .3) p) in
+    leb-true p (r .2) (and-eq-true-iff top held .0 (and-eq-true-iff (leb (r .1) p) (top && held) .0 e .1) .0)
 
 pub ranges-all : (rs : List Row) (ps : List ℕ) (i : ℕ) → length rs ≤ i → length ps ≤ i → inRanges (drop i rs) (drop i ps) ≡ true
 unfolding inRanges

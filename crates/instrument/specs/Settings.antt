@@ -1,30 +1,60 @@
--- "Settings (000, SET list of TPS100; all equipment fitted), those up to 136 only, as number:highest parameter, lowest 0 each"
-use Prim.Native.Nat.{ℕ}
-use mathlib.Core.Bool.{Bool, true, false, _&&_}
-use mathlib.Core.List.{List, [], _∷_, map}
-use lib.Dec.{leb}
-use lib.ListN.{getD}
-use Rattle.instrument.specs.Rows.{seek, keyBytes}
+-- The settings of each series. "Settings (000, SET list of TPS100; all equipment fitted), those up to 136 only, as number:highest parameter, lowest 0
+-- each"; of TPS300 (request 103) "000's CONF list from 41 to 171, with its ranges".
+use Prim.Native.Nat.{ℕ, _-_}
+use mathlib.Core.Bool.{Bool, true, false, not, _&&_, _||_}
+use mathlib.Core.List.{List, [], _∷_, _++_, map}
+use lib.Dec.{eqb, leb}
+use lib.ListN.{getD, take, replicate}
+use Rattle.figures.specs.Bytes.{laid}
+use Rattle.instrument.specs.Rows.{seek}
+use Rattle.instrument.specs.declared.settings.Series.{Series}
+use Rattle.instrument.specs.declared.settings.Series.the-variants.{Tps100, Tps300}
+use Rattle.instrument.specs.declared.settings.Gaps.{Gaps}
 use Rattle.instrument.specs.declared.settings.Row.{Row}
 use Rattle.instrument.specs.declared.settings.Found.{Found}
 use Rattle.instrument.specs.declared.settings.Found.the-variants.{Nothing, At}
 
--- number, lowest and highest parameter, and the factory's
+-- four parameters left out between the lowest and the highest; 255 leaves none out
+abbrev pub gaps : ℕ → ℕ → ℕ → ℕ → Gaps
+gaps a b c d = record { 0 = a; 1 = b; 2 = c; 3 = d }
+
+abbrev pub whole : Gaps
+whole = gaps 255 255 255 255
+
+-- number, lowest and highest parameter, gaps, whether it can only be asked for, and the factory's
+abbrev pub rowOf : ℕ → ℕ → ℕ → Gaps → Bool → ℕ → Row
+rowOf number lowest highest g asked factory =
+    record { 0 = number; 1 = lowest; 2 = highest; 3 = g; 4 = asked; 5 = factory }
+
 abbrev pub row : ℕ → ℕ → ℕ → ℕ → Row
-row number lowest highest factory = record { 0 = number; 1 = lowest; 2 = highest; 3 = factory; 4 = keyBytes "s" number }
+row number lowest highest factory = rowOf number lowest highest whole false factory
+
+-- "Factory values are each setting's lowest."
+abbrev pub low : ℕ → ℕ → ℕ → Row
+low number lowest highest = row number lowest highest lowest
+
+-- "90, 91 (0 to 100 here), 122, 160 and 170 can't be SET"
+abbrev pub asked : ℕ → ℕ → ℕ → Row
+asked number lowest highest = rowOf number lowest highest whole true lowest
 
 abbrev pub settingNumber : Row → ℕ
 settingNumber r = r .0
 
+abbrev pub isGap : Gaps → ℕ → Bool
+isGap g p = eqb p (g .0) || (eqb p (g .1) || (eqb p (g .2) || eqb p (g .3)))
+
 abbrev pub inRange : Row → ℕ → Bool
-inRange r p = leb (r .1) p && leb p (r .2)
+inRange r p = leb (r .1) p && (leb p (r .2) && not (isGap (r .3) p))
+
+abbrev pub isAsked : Row → Bool
+isAsked r = r .4
 
 abbrev pub factoryOf : Row → ℕ
-factoryOf r = r .3
+factoryOf r = r .5
 
 -- "Factory: 70 is 5, 73 is 1, 103 is 1, the rest 0."
-unfoldable pub rows : List Row
-rows =
+unfoldable pub rows100 : List Row
+rows100 =
     row 30 0 1 0
     ∷ row 32 0 3 0
     ∷ row 34 0 1 0
@@ -46,30 +76,86 @@ rows =
     ∷ row 136 0 1 0
     ∷ []
 
-abbrev pub settingsN : ℕ
-settingsN = 19
+-- "55 and 56 from 1 to 10, 78 from 0 to 50, 104 and 105 from 0 to 100, and 161 only 0, 1, 5, 6, 7, 9 or 10. Leave out 138, given twice."
+unfoldable pub rows300 : List Row
+rows300 =
+    low 41 0 4
+    ∷ low 42 0 1
+    ∷ low 43 0 6
+    ∷ low 50 0 4
+    ∷ low 51 0 4
+    ∷ low 55 1 10
+    ∷ low 56 1 10
+    ∷ low 70 0 6
+    ∷ low 71 0 2
+    ∷ low 73 0 1
+    ∷ low 75 0 1
+    ∷ low 76 0 1
+    ∷ low 78 0 50
+    ∷ asked 90 0 10
+    ∷ asked 91 0 100
+    ∷ low 95 0 1
+    ∷ low 102 0 1
+    ∷ low 103 0 1
+    ∷ low 104 0 100
+    ∷ low 105 0 100
+    ∷ low 106 0 1
+    ∷ low 120 0 1
+    ∷ asked 122 0 1
+    ∷ low 135 0 8
+    ∷ low 136 0 127
+    ∷ low 137 0 1
+    ∷ asked 160 0 1
+    ∷ rowOf 161 0 10 (gaps 2 3 4 8) false 0
+    ∷ asked 170 0 1
+    ∷ low 171 0 1
+    ∷ []
+
+-- a third series would be one more table
+abbrev pub rowsOf : Series → List Row
+rowsOf Tps100 = rows100
+rowsOf Tps300 = rows300
+
+-- how many settings a series has
+abbrev pub settingsN : Series → ℕ
+settingsN Tps100 = 19
+settingsN Tps300 = 30
+
+-- the most that a series has
+abbrev pub settingsMost : ℕ
+settingsMost = 30
 
 -- past the last
 abbrev pub noRow : Row
 noRow = row 0 0 0 0
 
-abbrev pub rowAt : ℕ → Row
-rowAt i = getD rows i noRow
+abbrev pub rowAt : Series → ℕ → Row
+rowAt k i = getD (rowsOf k) i noRow
 
 -- the place of the setting of that number
-abbrev pub settingPlace : ℕ → Found
-settingPlace n = seek settingNumber rows 0 n
+abbrev pub settingPlace : Series → ℕ → Found
+settingPlace k n = seek settingNumber (rowsOf k) 0 n
 
 abbrev pub parameterAt : List ℕ → Found → ℕ
 parameterAt settings Nothing = 0
 parameterAt settings (At i) = getD settings i 0
 
--- the parameter of the setting of that number
-abbrev pub parameterOf : List ℕ → ℕ → ℕ
-parameterOf settings n = parameterAt settings (settingPlace n)
+-- the parameter of the setting of that number; 0 where the series has none
+abbrev pub parameterOf : Series → List ℕ → ℕ → ℕ
+parameterOf k settings n = parameterAt settings (settingPlace k n)
 
-abbrev pub factorySettings : List ℕ
-factorySettings = map factoryOf rows
+-- A state holds parameters from the start of as many places as a series has at most: the series' own, and noughts past them.
+abbrev pub held : Series → List ℕ → List ℕ
+held k settings = take (settingsN k) settings
+
+abbrev pub padded : List ℕ → List ℕ
+padded ps = laid ps (replicate settingsMost 0)
+
+abbrev pub places : Series → List Row
+places k = rowsOf k ++ replicate (settingsMost - settingsN k) noRow
+
+abbrev pub factorySettings : Series → List ℕ
+factorySettings k = map factoryOf (places k)
 
 -- one parameter for each row, and each in its range
 unfoldable pub inRanges : List Row → List ℕ → Bool

@@ -4,7 +4,7 @@ use Prim.Native.String.{String}
 use mathlib.Core.Bool.{Bool, true, false, cond, _&&_}
 use mathlib.Core.List.{List, [], _∷_, _++_}
 use lib.Dec.{eqb, leb}
-use lib.ListN.{getD, drop, replicate}
+use lib.ListN.{getD, take, drop, replicate}
 use Rattle.figures.specs.Text.{codes}
 use Rattle.figures.specs.Bytes.{within}
 use Rattle.units.specs.Information.{isDot, signByte, signOf}
@@ -92,3 +92,10 @@ keptRight place (Put u m d) = leb m 1 && putRight place (valueWord 46 place u m 
 abbrev pub getWord : ℕ → Kept → List ℕ
 getWord place Never = replicate 16 32
 getWord place (Put u m d) = valueWord (cond (eqb (storedAt place .1) 46) 46 49) place u m d
+
+-- "wide words, with zeros added on the left of the data" (request 103)
+abbrev pub widened : List ℕ → List ℕ
+widened w = take 7 w ++ (codes "00000000" ++ drop 7 w)
+
+abbrev pub wordIn : Bool → List ℕ → List ℕ
+wordIn wide w = cond wide (widened w) w

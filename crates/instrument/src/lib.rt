@@ -1,3 +1,4 @@
 // What the instrument has: its settings and its stored values, a constant row for each.
+pub mod keys;
 pub mod settings;
 pub mod values;

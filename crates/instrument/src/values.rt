@@ -8,7 +8,7 @@ ghost use Rattle.units.specs.Kinds.{stationKind};
 ghost use Rattle.units.specs.Counts as counts;
 ghost use Rattle.units.specs.declared.counts.Figures.the-variants.{Number};
 ghost use Rattle.words.specs.Reading.{isCounted};
-ghost use Rattle.instrument.specs.Values.{storedAt, valuePlace, putRight, putKept, valueWord, keptRight, getWord, isPut};
+ghost use Rattle.instrument.specs.Values.{storedAt, valuePlace, putRight, putKept, valueWord, keptRight, getWord, widened, isPut};
 use crate::settings::Found;
 use units::counts::Figures;
 use units::counts::Valued;
@@ -252,4 +252,36 @@ pub fn get_word(place: usize, kept: Kept) -> [u8; 16]
             value_word(b'1', place, unit, minus, d)
         }
     }
+}
+
+// The word with eight zeros before its eight characters.
+pub fn widen(w: [u8; 16]) -> [u8; 24]
+    ensures { λ r. ⌜ r ≡ widened w ⌝ }
+{
+    [
+        w[0],
+        w[1],
+        w[2],
+        w[3],
+        w[4],
+        w[5],
+        w[6],
+        b'0',
+        b'0',
+        b'0',
+        b'0',
+        b'0',
+        b'0',
+        b'0',
+        b'0',
+        w[7],
+        w[8],
+        w[9],
+        w[10],
+        w[11],
+        w[12],
+        w[13],
+        w[14],
+        w[15],
+    ]
 }

@@ -6,24 +6,31 @@ use mathlib.Core.List.{List, [], _∷_, _++_}
 use native.Mathlib.Omega.{arith}
 use borrow.Author.Tests.{le-leb, lt-leb, le-ltb, lt-ltb, leb-true}
 use lib.Dec.{eqb, leb}
-use lib.ListN.{length, take}
+use lib.ListN.{length, take, drop}
 use lib.Seq.{length-take-le}
 use Rattle.figures.specs.Bytes.{laid}
+use Rattle.words.specs.Reading.{pos}
+use Rattle.instrument.specs.Settings.{settingPlace}
+use Rattle.instrument.specs.Values.{putKept}
+use Rattle.instrument.specs.declared.settings.Found.{Found}
+use Rattle.instrument.specs.declared.settings.Found.the-variants.{Nothing, At}
+use Rattle.instrument.specs.declared.values.Kept.{Kept}
 use Rattle.state.specs.Entries.{entriesN}
-use Rattle.state.specs.Image.{imageN, imageOf, encodedIn, stateIn, isImage, decodeOf}
+use Rattle.state.specs.Image.{imageN, imageOf, encodedIn, seriesIn, stateAs, stateIn, isImage, decodeOf}
 use Rattle.state.specs.declared.entries.State.{State}
 use Rattle.state.specs.declared.image.Known.the-variants.{Not, Is}
 use Rattle.state.specs.declared.image.Decoded.{Decoded}
 use Rattle.state.proofs.Images.{image-of, decoded-is, decoded-not}
 use Rattle.lines.specs.Shapes.{fromEnd, endOf, textOf, isPlain, isEnded, orderOf}
-use Rattle.lines.specs.Verdicts.{isAccepted, orderVerdict}
-use Rattle.lines.specs.Orders.{doneOf}
+use Rattle.lines.specs.Verdicts.{isAccepted, orderVerdict, placeNamed, lineVerdict}
+use Rattle.lines.specs.Orders.{takenBack, newest, setNamed, putNamed, doneOf}
 use Rattle.lines.specs.Replies.{replyEnd, wrong, bodyOf}
-use Rattle.lines.specs.Machine.{Outcome, outcome, run, told, Calls}
+use Rattle.lines.specs.Machine.{Outcome, outcome, run, step, told, Calls}
 use Rattle.lines.specs.Keeping.{ranOf, Ends}
 use Rattle.lines.specs.declared.shapes.Order.{Order}
+use Rattle.lines.specs.declared.shapes.Order.the-variants as order
 use Rattle.lines.specs.declared.verdicts.Verdict.{Verdict}
-use Rattle.lines.specs.declared.verdicts.Verdict.the-variants.{Accepted, Unended, Long, Shape, Setting, Parameter, Index, Word, NeverPut}
+use Rattle.lines.specs.declared.verdicts.Verdict.the-variants.{Accepted, Unended, Long, Shape, Setting, ReadOnly, Parameter, Index, Word, NeverPut}
 use Rattle.lines.specs.declared.verdicts.Verdict.the-variants.{Full, NoEntry, Room, NoState}
 use Rattle.lines.specs.declared.machine.Ran.{Ran}
 use Rattle.lines.proofs.Shape.{from-start}
@@ -66,6 +73,7 @@ accepted-is Unended e = absurd (false≢true e)
 accepted-is Long e = absurd (false≢true e)
 accepted-is Shape e = absurd (false≢true e)
 accepted-is Setting e = absurd (false≢true e)
+accepted-is ReadOnly e = absurd (false≢true e)
 accepted-is Parameter e = absurd (false≢true e)
 accepted-is Index e = absurd (false≢true e)
 accepted-is Word e = absurd (false≢true e)
@@ -142,6 +150,40 @@ module _ (s : State) (line : List ℕ) where
     pub found-accepted : isAccepted v ≡ true → run s line ≡ outcome Accepted (bodyOf s (part e) o ++ replyEnd s) (doneOf s (part e) o)
     found-accepted a = run-accepted is-ended is-short (sym judged ∙ accepted-is v a) ∙ rw (j .order, text-is e (j .ends))
 
+-- a line leaves the series as it is
+
+set-series : (s : State) (p : ℕ) (f : Found) → setNamed s p f .series ≡ s .series
+set-series s p Nothing = refl
+set-series s p (At i) = refl
+
+put-series : (s : State) (k : Kept) (f : Found) → putNamed s k f .series ≡ s .series
+put-series s k Nothing = refl
+put-series s k (At i) = refl
+
+either-series : (s t u : State) (b : Bool) → s .series ≡ u .series → t .series ≡ u .series → cond b s t .series ≡ u .series
+either-series s t u true p q = p
+either-series s t u false p q = q
+
+done-series : (s : State) (t : List ℕ) (o : Order) → doneOf s t o .series ≡ s .series
+done-series s t order.Not = refl
+done-series s t (order.Set n p) = set-series s p (settingPlace (s .series) n)
+done-series s t (order.Conf n) = refl
+done-series s t order.Put = put-series s (putKept (drop 4 t)) (placeNamed (pos 1 (drop 4 t)) (pos 2 (drop 4 t)))
+done-series s t order.Get = refl
+done-series s t order.Undo = either-series s (takenBack s (newest s)) s (eqb (s .count) 0) refl refl
+done-series s t order.Keep = refl
+
+next-series : (s : State) (o : Outcome) (b : Bool) → o .next .series ≡ s .series → cond b o (outcome Room [] s) .next .series ≡ s .series
+next-series s o true e = e
+next-series s o false e = refl
+
+pub step-series : (s : State) (line : List ℕ) (room : ℕ) → step s line room .next .series ≡ s .series
+step-series s line room =
+    let t = textOf line in
+    let done = doneOf s t (orderOf t) in
+    next-series s (run s line) (leb (length (run s line .reply)) room)
+    (either-series done s s (isAccepted (lineVerdict s line)) (done-series s t (orderOf t)) refl)
+
 -- the image
 
 module _ (image : List ℕ) (d : Decoded) (e : d ≡ decodeOf image) where
@@ -168,11 +210,17 @@ module _ (image line room : List ℕ) (r : Ran) (room′ : List ℕ) (h : RanOn 
   pub ran-ends : Ends (stateIn image) (run (stateIn image) line) room r room′
   ran-ends = subst (λ (s : State). Ends s (run s line) room r room′) (decoded-is image (h .decoded) (h .is) (h .known) .1) (h .ends)
 
-  -- laid down, as the image is as long as one
-  pub laid-down : (s : State) → encodedIn s image ≡ imageOf s
-  laid-down s = let long : eqb (length image) imageN ≡ true = and-eq-true-iff (eqb (length image) imageN) _ .0 ran-image .0 in rw long
+  ran-series : r .state .series ≡ seriesIn image
+  unfolding stateAs
+  ran-series = ap (λ (x : Ran). x .state .series) (ran-ends .0) ∙ step-series (stateIn image) line (length room)
+
+  -- laid down, as the image is as long as one of its series
+  pub laid-down : encodedIn (r .state) image ≡ imageOf (r .state)
+  laid-down =
+      let long : eqb (length image) (imageN (seriesIn image)) ≡ true = and-eq-true-iff (eqb (length image) (imageN (seriesIn image))) _ .0 ran-image .0 in
+      rw (ran-series, long)
 
   pub call-some : (image′ : List ℕ) → image′ ≡ encodedIn (r .state) image → Calls image line room (r .told) image′ room′
   call-some image′ l =
-      let down = l ∙ laid-down (r .state) ∙ ap (λ (x : Ran). imageOf (x .state)) (ran-ends .0) in
+      let down = l ∙ laid-down ∙ ap (λ (x : Ran). imageOf (x .state)) (ran-ends .0) in
       rw ran-image (ap (λ (x : Ran). x .told) (ran-ends .0), (down, ran-ends .1))

@@ -7,6 +7,8 @@ use mathlib.Core.List.{List, []}
 use native.Mathlib.Omega.{arith}
 use borrow.Author.Tests.{le-leb}
 use lib.ListN.{length}
+use Rattle.instrument.specs.declared.settings.Series.the-variants.{Tps100, Tps300}
+use Rattle.state.specs.Entries.{factoryState}
 use Rattle.state.specs.declared.entries.State.{State}
 use Rattle.lines.specs.Shapes.{isEnded, textOf, orderOf}
 use Rattle.lines.specs.Verdicts.{verdictNumber, isAccepted, orderVerdict, undoVerdict, lineVerdict}
@@ -14,6 +16,7 @@ use Rattle.lines.specs.Machine.{outcome, run, step}
 use Rattle.lines.specs.Demand.{Start, Call, contentsOf, after, marks, playAll, stands}
 use Rattle.lines.specs.declared.shapes.Order.the-variants.{Undo}
 use Rattle.lines.specs.declared.verdicts.Verdict.the-variants.{Accepted, NoEntry, Room}
+use Rattle.lines.proofs.Starts.{factory-start}
 use Rattle.lines.proofs.Shape.{order-undo}
 use Rattle.lines.proofs.Tracks.{Tracks, contents, undo-stands, tracks}
 
@@ -50,3 +53,10 @@ module _ (s : State) (start : Start s) (cs : List Call) (line : List ℕ) (room 
 
   pub undo-number : stands (marks s cs []) ≡ false → verdictNumber (step (after s cs) line room .verdict) ≡ 29
   undo-number e = ap verdictNumber undo-told ∙ rw e
+
+-- "demand 3 holds per series" (request 103): from each factory
+pub played-100 : (cs : List Call) → contentsOf (after (factoryState Tps100) cs) ≡ playAll (contentsOf (factoryState Tps100)) (marks (factoryState Tps100) cs [])
+played-100 = played (factoryState Tps100) (factory-start Tps100)
+
+pub played-300 : (cs : List Call) → contentsOf (after (factoryState Tps300) cs) ≡ playAll (contentsOf (factoryState Tps300)) (marks (factoryState Tps300) cs [])
+played-300 = played (factoryState Tps300) (factory-start Tps300)

@@ -1,7 +1,7 @@
 -- What an accepted line does to a state leaves a state: SET and PUT within their rows, UNDO and KEEP.
 use Prim.Native.Nat.{ℕ, zero, suc, _-_, _<_}
 use mathlib.Core.Path.{_≡_, refl, sym, ap, _∙_}
-use mathlib.Core.Bool.{Bool, true, false, _&&_, and-eq-true-iff}
+use mathlib.Core.Bool.{Bool, true, false, not, _&&_, and-eq-true-iff}
 use mathlib.Core.List.{List}
 use native.Mathlib.Nat.{zero-add}
 use native.Mathlib.Numerals.{add-one}
@@ -10,10 +10,11 @@ use borrow.Author.Tests.{lt-ltb, eq-eqb, ne-eqb}
 use lib.Dec.{eqb, ltb}
 use lib.ListN.{length, getD, set, length-set, List·getD-map}
 use lib.Seq.{getD-set-same, set-set, set-getD}
-use Rattle.instrument.specs.Settings.{rows, noRow, rowAt, inRange, inRanges, settingsN}
+use Rattle.instrument.specs.Settings.{noRow, rowAt, places, isAsked, inRange, inRanges, settingsN}
 use Rattle.instrument.specs.Values.{isPut, keptRight, valuesN}
 use Rattle.state.specs.Entries.{entriesN, valueOf, entryOf, blankEntry, isNever}
-use Rattle.state.specs.Entries.{itemRight, entryRight, entriesRight, valuesRight, putsOf, backRight, putsBack, sound}
+use Rattle.state.specs.Entries.{settable, itemRight, entryRight, entriesRight, valuesRight, putsOf, backRight, putsBack, sound}
+use Rattle.instrument.specs.declared.settings.Series.{Series}
 use Rattle.instrument.specs.declared.values.Kept.{Kept}
 use Rattle.instrument.specs.declared.values.Kept.the-variants.{Never}
 use Rattle.instrument.specs.declared.values.Value.{Value}
@@ -24,7 +25,7 @@ use Rattle.state.specs.declared.entries.Entry.{Entry}
 use Rattle.state.specs.declared.entries.State.{State}
 use Rattle.lines.specs.Verdicts.{valueHeld}
 use Rattle.lines.specs.Orders.{setOf, putOf, settingsBack, valuesBack, newest, takenBack, undoOf, keepOf}
-use Rattle.instrument.proofs.Ranges.{ranges-at}
+use Rattle.instrument.proofs.Ranges.{place-row, ranges-at}
 use Rattle.lines.proofs.Parts.{Parts, both, ranges-set, values-at, values-set, entries-stand, entries-push, entries-pop, sound-past, map-set}
 use Rattle.lines.proofs.Undone.{added}
 
@@ -42,7 +43,7 @@ module _ (s : State) (settings : List ℕ) (values : List Value) (e : Entry) (p 
       sound-turn (s .count) (putsOf values) (set (s .undo) (s .count) e) e (getD-set-same (s .undo) (s .count) e blankEntry (omega (arith, p .undo-long)))
       ∙ both named (rw back (sound-past (s .count) (putsOf (s .values)) (s .undo) (s .count) e (omega arith) ∙ p .back))
 
-  added-parts : inRanges rows settings ≡ true → length values ≡ valuesN → valuesRight 0 values ≡ true → entryRight e ≡ true
+  added-parts : inRanges (places (s .series)) settings ≡ true → length values ≡ valuesN → valuesRight 0 values ≡ true → entryRight (s .series) e ≡ true
       → backRight (putsOf values) (e .item) ≡ true → putsBack (putsOf values) (e .item) (e .former .kept) ≡ putsOf (s .values)
       → Parts (added s settings values e)
   added-parts ranges long right entry named back =
@@ -52,16 +53,20 @@ module _ (s : State) (settings : List ℕ) (values : List Value) (e : Entry) (p 
         values-long = long;
         values-right = right;
         undo-long = length-set (s .undo) (s .count) e ∙ p .undo-long;
-        entries-right = rw add-one (entries-push (s .undo) (s .count) e (p .entries-right) entry);
+        entries-right = rw add-one (entries-push (s .series) (s .undo) (s .count) e (p .entries-right) entry);
         back = rw add-one (added-sound named back);
       }
 
-pub set-parts : (s : State) (i q : ℕ) → Parts s → s .count < entriesN → i < settingsN → inRange (rowAt i) q ≡ true → Parts (setOf s i q)
-set-parts s i q p free place high =
+pub set-parts : (s : State) (i q : ℕ) → Parts s → s .count < entriesN → i < settingsN (s .series) → isAsked (rowAt (s .series) i) ≡ false
+    → inRange (rowAt (s .series) i) q ≡ true → Parts (setOf s i q)
+set-parts s i q p free place plain high =
+    let k = s .series in
     let was = getD (s .settings) i 0 in
-    let entry = both (lt-ltb i settingsN place) (both (ranges-at rows (s .settings) i (p .ranges)) refl) in
+    let here = place-row k i in
+    let stood : inRange (rowAt k i) was ≡ true = rw here at (ranges-at (places k) (s .settings) i (p .ranges)) in
+    let left : settable k i was ≡ true = both (lt-ltb i (settingsN k) place) (rw plain stood) in
     added-parts s (set (s .settings) i q) (s .values) (entryOf (Setting i) was Never) p free
-    (ranges-set rows (s .settings) i q noRow (p .ranges) high) (p .values-long) (p .values-right) entry refl refl
+    (ranges-set (places k) (s .settings) i q noRow (p .ranges) (rw here high)) (p .values-long) (p .values-right) (both left refl) refl refl
 
 pub put-parts : (s : State) (i : ℕ) (k : Kept) → Parts s → s .count < entriesN → i < valuesN → isPut k ≡ true → keptRight i k ≡ true → Parts (putOf s i k)
 put-parts s i k p free place put right =
@@ -84,21 +89,23 @@ put-parts s i k p free place put right =
 
 -- the newest taken back
 
-settings-kept : (i : Item) (f : Former) (l : List ℕ) → inRanges rows l ≡ true → itemRight i (f .parameter) (f .kept) ≡ true
-    → inRanges rows (settingsBack l i f) ≡ true
-settings-kept Free f l e h = e
-settings-kept (Setting i) f l e h =
-    let high = inRange (rowAt i) (f .parameter) in
-    let never = isNever (f .kept) in
-    let right = and-eq-true-iff high never .0 (and-eq-true-iff (ltb i settingsN) (high && never) .0 h .1) in
-    ranges-set rows l i (f .parameter) noRow e (right .0)
-settings-kept (Stored i) f l e h = e
+settings-kept : (k : Series) (i : Item) (f : Former) (l : List ℕ) → inRanges (places k) l ≡ true → itemRight k i (f .parameter) (f .kept) ≡ true
+    → inRanges (places k) (settingsBack l i f) ≡ true
+settings-kept k Free f l e h = e
+settings-kept k (Setting i) f l e h =
+    let there = ltb i (settingsN k) in
+    let plain = not (isAsked (rowAt k i)) in
+    let high = inRange (rowAt k i) (f .parameter) in
+    let left = and-eq-true-iff (there && (plain && high)) (isNever (f .kept)) .0 h .0 in
+    let right = and-eq-true-iff plain high .0 (and-eq-true-iff there (plain && high) .0 left .1) .1 in
+    ranges-set (places k) l i (f .parameter) noRow e (rw (place-row k i) right)
+settings-kept k (Stored i) f l e h = e
 
-values-kept : (i : Item) (f : Former) (l : List Value) → valuesRight 0 l ≡ true → itemRight i (f .parameter) (f .kept) ≡ true
+values-kept : (k : Series) (i : Item) (f : Former) (l : List Value) → valuesRight 0 l ≡ true → itemRight k i (f .parameter) (f .kept) ≡ true
     → valuesRight 0 (valuesBack l i f) ≡ true
-values-kept Free f l e h = e
-values-kept (Setting i) f l e h = e
-values-kept (Stored i) f l e h =
+values-kept k Free f l e h = e
+values-kept k (Setting i) f l e h = e
+values-kept k (Stored i) f l e h =
     let nought = eqb (f .parameter) 0 in
     let kept = keptRight i (f .kept) in
     let right = and-eq-true-iff nought kept .0 (and-eq-true-iff (ltb i valuesN) (nought && kept) .0 h .1) in
@@ -120,7 +127,8 @@ module _ (s : State) (p : Parts s) where
       let f = e .former in
       let u = s .undo in
       let less : s .count - 1 ≡ n = omega arith in
-      let entry : entryRight e ≡ true = rw last at (entries-stand u (s .count) n (p .entries-right) (omega arith) (omega (arith, p .undo-long, p .few))) in
+      let k = s .series in
+      let entry : entryRight k e ≡ true = rw last at (entries-stand k u (s .count) n (p .entries-right) (omega arith) (omega (arith, p .undo-long, p .few))) in
       let puts = putsBack (putsOf (s .values)) (e .item) (f .kept) in
       let back : backRight (putsOf (s .values)) (e .item) && sound n puts u ≡ true =
       sym (sound-turn n (putsOf (s .values)) u e last) ∙ (rw count at (p .back))
@@ -128,11 +136,11 @@ module _ (s : State) (p : Parts s) where
       let left = and-eq-true-iff (backRight (putsOf (s .values)) (e .item)) (sound n puts u) .0 back .1 in
       record {
         few = omega (arith, p .few);
-        ranges = settings-kept (e .item) f (s .settings) (p .ranges) entry;
+        ranges = settings-kept k (e .item) f (s .settings) (p .ranges) entry;
         values-long = long-kept (e .item) f (s .values) ∙ p .values-long;
-        values-right = values-kept (e .item) f (s .values) (p .values-right) entry;
+        values-right = values-kept k (e .item) f (s .values) (p .values-right) entry;
         undo-long = length-set u (s .count - 1) blankEntry ∙ p .undo-long;
-        entries-right = rw less (entries-pop u n (rw count at (p .entries-right)));
+        entries-right = rw less (entries-pop k u n (rw count at (p .entries-right)));
         back = rw (less, puts-kept (e .item) f (s .values)) (sound-past n puts u n blankEntry (omega arith) ∙ left);
       }
 

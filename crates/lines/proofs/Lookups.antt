@@ -11,12 +11,15 @@ use lib.Seq.{getD-drop, drop-drop}
 use Rattle.figures.specs.Decimal.{isDigit}
 use Rattle.units.specs.Kinds.{indexOf}
 use Rattle.instrument.specs.Rows.{seek}
-use Rattle.instrument.specs.Settings.{rows, noRow, settingNumber, settingPlace, settingsN}
+use Rattle.instrument.specs.Settings.{rows100, rows300, rowsOf, noRow, settingNumber, settingPlace, settingsN, settingsMost}
 use Rattle.instrument.specs.Values.{stored, noStored, storedAt, indexNumber, valuePlace, valuesN}
+use Rattle.instrument.specs.declared.settings.Series.{Series}
+use Rattle.instrument.specs.declared.settings.Series.the-variants.{Tps100, Tps300}
 use Rattle.instrument.specs.declared.settings.Row.{Row}
 use Rattle.instrument.specs.declared.settings.Found.the-variants.{Nothing, At}
 use Rattle.instrument.specs.declared.values.Value.{Value}
 use Rattle.instrument.proofs.Seek.{found-at}
+use Rattle.instrument.proofs.Ranges.{rows-long, settings-few}
 use Rattle.lines.specs.Shapes.{groupsIn}
 use Rattle.lines.specs.Verdicts.{placeNamed, getBy, getVerdict}
 use Rattle.lines.specs.declared.verdicts.Verdict.the-variants.{Accepted}
@@ -34,15 +37,21 @@ seek-above (r ∷ l) i n e h =
     let both = and-eq-true-iff (leb (settingNumber r) 9999) (fourDigits l) .0 e in
     rw (ne-eqb (settingNumber r) n (λ q. omega (arith, leb-true (settingNumber r) 9999 (both .0)))) (seek-above l (i + 1) n (both .1) h)
 
-pub setting-none : (n : ℕ) → 9999 < n → settingPlace n ≡ Nothing
-unfolding rows fourDigits
-setting-none n h = seek-above rows 0 n refl h
+rows-four : (k : Series) → fourDigits (rowsOf k) ≡ true
+unfolding rows100 rows300 fourDigits
+rows-four Tps100 = refl
+rows-four Tps300 = refl
+
+pub setting-none : (k : Series) (n : ℕ) → 9999 < n → settingPlace k n ≡ Nothing
+setting-none k n h = seek-above (rowsOf k) 0 n (rows-four k) h
 
 -- a place that is found is one of the list
 
-pub setting-in : (n i : ℕ) → settingPlace n ≡ At i → i < settingsN
-unfolding rows
-setting-in n i e = found-at settingNumber rows noRow n i e .0
+pub setting-in : (k : Series) (n i : ℕ) → settingPlace k n ≡ At i → i < settingsN k
+setting-in k n i e = omega (arith, found-at settingNumber (rowsOf k) noRow n i e .0, rows-long k)
+
+pub setting-below : (k : Series) (n i : ℕ) → settingPlace k n ≡ At i → i < settingsMost
+setting-below k n i e = omega (arith, setting-in k n i e, settings-few k)
 
 pub value-found : (n i : ℕ) → valuePlace n ≡ At i → (i < valuesN) × (indexNumber (storedAt i) ≡ n)
 unfolding stored

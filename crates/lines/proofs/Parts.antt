@@ -9,10 +9,11 @@ use borrow.Author.Tests.{eqb-true, eq-eqb, leb-true, le-leb, lt-ltb, le-ltb}
 use lib.Dec.{eqb, leb, ltb}
 use lib.ListN.{length, getD, set}
 use lib.Seq.{getD-set-other}
-use Rattle.instrument.specs.Settings.{rows, inRanges, inRange}
+use Rattle.instrument.specs.Settings.{places, inRanges, inRange}
 use Rattle.instrument.specs.Values.{keptRight, valuesN}
 use Rattle.state.specs.Entries.{entriesN, valueOf, blankEntry, isBlank}
 use Rattle.state.specs.Entries.{entryRight, entriesRight, valuesRight, putsOf, backRight, putsBack, sound, isState}
+use Rattle.instrument.specs.declared.settings.Series.{Series}
 use Rattle.instrument.specs.declared.settings.Row.{Row}
 use Rattle.instrument.specs.declared.values.Kept.the-variants.{Never}
 use Rattle.instrument.specs.declared.values.Value.{Value}
@@ -24,21 +25,21 @@ both p q = rw p q
 
 pub record Parts (s : State) : Type 0 where
   pub few : s .count ≤ entriesN
-  pub ranges : inRanges rows (s .settings) ≡ true
+  pub ranges : inRanges (places (s .series)) (s .settings) ≡ true
   pub values-long : length (s .values) ≡ valuesN
   pub values-right : valuesRight 0 (s .values) ≡ true
   pub undo-long : length (s .undo) ≡ entriesN
-  pub entries-right : entriesRight (s .undo) (s .count) ≡ true
+  pub entries-right : entriesRight (s .series) (s .undo) (s .count) ≡ true
   pub back : sound (s .count) (putsOf (s .values)) (s .undo) ≡ true
 
 pub parts : (s : State) → isState s ≡ true → Parts s
 parts s e =
     let f = leb (s .count) entriesN in
-    let r = inRanges rows (s .settings) in
+    let r = inRanges (places (s .series)) (s .settings) in
     let vn = eqb (length (s .values)) valuesN in
     let v = valuesRight 0 (s .values) in
     let un = eqb (length (s .undo)) entriesN in
-    let u = entriesRight (s .undo) (s .count) in
+    let u = entriesRight (s .series) (s .undo) (s .count) in
     let b = sound (s .count) (putsOf (s .values)) (s .undo) in
     let few = and-eq-true-iff f (r && ((vn && v) && ((un && u) && b))) .0 e in
     let ranges = and-eq-true-iff r ((vn && v) && ((un && u) && b)) .0 (few .1) in
@@ -64,8 +65,8 @@ whole s p =
     (both (both (eq-eqb (length (s .undo)) entriesN (p .undo-long)) (p .entries-right))
     (p .back))))
 
-pub state-path : (s t : State) → s .settings ≡ t .settings → s .values ≡ t .values → s .undo ≡ t .undo → s .count ≡ t .count → s ≡ t
-state-path s t a b c d = λ i. record { settings = a i; values = b i; undo = c i; count = d i }
+pub state-path : (s t : State) → s .series ≡ t .series → s .settings ≡ t .settings → s .values ≡ t .values → s .undo ≡ t .undo → s .count ≡ t .count → s ≡ t
+state-path s t k a b c d = λ i. record { series = k i; settings = a i; values = b i; undo = c i; count = d i }
 
 -- settings
 
@@ -101,47 +102,47 @@ values-set k (w ∷ vs) (suc i) v e h =
 
 -- entries
 
-blank-turn : (x : Entry) (u : List Entry) (n : ℕ) → n ≤ 0 → entriesRight (x ∷ u) n ≡ isBlank x && entriesRight u (n - 1)
+blank-turn : (k : Series) (x : Entry) (u : List Entry) (n : ℕ) → n ≤ 0 → entriesRight k (x ∷ u) n ≡ isBlank x && entriesRight k u (n - 1)
 unfolding entriesRight
-blank-turn x u n h = rw (le-ltb 0 n h)
+blank-turn k x u n h = rw (le-ltb 0 n h)
 
-stand-turn : (x : Entry) (u : List Entry) (n : ℕ) → 0 < n → entriesRight (x ∷ u) n ≡ entryRight x && entriesRight u (n - 1)
+stand-turn : (k : Series) (x : Entry) (u : List Entry) (n : ℕ) → 0 < n → entriesRight k (x ∷ u) n ≡ entryRight k x && entriesRight k u (n - 1)
 unfolding entriesRight
-stand-turn x u n h = rw (lt-ltb 0 n h)
+stand-turn k x u n h = rw (lt-ltb 0 n h)
 
-rest : (x : Entry) (u : List Entry) (n : ℕ) → entriesRight (x ∷ u) n ≡ true → entriesRight u (n - 1) ≡ true
+rest : (k : Series) (x : Entry) (u : List Entry) (n : ℕ) → entriesRight k (x ∷ u) n ≡ true → entriesRight k u (n - 1) ≡ true
 unfolding entriesRight
-rest x u n e = and-eq-true-iff (cond (ltb 0 n) (entryRight x) (isBlank x)) (entriesRight u (n - 1)) .0 e .1
+rest k x u n e = and-eq-true-iff (cond (ltb 0 n) (entryRight k x) (isBlank x)) (entriesRight k u (n - 1)) .0 e .1
 
-pub entries-blank : (u : List Entry) (n i : ℕ) → entriesRight u n ≡ true → n ≤ i → isBlank (getD u i blankEntry) ≡ true
-entries-blank [] n i e h = refl
-entries-blank (x ∷ u) n zero e h = and-eq-true-iff (isBlank x) (entriesRight u (n - 1)) .0 (sym (blank-turn x u n h) ∙ e) .0
-entries-blank (x ∷ u) n (suc i) e h = entries-blank u (n - 1) i (rest x u n e) (omega arith)
+pub entries-blank : (k : Series) (u : List Entry) (n i : ℕ) → entriesRight k u n ≡ true → n ≤ i → isBlank (getD u i blankEntry) ≡ true
+entries-blank k [] n i e h = refl
+entries-blank k (x ∷ u) n zero e h = and-eq-true-iff (isBlank x) (entriesRight k u (n - 1)) .0 (sym (blank-turn k x u n h) ∙ e) .0
+entries-blank k (x ∷ u) n (suc i) e h = entries-blank k u (n - 1) i (rest k x u n e) (omega arith)
 
-pub entries-stand : (u : List Entry) (n i : ℕ) → entriesRight u n ≡ true → i < n → i < length u → entryRight (getD u i blankEntry) ≡ true
-entries-stand [] n i e h k = absurd (omega arith)
-entries-stand (x ∷ u) n zero e h k = and-eq-true-iff (entryRight x) (entriesRight u (n - 1)) .0 (sym (stand-turn x u n h) ∙ e) .0
-entries-stand (x ∷ u) n (suc i) e h k = entries-stand u (n - 1) i (rest x u n e) (omega arith) (omega arith)
+pub entries-stand : (k : Series) (u : List Entry) (n i : ℕ) → entriesRight k u n ≡ true → i < n → i < length u → entryRight k (getD u i blankEntry) ≡ true
+entries-stand k [] n i e h l = absurd (omega arith)
+entries-stand k (x ∷ u) n zero e h l = and-eq-true-iff (entryRight k x) (entriesRight k u (n - 1)) .0 (sym (stand-turn k x u n h) ∙ e) .0
+entries-stand k (x ∷ u) n (suc i) e h l = entries-stand k u (n - 1) i (rest k x u n e) (omega arith) (omega arith)
 
-pub entries-push : (u : List Entry) (n : ℕ) (e : Entry) → entriesRight u n ≡ true → entryRight e ≡ true → entriesRight (set u n e) (suc n) ≡ true
+pub entries-push : (k : Series) (u : List Entry) (n : ℕ) (e : Entry) → entriesRight k u n ≡ true → entryRight k e ≡ true → entriesRight k (set u n e) (suc n) ≡ true
 unfolding entriesRight
-entries-push [] n e r h = refl
-entries-push (x ∷ u) zero e r h = both h (rest x u zero r)
-entries-push (x ∷ u) (suc n) e r h =
+entries-push k [] n e r h = refl
+entries-push k (x ∷ u) zero e r h = both h (rest k x u zero r)
+entries-push k (x ∷ u) (suc n) e r h =
     let q : suc n - 1 ≡ n = omega arith in
     let q′ : suc (suc n) - 1 ≡ suc n = omega arith in
-    let stands = and-eq-true-iff (entryRight x) (entriesRight u (suc n - 1)) .0 (sym (stand-turn x u (suc n) (omega arith)) ∙ r) in
-    stand-turn x (set u n e) (suc (suc n)) (omega arith) ∙ both (stands .0) (rw q′ (entries-push u n e (rw q at (stands .1)) h))
+    let stands = and-eq-true-iff (entryRight k x) (entriesRight k u (suc n - 1)) .0 (sym (stand-turn k x u (suc n) (omega arith)) ∙ r) in
+    stand-turn k x (set u n e) (suc (suc n)) (omega arith) ∙ both (stands .0) (rw q′ (entries-push k u n e (rw q at (stands .1)) h))
 
-pub entries-pop : (u : List Entry) (n : ℕ) → entriesRight u (suc n) ≡ true → entriesRight (set u n blankEntry) n ≡ true
+pub entries-pop : (k : Series) (u : List Entry) (n : ℕ) → entriesRight k u (suc n) ≡ true → entriesRight k (set u n blankEntry) n ≡ true
 unfolding entriesRight
-entries-pop [] n r = refl
-entries-pop (x ∷ u) zero r = rest x u 1 r
-entries-pop (x ∷ u) (suc n) r =
+entries-pop k [] n r = refl
+entries-pop k (x ∷ u) zero r = rest k x u 1 r
+entries-pop k (x ∷ u) (suc n) r =
     let q : suc n - 1 ≡ n = omega arith in
     let q′ : suc (suc n) - 1 ≡ suc n = omega arith in
-    let stands = and-eq-true-iff (entryRight x) (entriesRight u (suc (suc n) - 1)) .0 (sym (stand-turn x u (suc (suc n)) (omega arith)) ∙ r) in
-    stand-turn x (set u n blankEntry) (suc n) (omega arith) ∙ both (stands .0) (rw q (entries-pop u n (rw q′ at (stands .1))))
+    let stands = and-eq-true-iff (entryRight k x) (entriesRight k u (suc (suc n) - 1)) .0 (sym (stand-turn k x u (suc (suc n)) (omega arith)) ∙ r) in
+    stand-turn k x (set u n blankEntry) (suc n) (omega arith) ∙ both (stands .0) (rw q (entries-pop k u n (rw q′ at (stands .1))))
 
 -- the entries taken back
 

@@ -3,6 +3,7 @@ use Prim.Native.Nat.{ℕ, zero, suc, _+_, _-_, _*_, _/_, _<_, _≤_}
 use mathlib.Core.Path.{_≡_, refl, sym, ap, _∙_}
 use mathlib.Core.Bool.{Bool, true, false, cond}
 use mathlib.Core.List.{List, [], _∷_, _++_, append-assoc, append-nil}
+use native.Mathlib.Nat.{zero-mul, suc-mul, add-comm}
 use native.Mathlib.Omega.{arith}
 use borrow.Rule.Slice.PartMut.{putMid, midOf}
 use lib.ListN.{length, getD, take, drop, length-append, length-drop}
@@ -11,8 +12,10 @@ use Rattle.figures.specs.Bytes.{laid}
 use Rattle.figures.specs.Decimal.{digitsOf}
 use Rattle.figures.proofs.Bytes.{laid-fits, laid-on, length-on}
 use Rattle.figures.proofs.Decimal.{digits-on, digits-length}
+use Rattle.words.specs.Reading.{wordSize}
 use Rattle.instrument.specs.Settings.{settingPlace}
-use Rattle.instrument.specs.Values.{isPut, getWord, valuesN}
+use Rattle.instrument.specs.Values.{isPut, getWord, wordIn, valuesN}
+use Rattle.instrument.specs.declared.settings.Series.{Series}
 use Rattle.instrument.specs.declared.settings.Found.{Found}
 use Rattle.instrument.specs.declared.settings.Found.the-variants.{Nothing, At}
 use Rattle.instrument.specs.declared.values.Kept.{Kept}
@@ -21,8 +24,8 @@ use Rattle.instrument.specs.declared.values.Value.{Value}
 use Rattle.state.specs.declared.entries.State.{State}
 use Rattle.lines.specs.Shapes.{groupsIn, orderOf}
 use Rattle.lines.specs.Verdicts.{confBy, confVerdict, placeNamed, valueHeld, getBy, getVerdict, orderVerdict}
-use Rattle.lines.specs.Replies.{endsLf, replyEnd, confBody, getBody, bodyOf}
-use Rattle.lines.specs.Keeping.{GetFits}
+use Rattle.lines.specs.Replies.{endsLf, isWide, replyEnd, confBody, star, getWords, getBody, bodyOf}
+use Rattle.lines.specs.Keeping.{GetFits, getN}
 use Rattle.figures.specs.Text.{endBytes}
 use Rattle.lines.specs.declared.shapes.Order.{Order}
 use Rattle.lines.specs.declared.shapes.Order.the-variants as order
@@ -54,9 +57,11 @@ laid-then w e room₀ room last a ea h er el =
 
 -- GET: its words
 
-word-long : (i : ℕ) (k : Kept) → length (getWord i k) ≡ 16
-word-long i Never = refl
-word-long i (Put u m d) = refl
+word-long : (wide : Bool) (i : ℕ) (k : Kept) → length (wordIn wide (getWord i k)) ≡ wordSize wide
+word-long true i Never = refl
+word-long true i (Put u m d) = refl
+word-long false i Never = refl
+word-long false i (Put u m d) = refl
 
 -- a group that isn't refused names a value
 abbrev Named : Found → Type 0
@@ -75,32 +80,35 @@ first-right : (values : List Value) (n : ℕ) (g : List ℕ) → getVerdict valu
 unfolding getVerdict
 first-right values n g e = one-right values (placeNamed (getD g 3 0) (getD g 4 0)) (getVerdict values n (drop 5 g)) e
 
-pub body-long : (values : List Value) (n : ℕ) (g : List ℕ) → getVerdict values n g ≡ Accepted → length (getBody values n g) ≡ 16 * n
-unfolding getBody
-body-long values zero g e = refl
-body-long values (suc n) g e =
+pub words-long : (wide : Bool) (values : List Value) (n : ℕ) (g : List ℕ) → getVerdict values n g ≡ Accepted
+    → length (getWords wide values n g) ≡ n * wordSize wide
+unfolding getWords
+words-long wide values zero g e = sym (zero-mul (wordSize wide))
+words-long wide values (suc n) g e =
     let r = first-right values n g e in
     let i = r .1 .0 in
-    let k = valueHeld values i .kept in
-    rw (r .1 .1) (omega (arith, length-append (getWord i k) (getBody values n (drop 5 g)), word-long i k, body-long values n (drop 5 g) (r .0)))
+    let w = wordIn wide (getWord i (valueHeld values i .kept)) in
+    rw (r .1 .1)
+    (length-append w (getWords wide values n (drop 5 g))
+    ∙ rw (word-long wide i (valueHeld values i .kept), words-long wide values n (drop 5 g) (r .0), suc-mul n (wordSize wide), add-comm (n * wordSize wide) (wordSize wide)))
 
-body-more : (values : List Value) (m n : ℕ) (g : List ℕ) (i : ℕ) → m ≡ suc n → placeNamed (getD g 3 0) (getD g 4 0) ≡ At i
-    → getBody values m g ≡ getWord i (valueHeld values i .kept) ++ getBody values n (drop 5 g)
-unfolding getBody
-body-more values m n g i z e = rw (z, e)
+words-more : (wide : Bool) (values : List Value) (m n : ℕ) (g : List ℕ) (i : ℕ) → m ≡ suc n → placeNamed (getD g 3 0) (getD g 4 0) ≡ At i
+    → getWords wide values m g ≡ wordIn wide (getWord i (valueHeld values i .kept)) ++ getWords wide values n (drop 5 g)
+unfolding getWords
+words-more wide values m n g i z e = rw (z, e)
 
 -- some words of GET are laid down, and those of the groups from i on are left
-pub record Got (values : List Value) (g room₀ room : List ℕ) (i at : ℕ) : Type 0 where
+pub record Got (wide : Bool) (values : List Value) (g room₀ room : List ℕ) (i at : ℕ) : Type 0 where
   pub done : List ℕ
   pub left : ℕ
   pub long : length g ≡ i + 5 * left
   pub accepted : getVerdict values left (drop i g) ≡ Accepted
-  pub whole : getBody values (groupsIn g) g ≡ done ++ getBody values left (drop i g)
+  pub whole : getWords wide values (groupsIn g) g ≡ done ++ getWords wide values left (drop i g)
   pub here : at ≡ length done
   pub stands : room ≡ done ++ drop (length done) room₀
 
-module _ (values : List Value) (g room₀ : List ℕ) (fit : GetFits values g room₀) where
-  pub got-none : Got values g room₀ room₀ 0 0
+module _ (wide : Bool) (values : List Value) (g room₀ : List ℕ) (fit : GetFits values g (getWords wide values (groupsIn g) g) room₀) where
+  pub got-none : Got wide values g room₀ room₀ 0 0
   got-none = record {
     done = [];
     left = groupsIn g;
@@ -111,26 +119,29 @@ module _ (values : List Value) (g room₀ : List ℕ) (fit : GetFits values g ro
     stands = refl;
   }
 
-  module _ (room : List ℕ) (i at : ℕ) (h : Got values g room₀ room i at) where
-    got-fits : (at + 16 * h .left ≤ length room₀) × (length room ≡ length room₀)
+  module _ (room : List ℕ) (i at : ℕ) (h : Got wide values g room₀ room i at) where
+    got-fits : (at + h .left * wordSize wide ≤ length room₀) × (length room ≡ length room₀)
     got-fits =
-        let all = ap length (h .whole) ∙ length-append (h .done) (getBody values (h .left) (drop i g)) in
-        let rest = body-long values (h .left) (drop i g) (h .accepted) in
-        let into : at + 16 * h .left ≤ length room₀ = omega (arith, fit .fits) in
-        (into, length-on (h .done) room₀ room (omega arith) (h .stands))
+        let all = ap length (h .whole) ∙ length-append (h .done) (getWords wide values (h .left) (drop i g)) in
+        let rest = words-long wide values (h .left) (drop i g) (h .accepted) in
+        let into : at + h .left * wordSize wide ≤ length room₀ = omega (arith, fit .fits, h .here) in
+        (into, length-on (h .done) room₀ room (omega (arith, h .here)) (h .stands))
 
     pub got-length : length room ≡ length room₀
     got-length = got-fits .1
 
-    pub got-room : i < length g → at + 16 ≤ length room₀
-    got-room e = omega (arith, got-fits .0, h .long)
+    pub got-room : i < length g → at + wordSize wide ≤ length room₀
+    got-room e =
+        let z : h .left ≡ suc (h .left - 1) = omega (arith, h .long) in
+        let more : h .left * wordSize wide ≡ (h .left - 1) * wordSize wide + wordSize wide = ap (λ (n : ℕ). n * wordSize wide) z ∙ suc-mul (h .left - 1) (wordSize wide) in
+        omega (arith, got-fits .0, more)
 
-    pub got-all : length g ≤ i → room ≡ laid (getBody values (groupsIn g) g) room₀
-    unfolding getBody
+    pub got-all : length g ≤ i → room ≡ laid (getWords wide values (groupsIn g) g) room₀
+    unfolding getWords
     got-all e =
         let z : h .left ≡ 0 = omega (arith, h .long) in
-        let none : getBody values (h .left) (drop i g) ≡ [] = rw z in
-        let is : getBody values (groupsIn g) g ≡ h .done = h .whole ∙ rw (none, append-nil) in
+        let none : getWords wide values (h .left) (drop i g) ≡ [] = rw z in
+        let is : getWords wide values (groupsIn g) g ≡ h .done = h .whole ∙ rw (none, append-nil) in
         rw is (h .stands ∙ sym (laid-fits (h .done) room₀ (omega (arith, got-fits .0, h .here))))
 
     -- the next group names a value
@@ -141,29 +152,29 @@ module _ (values : List Value) (g room₀ : List ℕ) (fit : GetFits values g ro
         let q : placeNamed (getD g (i + 3) 0) (getD g (i + 4) 0) ≡ At (r .0) = rw (← getD-drop i g 3 0, ← getD-drop i g 4 0) (r .1) in
         (omega (arith, h .long), (r .0, (q, place-in (getD g (i + 3) 0) (getD g (i + 4) 0) (r .0) q)))
 
-    pub got-more : (p : ℕ) (last : List ℕ) → i < length g → placeNamed (getD g (i + 3) 0) (getD g (i + 4) 0) ≡ At p
-        → last ≡ laid (getWord p (valueHeld values p .kept)) (midOf at (length room - at) room)
-        → Got values g room₀ (putMid at (length room - at) room last) (i + 5) (at + 16)
-    got-more p last e q el =
-        let n = h .left - 1 in
-        let w = getWord p (valueHeld values p .kept) in
-        let lw = word-long p (valueHeld values p .kept) in
-        let z : h .left ≡ suc n = omega (arith, h .long) in
-        let next = body-more values (h .left) n (drop i g) p z (rw (getD-drop i g 3 0, getD-drop i g 4 0) q) in
+    pub got-more : (p n : ℕ) (last : List ℕ) → i < length g → placeNamed (getD g (i + 3) 0) (getD g (i + 4) 0) ≡ At p → n ≡ wordSize wide
+        → last ≡ laid (wordIn wide (getWord p (valueHeld values p .kept))) (midOf at (length room - at) room)
+        → Got wide values g room₀ (putMid at (length room - at) room last) (i + 5) (at + n)
+    got-more p n last e q en el =
+        let left = h .left - 1 in
+        let w = wordIn wide (getWord p (valueHeld values p .kept)) in
+        let lw = word-long wide p (valueHeld values p .kept) in
+        let z : h .left ≡ suc left = omega (arith, h .long) in
+        let next = words-more wide values (h .left) left (drop i g) p z (rw (getD-drop i g 3 0, getD-drop i g 4 0) q) in
         record {
           done = h .done ++ w;
-          left = n;
+          left = left;
           long = omega (arith, h .long);
-          accepted = rw (drop-drop 5 i g) at (first-right values n (drop i g) (rw z at (h .accepted)) .0);
+          accepted = rw (drop-drop 5 i g) at (first-right values left (drop i g) (rw z at (h .accepted)) .0);
           whole = h .whole ∙ rw (next, drop-drop 5 i g, append-assoc);
           here = omega (arith, h .here, length-append (h .done) w, lw);
-          stands = laid-on (h .done) w room₀ room last at (h .here) (omega (arith, got-fits .0, h .here, lw)) (h .stands) el;
+          stands = laid-on (h .done) w room₀ room last at (h .here) (omega (arith, got-room e, h .here, lw)) (h .stands) el;
         }
 
 -- CONF: a place that is found, and its nine characters
 
-pub conf-named : (n : ℕ) → confVerdict n ≡ Accepted → Named (settingPlace n)
-conf-named n e = by (settingPlace n) e
+pub conf-named : (k : Series) (n : ℕ) → confVerdict k n ≡ Accepted → Named (settingPlace k n)
+conf-named k n e = by (settingPlace k n) e
   where
     by : (f : Found) → confBy f ≡ Accepted → Named f
     by Nothing e = let z : _≡_ {A = ℕ} 0 1 = cc in absurd (omega arith)
@@ -183,16 +194,16 @@ conf-laid n p l₁ l₂ e₁ e₂ =
     let stands : l₁ ++ slashes ≡ done ++ drop (length done) nine = rw (e₁, five, append-assoc) in
     digits-on done nine (l₁ ++ slashes) l₂ 5 4 p (sym five) (omega arith) stands e₂ ∙ rw (all, append-nil, append-assoc)
 
-pub conf-long : (settings : List ℕ) (n : ℕ) → confVerdict n ≡ Accepted → length (confBody settings n) ≡ 9
-conf-long settings n e =
-    let f = conf-named n e in
+pub conf-long : (k : Series) (settings : List ℕ) (n : ℕ) → confVerdict k n ≡ Accepted → length (confBody k settings n) ≡ 9
+conf-long k settings n e =
+    let f = conf-named k n e in
     let p = getD settings (f .0) 0 in
     rw (f .1) (omega (arith, length-append (digitsOf 4 n) (47 ∷ digitsOf 4 p), digits-length 4 n, digits-length 4 p))
 
 -- the reply of an order
 
 pub conf-body-long : (s : State) (t : List ℕ) (o : Order) (n : ℕ) → o ≡ order.Conf n → orderVerdict s t o ≡ Accepted → length (bodyOf s t o) ≡ 9
-conf-body-long s t o n e v = rw e (conf-long (s .settings) n (rw e at v))
+conf-body-long s t o n e v = rw e (conf-long (s .series) (s .settings) n (rw e at v))
 
 module _ (s : State) (t : List ℕ) (o : Order) (e : o ≡ order.Get) (is : o ≡ orderOf t) (v : orderVerdict s t o ≡ Accepted) where
   pub get-length : 5 ≤ length t
@@ -201,13 +212,20 @@ module _ (s : State) (t : List ℕ) (o : Order) (e : o ≡ order.Get) (is : o �
   get-judged : getVerdict (s .values) (groupsIn (drop 5 t)) (drop 5 t) ≡ Accepted
   get-judged = rw e at v
 
-  pub get-body : bodyOf s t o ≡ getBody (s .values) (groupsIn (drop 5 t)) (drop 5 t)
+  pub get-body : bodyOf s t o ≡ getBody (isWide s) (s .values) (groupsIn (drop 5 t)) (drop 5 t)
   get-body = rw e
 
-  pub get-body-long : length (bodyOf s t o) ≡ (length t - 5) / 5 * 16
-  get-body-long = rw get-body (omega (arith, body-long (s .values) (groupsIn (drop 5 t)) (drop 5 t) get-judged, length-drop 5 t))
+  pub get-body-long : length (bodyOf s t o) ≡ getN (isWide s) ((length t - 5) / 5)
+  get-body-long =
+      let g = drop 5 t in
+      let n : groupsIn g ≡ (length t - 5) / 5 = ap (λ (k : ℕ). k / 5) (length-drop 5 t) in
+      ap length get-body
+      ∙ length-append (star (isWide s)) (getWords (isWide s) (s .values) (groupsIn g) g)
+      ∙ rw (words-long (isWide s) (s .values) (groupsIn g) g get-judged, n)
 
-  pub get-fits : (room : List ℕ) → length (bodyOf s t o) + length (replyEnd s) ≤ length room → GetFits (s .values) (take (length t - 5) (drop 5 t)) room
+  pub get-fits : (room : List ℕ) → length (bodyOf s t o) + length (replyEnd s) ≤ length room →
+      let g = take (length t - 5) (drop 5 t) in
+      GetFits (s .values) g (getBody (isWide s) (s .values) (groupsIn g) g) room
   get-fits room f =
       rw (to-end 5 t)
       record { groups = order-get t (sym is ∙ e) .1; accepted = get-judged; fits = omega (arith, ap length get-body) }
@@ -221,12 +239,33 @@ pub reply-laid : (s : State) (t : List ℕ) (o : Order) (w : List ℕ) (lf : Boo
     → last ≡ laid (w ++ endBytes lf) room → last ≡ laid (bodyOf s t o ++ replyEnd s) room
 reply-laid s t o w lf room last ew el h = h ∙ rw (ew, el)
 
--- a line of at most a hundred characters has a short reply
-pub body-short : (s : State) (t : List ℕ) (o : Order) → o ≡ orderOf t → orderVerdict s t o ≡ Accepted → length t ≤ 100 → length (bodyOf s t o) ≤ 304
-body-short s t order.Not is v h = omega arith
-body-short s t (order.Set n p) is v h = omega arith
-body-short s t (order.Conf n) is v h = omega (arith, conf-body-long s t (order.Conf n) n refl v)
-body-short s t order.Put is v h = omega arith
-body-short s t order.Get is v h = omega (arith, get-body-long s t order.Get refl is v)
-body-short s t order.Undo is v h = omega arith
-body-short s t order.Keep is v h = omega arith
+-- the words of a line of at most a hundred characters: nineteen
+
+abbrev pub bodyMost : Bool → ℕ
+bodyMost wide = cond wide 457 304
+
+pub body-most : (wide : Bool) → bodyMost wide ≤ 457
+body-most true = omega arith
+body-most false = omega arith
+
+words-few : (wide : Bool) (n : ℕ) → n ≤ 19 → getN wide n ≤ bodyMost wide
+words-few true n h = omega arith
+words-few false n h = omega arith
+
+some-few : (wide : Bool) (n : ℕ) → n ≤ 9 → n ≤ bodyMost wide
+some-few true n h = omega arith
+some-few false n h = omega arith
+
+-- so such a line has a short reply
+pub body-short : (s : State) (t : List ℕ) (o : Order) → o ≡ orderOf t → orderVerdict s t o ≡ Accepted → length t ≤ 100
+    → length (bodyOf s t o) ≤ bodyMost (isWide s)
+body-short s t order.Not is v h = some-few (isWide s) 0 (omega arith)
+body-short s t (order.Set n p) is v h = some-few (isWide s) 1 (omega arith)
+body-short s t (order.Conf n) is v h = some-few (isWide s) _ (omega (arith, conf-body-long s t (order.Conf n) n refl v))
+body-short s t order.Put is v h = some-few (isWide s) 1 (omega arith)
+body-short s t order.Get is v h =
+    let long = get-body-long s t order.Get refl is v in
+    let few = words-few (isWide s) ((length t - 5) / 5) (omega arith) in
+    omega (arith, long, few)
+body-short s t order.Undo is v h = some-few (isWide s) 1 (omega arith)
+body-short s t order.Keep is v h = some-few (isWide s) 1 (omega arith)

@@ -10,10 +10,12 @@ use lib.ListN.{length, getD, take}
 use Rattle.figures.specs.Bytes.{startsWith, sameBytes}
 use Rattle.units.specs.Kinds.{indexOf}
 use Rattle.words.specs.Reading.{pos}
-use Rattle.instrument.specs.Settings.{rows, noRow, rowAt, settingPlace, inRange, settingsN}
+use Rattle.instrument.specs.Settings.{rows100, rows300, rowsOf, noRow, rowAt, settingPlace, isAsked, inRange, settingsN}
 use Rattle.instrument.specs.Values.{putRight, putKept, keptRight, valuesN}
 use Rattle.state.specs.Entries.{entriesN}
 use Rattle.state.specs.Image.{imageOf, stateIn}
+use Rattle.instrument.specs.declared.settings.Series.{Series}
+use Rattle.instrument.specs.declared.settings.Series.the-variants.{Tps100, Tps300}
 use Rattle.instrument.specs.declared.settings.Row.{Row}
 use Rattle.instrument.specs.declared.settings.Found.{Found}
 use Rattle.instrument.specs.declared.settings.Found.the-variants.{Nothing, At}
@@ -28,7 +30,7 @@ use Rattle.lines.specs.Replies.{replyOf}
 use Rattle.lines.specs.Machine.{Outcome, outcome, step, Calls}
 use Rattle.lines.specs.declared.shapes.Order.{Order}
 use Rattle.lines.specs.declared.verdicts.Verdict.{Verdict}
-use Rattle.lines.specs.declared.verdicts.Verdict.the-variants.{Accepted, Unended, Long, Parameter, Word, Full, NoEntry, Room}
+use Rattle.lines.specs.declared.verdicts.Verdict.the-variants.{Accepted, Unended, Long, ReadOnly, Parameter, Word, Full, NoEntry, Room}
 use Rattle.lines.specs.declared.machine.Ran.{Ran}
 use Rattle.lines.proofs.Shape.{order-by}
 use Rattle.lines.proofs.Lookups.{setting-in, value-found, named}
@@ -101,7 +103,7 @@ module _ (image line room : List ℕ) (r : Ran) (room′ : List ℕ) (h : RanOn 
       let verdict = ap (λ (x : Ran). isAccepted (x .told .verdict)) (ends .0) in
       let left = left-so standing line (step standing line (length room)) (comes standing line (length room)) (λ a. f (verdict ∙ a)) in
       let same = ap (λ (x : Ran). imageOf (x .state)) (ends .0) ∙ ap imageOf left ∙ sym (image-of image (ran-image image line room r room′ h) .1) in
-      call-some image line room r room′ h image (sym (laid-down image line room r room′ h (r .state) ∙ same))
+      call-some image line room r room′ h image (sym (laid-down image line room r room′ h ∙ same))
 
   pub call-refused : isAccepted (r .told .verdict) ≡ false → Calls image line room (r .told) image room′
   call-refused n = call-left (λ a. absurd (false≢true (sym n ∙ a)))
@@ -129,33 +131,40 @@ bytes-at [] i e = omega arith
 bytes-at (r ∷ rs) zero e = leb-true (r .2) 255 (and-eq-true-iff (leb (r .2) 255) (bytes-high rs) .0 e .0)
 bytes-at (r ∷ rs) (suc i) e = bytes-at rs i (and-eq-true-iff (leb (r .2) 255) (bytes-high rs) .0 e .1)
 
-rows-high : (i : ℕ) → rowAt i .2 ≤ 255
-unfolding bytes-high rows
-rows-high i = bytes-at rows i refl
+rows-bytes : (k : Series) → bytes-high (rowsOf k) ≡ true
+unfolding bytes-high rows100 rows300
+rows-bytes Tps100 = refl
+rows-bytes Tps300 = refl
+
+rows-high : (k : Series) (i : ℕ) → rowAt k i .2 ≤ 255
+rows-high k i = bytes-at (rowsOf k) i (rows-bytes k)
 
 pub record SetRuns (s : State) (n p : ℕ) : Type 0 where
   pub at : ℕ
-  pub found : settingPlace n ≡ At at
-  pub place : at < settingsN
-  pub high : inRange (rowAt at) p ≡ true
+  pub found : settingPlace (s .series) n ≡ At at
+  pub place : at < settingsN (s .series)
+  pub plain : isAsked (rowAt (s .series) at) ≡ false
+  pub high : inRange (rowAt (s .series) at) p ≡ true
   pub free : s .count < entriesN
 
-pub set-runs : (s : State) (n p : ℕ) → setVerdict (s .count) n p ≡ Accepted → SetRuns s n p
-set-runs s n p e = go (settingPlace n) refl e
+pub set-runs : (s : State) (n p : ℕ) → setVerdict (s .series) (s .count) n p ≡ Accepted → SetRuns s n p
+set-runs s n p e = go (settingPlace (s .series) n) refl e
   where
-    low : (i : ℕ) (b : Bool) → inRange (rowAt i) p ≡ b → cond b (fullVerdict (s .count)) Parameter ≡ Accepted
-        → (inRange (rowAt i) p ≡ true) × (s .count < entriesN)
-    low i false h e = absurd (clash (cc))
-    low i true h e = (h, full-free (s .count) (leb entriesN (s .count)) refl e)
+    low : (i : ℕ) (a b : Bool) → isAsked (rowAt (s .series) i) ≡ a → inRange (rowAt (s .series) i) p ≡ b
+        → cond a ReadOnly (cond b (fullVerdict (s .count)) Parameter) ≡ Accepted
+        → (isAsked (rowAt (s .series) i) ≡ false) × ((inRange (rowAt (s .series) i) p ≡ true) × (s .count < entriesN))
+    low i true b g h e = absurd (clash (cc))
+    low i false false g h e = absurd (clash (cc))
+    low i false true g h e = (g, (h, full-free (s .count) (leb entriesN (s .count)) refl e))
 
-    go : (f : Found) → settingPlace n ≡ f → setBy (s .count) p f ≡ Accepted → SetRuns s n p
+    go : (f : Found) → settingPlace (s .series) n ≡ f → setBy (s .series) (s .count) p f ≡ Accepted → SetRuns s n p
     go Nothing f e = absurd (clash (cc))
     go (At i) f e =
-        let h = low i (inRange (rowAt i) p) refl e in
-        record { at = i; found = f; place = setting-in n i f; high = h .0; free = h .1 }
+        let h = low i (isAsked (rowAt (s .series) i)) (inRange (rowAt (s .series) i) p) refl refl e in
+        record { at = i; found = f; place = setting-in (s .series) n i f; plain = h .0; high = h .1 .0; free = h .1 .1 }
 
 pub set-byte : (s : State) (n p : ℕ) → SetRuns s n p → p < 256
-set-byte s n p r = omega (arith, range-high (rowAt (r .at)) p (r .high), rows-high (r .at))
+set-byte s n p r = omega (arith, range-high (rowAt (s .series) (r .at)) p (r .high), rows-high (s .series) (r .at))
 
 -- PUT
 

@@ -25,7 +25,7 @@ done-parts : (s : State) (t : List ℕ) (o : Order) → orderOf t ≡ o → orde
 done-parts s t Not e v p = p
 done-parts s t (Set n q) e v p =
     let r = set-runs s n q v in
-    rw (r .found) (set-parts s (r .at) q p (r .free) (r .place) (r .high))
+    rw (r .found) (set-parts s (r .at) q p (r .free) (r .place) (r .plain) (r .high))
 done-parts s t (Conf n) e v p = p
 done-parts s t Put e v p =
     let r = put-runs s (drop 4 t) v in

@@ -43,7 +43,7 @@ blank-is e h =
 
 -- the state with an entry more
 abbrev pub added : State → List ℕ → List Value → Entry → State
-added s settings values e = stateOf settings values (pushed s e) (s .count + 1)
+added s settings values e = stateOf (s .series) settings values (pushed s e) (s .count + 1)
 
 -- what is taken back is what stood, and the freed entry is blank again
 undo-added : (s : State) (settings : List ℕ) (values : List Value) (e : Entry) → Parts s → s .count < entriesN
@@ -55,9 +55,9 @@ undo-added s settings values e p free a b =
     let u = s .undo in
     let n = s .count in
     let last : getD (set u n e) n blankEntry ≡ e = getD-set-same u n e blankEntry (omega (arith, p .undo-long)) in
-    let blank : getD u n blankEntry ≡ blankEntry = blank-is (getD u n blankEntry) (entries-blank u n n (p .entries-right) (omega arith)) in
+    let blank : getD u n blankEntry ≡ blankEntry = blank-is (getD u n blankEntry) (entries-blank (s .series) u n n (p .entries-right) (omega arith)) in
     let freed : set (set u n e) n blankEntry ≡ u = set-set u n e blankEntry ∙ ap (set u n) (sym blank) ∙ set-getD u n blankEntry in
-    rw (some, q, last) (state-path _ s a b freed refl)
+    rw (some, q, last) (state-path _ s refl a b freed refl)
 
 pub undo-set : (s : State) (i p : ℕ) → Parts s → s .count < entriesN → undoOf (setOf s i p) ≡ s
 undo-set s i p parts free =

@@ -9,8 +9,9 @@ use lib.ListN.{length, getD}
 use Rattle.figures.specs.Bytes.{every, startsWith}
 use Rattle.figures.specs.Decimal.{numberFrom}
 use Rattle.instrument.specs.Rows.{seek}
-use Rattle.instrument.specs.Settings.{rows}
-use Rattle.state.specs.Entries.{factoryState}
+use Rattle.instrument.specs.Settings.{rows100}
+use Rattle.instrument.specs.declared.settings.Series.the-variants.{Tps100}
+use Rattle.state.specs.Entries as entries
 use Rattle.state.specs.declared.entries.State.{State}
 use Rattle.lines.specs.Shapes.{slashAt, textOf, orderOf}
 use Rattle.lines.specs.Verdicts.{isAccepted}
@@ -66,6 +67,10 @@ module _ (m : Machine) (exact : Exact m) where
 pub step-plays : Plays (λ k. step)
 step-plays = exact-plays (λ k. step) (λ k s line room. refl)
 
+-- they are tried on a TPS100
+abbrev factoryState : State
+factoryState = entries.factoryState Tps100
+
 -- `SET/30/1`, `SET/32/1` and `UNDO`, each with its CR
 
 set-30 : List ℕ
@@ -79,7 +84,7 @@ undo-line = 85 ∷ 78 ∷ 68 ∷ 79 ∷ 13 ∷ []
 
 -- what a line computes with
 computing : Unit {0}
-unfolding set-30 set-32 undo-line every startsWith numberFrom slashAt seek rows afterBy marksBy strike playAll
+unfolding set-30 set-32 undo-line every startsWith numberFrom slashAt seek rows100 afterBy marksBy strike playAll
 computing = tt
 
 -- room for the longest reply to one of these
@@ -94,7 +99,7 @@ refuses-all m no-line h =
 
 -- it answers `?` to all, in the factory state at least
 pub agrees-to-all : (m : Machine) → ((line : List ℕ) (room : ℕ) → m 0 factoryState line room .reply ≡ done ++ replyEnd factoryState) → Exact m → ⊥
-unfolding rows seek
+unfolding rows100 seek
 agrees-to-all m all h =
     eqb-false 3 7 refl (ap length (sym (all [] enough) ∙ ap (λ (o : Outcome). o .reply) (h 0 factoryState [] enough)))
 
@@ -152,7 +157,7 @@ Differs m lines i = eqb (came m lines i) (wanted m lines i) ≡ false
 fails : (m : Machine) (lines : List (List ℕ)) (i : ℕ) → Differs m lines i → Plays m → ⊥
 fails m lines i e h =
     eqb-false (came m lines i) (wanted m lines i) e
-    (ap (λ (c : Contents). getD (c .settings) i 0) (h factoryState factory-start (calls lines)))
+    (ap (λ (c : Contents). getD (c .settings) i 0) (h factoryState (factory-start Tps100) (calls lines)))
 
 pub idle-fails : Plays idle → ⊥
 unfolding calls computing

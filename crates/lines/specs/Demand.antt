@@ -8,6 +8,7 @@ use Rattle.words.specs.Reading.{pos}
 use Rattle.instrument.specs.Settings.{settingPlace}
 use Rattle.instrument.specs.Values.{putKept}
 use Rattle.state.specs.Entries.{valueOf, isState}
+use Rattle.instrument.specs.declared.settings.Series.{Series}
 use Rattle.instrument.specs.declared.settings.Found.{Found}
 use Rattle.instrument.specs.declared.settings.Found.the-variants.{Nothing, At}
 use Rattle.instrument.specs.declared.values.Kept.{Kept}
@@ -34,26 +35,27 @@ unfoldable pub after : State → List Call → State
 after s [] = s
 after s (c ∷ cs) = after (step s (c .line) (c .room) .next) cs
 
--- settings and stored values
+-- settings and stored values, of a series
 pub record Contents : Type 0 where
+  pub series : Series
   pub settings : List ℕ
   pub values : List Value
 
 abbrev pub contentsOf : State → Contents
-contentsOf s = record { settings = s .settings; values = s .values }
+contentsOf s = record { series = s .series; settings = s .settings; values = s .values }
 
 abbrev pub setting : Contents → ℕ → Found → Contents
 setting c p Nothing = c
-setting c p (At i) = record { settings = set (c .settings) i p; values = c .values }
+setting c p (At i) = record { series = c .series; settings = set (c .settings) i p; values = c .values }
 
 abbrev pub value : Contents → Kept → Found → Contents
 value c k Nothing = c
-value c k (At i) = record { settings = c .settings; values = set (c .values) i (valueOf k) }
+value c k (At i) = record { series = c .series; settings = c .settings; values = set (c .values) i (valueOf k) }
 
 -- "playing a line only stores what it names"
 abbrev pub stores : Contents → List ℕ → Order → Contents
 stores c t Not = c
-stores c t (Set n p) = setting c p (settingPlace n)
+stores c t (Set n p) = setting c p (settingPlace (c .series) n)
 stores c t (Conf n) = c
 stores c t Put = value c (putKept (drop 4 t)) (placeNamed (pos 1 (drop 4 t)) (pos 2 (drop 4 t)))
 stores c t Get = c

@@ -1,10 +1,11 @@
 -- How the code keeps what the other files define: what a line comes to before the image is laid down, and what may be relied on there.
-use Prim.Native.Nat.{ℕ, _≤_}
+use Prim.Native.Nat.{ℕ, _+_, _*_, _≤_}
 use mathlib.Core.Path.{_≡_}
 use mathlib.Core.List.{List}
-use mathlib.Core.Bool.{true}
+use mathlib.Core.Bool.{Bool, true}
 use lib.ListN.{length}
 use Rattle.figures.specs.Bytes.{laid}
+use Rattle.words.specs.Reading.{wordSize}
 use Rattle.state.specs.declared.entries.State.{State}
 use Rattle.lines.specs.declared.verdicts.Verdict.{Verdict}
 use Rattle.lines.specs.declared.machine.Ran.{Ran}
@@ -14,7 +15,7 @@ use Rattle.lines.specs.Shapes.{groupsRight, groupsIn, orderOf}
 use Rattle.lines.specs.Verdicts.{getVerdict, orderVerdict}
 use Rattle.lines.specs.declared.shapes.Order.{Order}
 use Rattle.lines.specs.declared.verdicts.Verdict.the-variants.{Accepted}
-use Rattle.lines.specs.Replies.{getBody}
+use Rattle.lines.specs.Replies.{star}
 
 -- what a line that runs to an outcome comes to in a room
 abbrev pub ranOf : Verdict → ℕ → State → Ran
@@ -24,11 +25,15 @@ abbrev pub Ends : State → Outcome → List ℕ → Ran → List ℕ → Type 0
 Ends s o room r room′ =
     let f = replyInRoom s (length room) o in (r ≡ ranOf (f .verdict) (length (f .reply)) (f .next)) × (room′ ≡ laid (f .reply) room)
 
--- what the code that runs a line and writes its reply may rely on: the line is accepted, and for GET its words fit
+-- what the code that runs a line and writes its reply may rely on: the line is accepted, and for GET what it answers fits
 abbrev pub Accepts : State → List ℕ → Order → Type 0
 Accepts s t o = (o ≡ orderOf t) × ((orderVerdict s t o ≡ Accepted) × (length t ≤ 100))
 
-pub record GetFits (values : List Value) (g room : List ℕ) : Type 0 where
+pub record GetFits (values : List Value) (g body room : List ℕ) : Type 0 where
   pub groups : groupsRight (groupsIn g) g ≡ true
   pub accepted : getVerdict values (groupsIn g) g ≡ Accepted
-  pub fits : length (getBody values (groupsIn g) g) ≤ length room
+  pub fits : length body ≤ length room
+
+-- how long the words of so many indexes are
+abbrev pub getN : Bool → ℕ → ℕ
+getN wide n = length (star wide) + n * wordSize wide

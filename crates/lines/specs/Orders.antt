@@ -9,6 +9,7 @@ use Rattle.words.specs.Reading.{pos}
 use Rattle.instrument.specs.Settings.{settingPlace}
 use Rattle.instrument.specs.Values.{putKept}
 use Rattle.state.specs.Entries.{valueOf, entryOf, blankEntry, noEntries}
+use Rattle.instrument.specs.declared.settings.Series.{Series}
 use Rattle.instrument.specs.declared.settings.Found.{Found}
 use Rattle.instrument.specs.declared.settings.Found.the-variants.{Nothing, At}
 use Rattle.instrument.specs.declared.values.Kept.{Kept}
@@ -23,18 +24,19 @@ use Rattle.lines.specs.Verdicts.{placeNamed, valueHeld}
 use Rattle.lines.specs.declared.shapes.Order.{Order}
 use Rattle.lines.specs.declared.shapes.Order.the-variants as order
 
-abbrev pub stateOf : List ℕ → List Value → List Entry → ℕ → State
-stateOf settings values undo count = record { settings = settings; values = values; undo = undo; count = count }
+abbrev pub stateOf : Series → List ℕ → List Value → List Entry → ℕ → State
+stateOf k settings values undo count = record { series = k; settings = settings; values = values; undo = undo; count = count }
 
 -- an entry more
 abbrev pub pushed : State → Entry → List Entry
 pushed s e = set (s .undo) (s .count) e
 
 abbrev pub setOf : State → ℕ → ℕ → State
-setOf s i p = stateOf (set (s .settings) i p) (s .values) (pushed s (entryOf (Setting i) (getD (s .settings) i 0) Never)) (s .count + 1)
+setOf s i p = stateOf (s .series) (set (s .settings) i p) (s .values) (pushed s (entryOf (Setting i) (getD (s .settings) i 0) Never)) (s .count + 1)
 
 abbrev pub putOf : State → ℕ → Kept → State
-putOf s i k = stateOf (s .settings) (set (s .values) i (valueOf k)) (pushed s (entryOf (Stored i) 0 (valueHeld (s .values) i .kept))) (s .count + 1)
+putOf s i k =
+    stateOf (s .series) (s .settings) (set (s .values) i (valueOf k)) (pushed s (entryOf (Stored i) 0 (valueHeld (s .values) i .kept))) (s .count + 1)
 
 -- an item with its former content again
 abbrev pub settingsBack : List ℕ → Item → Former → List ℕ
@@ -52,14 +54,14 @@ newest s = getD (s .undo) (s .count - 1) blankEntry
 
 abbrev pub takenBack : State → Entry → State
 takenBack s e =
-    stateOf (settingsBack (s .settings) (e .item) (e .former)) (valuesBack (s .values) (e .item) (e .former)) (set (s .undo) (s .count - 1) blankEntry)
+    stateOf (s .series) (settingsBack (s .settings) (e .item) (e .former)) (valuesBack (s .values) (e .item) (e .former)) (set (s .undo) (s .count - 1) blankEntry)
     (s .count - 1)
 
 abbrev pub undoOf : State → State
 undoOf s = cond (eqb (s .count) 0) s (takenBack s (newest s))
 
 abbrev pub keepOf : State → State
-keepOf s = noEntries (s .settings) (s .values)
+keepOf s = noEntries (s .series) (s .settings) (s .values)
 
 -- by what the line names; one that names nothing isn't accepted
 abbrev pub setNamed : State → ℕ → Found → State
@@ -67,7 +69,7 @@ setNamed s p Nothing = s
 setNamed s p (At i) = setOf s i p
 
 abbrev pub setDone : State → ℕ → ℕ → State
-setDone s n p = setNamed s p (settingPlace n)
+setDone s n p = setNamed s p (settingPlace (s .series) n)
 
 abbrev pub putNamed : State → Kept → Found → State
 putNamed s k Nothing = s

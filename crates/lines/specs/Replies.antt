@@ -7,7 +7,8 @@ use lib.ListN.{getD, drop}
 use Rattle.figures.specs.Text.{codes, endBytes}
 use Rattle.figures.specs.Decimal.{digitsOf}
 use Rattle.instrument.specs.Settings.{settingPlace, parameterOf}
-use Rattle.instrument.specs.Values.{getWord}
+use Rattle.instrument.specs.Values.{getWord, wordIn}
+use Rattle.instrument.specs.declared.settings.Series.{Series}
 use Rattle.instrument.specs.declared.settings.Found.{Found}
 use Rattle.instrument.specs.declared.settings.Found.the-variants.{Nothing, At}
 use Rattle.instrument.specs.declared.values.Value.{Value}
@@ -19,7 +20,7 @@ use Rattle.lines.specs.declared.shapes.Order.the-variants as order
 use Rattle.lines.specs.declared.verdicts.Verdict.{Verdict}
 
 abbrev pub endsLf : State → Bool
-endsLf s = not (eqb (parameterOf (s .settings) 73) 0)
+endsLf s = not (eqb (parameterOf (s .series) (s .settings) 73) 0)
 
 abbrev pub replyEnd : State → List ℕ
 replyEnd s = endBytes (endsLf s)
@@ -37,25 +38,35 @@ abbrev pub confAt : List ℕ → ℕ → Found → List ℕ
 confAt settings n Nothing = []
 confAt settings n (At i) = digitsOf 4 n ++ (codes "/" ++ digitsOf 4 (getD settings i 0))
 
-abbrev pub confBody : List ℕ → ℕ → List ℕ
-confBody settings n = confAt settings n (settingPlace n)
+abbrev pub confBody : Series → List ℕ → ℕ → List ℕ
+confBody k settings n = confAt settings n (settingPlace k n)
 
 -- "Reply: the words in that order, each with its blank; an index may repeat."
-abbrev pub wordAt : List Value → Found → List ℕ
-wordAt values Nothing = []
-wordAt values (At i) = getWord i (valueHeld values i .kept)
+abbrev pub wordAt : Bool → List Value → Found → List ℕ
+wordAt wide values Nothing = []
+wordAt wide values (At i) = wordIn wide (getWord i (valueHeld values i .kept))
 
-unfoldable pub getBody : List Value → ℕ → List ℕ → List ℕ
-getBody values zero g = []
-getBody values (suc n) g = wordAt values (placeNamed (getD g 3 0) (getD g 4 0)) ++ getBody values n (drop 5 g)
+unfoldable pub getWords : Bool → List Value → ℕ → List ℕ → List ℕ
+getWords wide values zero g = []
+getWords wide values (suc n) g = wordAt wide values (placeNamed (getD g 3 0) (getD g 4 0)) ++ getWords wide values n (drop 5 g)
+
+-- "When 137 is 1, GET answers a `*` and then wide words" (request 103); a series that hasn't 137 never does
+abbrev pub isWide : State → Bool
+isWide s = not (eqb (parameterOf (s .series) (s .settings) 137) 0)
+
+abbrev pub star : Bool → List ℕ
+star wide = cond wide (codes "*") []
+
+abbrev pub getBody : Bool → List Value → ℕ → List ℕ → List ℕ
+getBody wide values n g = star wide ++ getWords wide values n g
 
 -- the reply to an accepted line, without its end
 abbrev pub bodyOf : State → List ℕ → Order → List ℕ
 bodyOf s t order.Not = []
 bodyOf s t (order.Set n p) = done
-bodyOf s t (order.Conf n) = confBody (s .settings) n
+bodyOf s t (order.Conf n) = confBody (s .series) (s .settings) n
 bodyOf s t order.Put = done
-bodyOf s t order.Get = getBody (s .values) (groupsIn (drop 5 t)) (drop 5 t)
+bodyOf s t order.Get = getBody (isWide s) (s .values) (groupsIn (drop 5 t)) (drop 5 t)
 bodyOf s t order.Undo = done
 bodyOf s t order.Keep = done
 

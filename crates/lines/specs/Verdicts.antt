@@ -1,4 +1,4 @@
--- Refusals 20 to 31: "Order: 31, then 20 to 29 as numbered (GET judges its first index by 25 then 27, then the next likewise), then 30".
+-- Refusals 20 to 31 and 38: "Order: 31, then 20 to 29 as numbered (GET judges its first index by 25 then 27, then the next likewise), then 30".
 use Prim.Native.Nat.{ℕ, zero, suc}
 use mathlib.Core.Bool.{Bool, cond, _&&_}
 use mathlib.Core.List.{List}
@@ -7,9 +7,10 @@ use lib.ListN.{length, getD, drop}
 use Rattle.figures.specs.Decimal.{isDigit}
 use Rattle.units.specs.Kinds.{indexOf}
 use Rattle.words.specs.Reading.{pos}
-use Rattle.instrument.specs.Settings.{rowAt, settingPlace, inRange}
+use Rattle.instrument.specs.Settings.{rowAt, settingPlace, isAsked, inRange}
 use Rattle.instrument.specs.Values.{valuePlace, putRight, isPut}
 use Rattle.state.specs.Entries.{entriesN, valueOf}
+use Rattle.instrument.specs.declared.settings.Series.{Series}
 use Rattle.instrument.specs.declared.settings.Found.{Found}
 use Rattle.instrument.specs.declared.settings.Found.the-variants.{Nothing, At}
 use Rattle.instrument.specs.declared.values.Kept.the-variants.{Never}
@@ -19,7 +20,7 @@ use Rattle.lines.specs.Shapes.{isEnded, textOf, groupsIn, orderOf}
 use Rattle.lines.specs.declared.shapes.Order.{Order}
 use Rattle.lines.specs.declared.shapes.Order.the-variants as order
 use Rattle.lines.specs.declared.verdicts.Verdict.{Verdict}
-use Rattle.lines.specs.declared.verdicts.Verdict.the-variants.{Accepted, Unended, Long, Shape, Setting, Parameter}
+use Rattle.lines.specs.declared.verdicts.Verdict.the-variants.{Accepted, Unended, Long, Shape, Setting, ReadOnly, Parameter}
 use Rattle.lines.specs.declared.verdicts.Verdict.the-variants.{Index, Word, NeverPut, Full, NoEntry, Room, NoState}
 
 abbrev pub verdictNumber : Verdict → ℕ
@@ -28,6 +29,7 @@ verdictNumber Unended = 20
 verdictNumber Long = 21
 verdictNumber Shape = 22
 verdictNumber Setting = 23
+verdictNumber ReadOnly = 38
 verdictNumber Parameter = 24
 verdictNumber Index = 25
 verdictNumber Word = 26
@@ -44,21 +46,21 @@ isAccepted v = eqb (verdictNumber v) 0
 abbrev pub fullVerdict : ℕ → Verdict
 fullVerdict count = cond (leb entriesN count) Full Accepted
 
--- 23, 24, 28
-abbrev pub setBy : ℕ → ℕ → Found → Verdict
-setBy count p Nothing = Setting
-setBy count p (At i) = cond (inRange (rowAt i) p) (fullVerdict count) Parameter
+-- 23, 38, 24, 28; "38 for SET of a read-only number, after 23" (request 103)
+abbrev pub setBy : Series → ℕ → ℕ → Found → Verdict
+setBy k count p Nothing = Setting
+setBy k count p (At i) = cond (isAsked (rowAt k i)) ReadOnly (cond (inRange (rowAt k i) p) (fullVerdict count) Parameter)
 
-abbrev pub setVerdict : ℕ → ℕ → ℕ → Verdict
-setVerdict count n p = setBy count p (settingPlace n)
+abbrev pub setVerdict : Series → ℕ → ℕ → ℕ → Verdict
+setVerdict k count n p = setBy k count p (settingPlace k n)
 
 -- 23
 abbrev pub confBy : Found → Verdict
 confBy Nothing = Setting
 confBy (At i) = Accepted
 
-abbrev pub confVerdict : ℕ → Verdict
-confVerdict n = confBy (settingPlace n)
+abbrev pub confVerdict : Series → ℕ → Verdict
+confVerdict k n = confBy (settingPlace k n)
 
 -- the place of the stored value that two characters name
 abbrev pub placeNamed : ℕ → ℕ → Found
@@ -88,17 +90,17 @@ getVerdict values (suc n) g = getBy values (placeNamed (getD g 3 0) (getD g 4 0)
 abbrev pub undoVerdict : ℕ → Verdict
 undoVerdict count = cond (eqb count 0) NoEntry Accepted
 
--- 22 to 29
+-- 22 to 29 and 38
 abbrev pub orderVerdict : State → List ℕ → Order → Verdict
 orderVerdict s t order.Not = Shape
-orderVerdict s t (order.Set n p) = setVerdict (s .count) n p
-orderVerdict s t (order.Conf n) = confVerdict n
+orderVerdict s t (order.Set n p) = setVerdict (s .series) (s .count) n p
+orderVerdict s t (order.Conf n) = confVerdict (s .series) n
 orderVerdict s t order.Put = putVerdict (s .count) (drop 4 t)
 orderVerdict s t order.Get = getVerdict (s .values) (groupsIn (drop 5 t)) (drop 5 t)
 orderVerdict s t order.Undo = undoVerdict (s .count)
 orderVerdict s t order.Keep = Accepted
 
--- 20 to 29; 21: "over 100 characters"
+-- 20 to 29 and 38; 21: "over 100 characters"
 abbrev pub lineVerdict : State → List ℕ → Verdict
 lineVerdict s line =
     cond (isEnded line) (cond (leb (length (textOf line)) 100) (orderVerdict s (textOf line) (orderOf (textOf line))) Long) Unended

@@ -3,7 +3,7 @@ ghost use mathlib.Core.Path.{_≡_};
 ghost use Prim.Native.Nat.{_<_, _≤_};
 ghost use Rattle.state.specs.Entries.{entriesN};
 ghost use Rattle.instrument.specs.Values.{valuesN};
-ghost use Rattle.instrument.specs.Settings.{settingsN};
+ghost use Rattle.instrument.specs.Settings.{settingsMost};
 ghost use Rattle.lines.specs.Verdicts.{setVerdict, putVerdict};
 ghost use Rattle.lines.specs.Orders.{setOf, putOf, undoOf, keepOf, setDone, putDone, doneOf};
 ghost use Rattle.lines.specs.Keeping.{Accepts};
@@ -36,7 +36,7 @@ fn byte(n: usize) -> u8
 
 // The parameter stored, and the former one kept in an entry.
 pub(crate) fn set(s: State, place: usize, parameter: u8) -> State
-    requires { ⌜ (place < settingsN) × (s .count < entriesN) ⌝ }
+    requires { ⌜ (place < settingsMost) × (s .count < entriesN) ⌝ }
     ensures { λ r. ⌜ r ≡ setOf s place parameter ⌝ }
 {
     let n = s.count;
@@ -121,9 +121,10 @@ pub(crate) fn undo(s: State) -> State
 pub(crate) fn keep(s: State) -> State
     ensures { λ r. ⌜ r ≡ keepOf s ⌝ }
 {
+    let series = s.series;
     let settings = s.settings;
     let values = s.values;
-    with_no_entries(settings, values)
+    with_no_entries(series, settings, values)
 }
 
 fn small(n: u64) -> u8
@@ -134,10 +135,11 @@ fn small(n: u64) -> u8
 }
 
 fn set_done(s: State, number: u64, parameter: u64) -> State
-    requires { ⌜ setVerdict (s .count) number parameter ≡ Verdict.Verdict.Accepted ⌝ }
+    requires { ⌜ setVerdict (s .series) (s .count) number parameter ≡ Verdict.Verdict.Accepted ⌝ }
     ensures { λ r. ⌜ r ≡ setDone s number parameter ⌝ }
 {
-    let Found::At(place) = setting_of(number) else {
+    let series = s.series;
+    let Found::At(place) = setting_of(series, number) else {
         return s;
     };
     set(s, place, small(parameter))

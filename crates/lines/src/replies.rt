@@ -4,10 +4,12 @@ ghost use mathlib.Core.List.{_++_};
 ghost use Prim.Native.Nat.{_+_, _≤_};
 ghost use lib.ListN.{length};
 ghost use Rattle.figures.specs.Bytes.{laid};
+ghost use Rattle.words.specs.Reading.{wordSize};
+ghost use Rattle.instrument.specs.Values.{wordIn};
 ghost use Rattle.lines.specs.Shapes.{groupsIn};
 ghost use Rattle.lines.specs.Verdicts.{confVerdict};
-ghost use Rattle.lines.specs.Replies.{endsLf, replyEnd, wrong, confBody, getBody, bodyOf};
-ghost use Rattle.lines.specs.Keeping.{GetFits, Accepts};
+ghost use Rattle.lines.specs.Replies.{endsLf, isWide, replyEnd, wrong, confBody, star, getWords, getBody, bodyOf};
+ghost use Rattle.lines.specs.Keeping.{GetFits, getN, Accepts};
 ghost use Rattle.figures.specs.Text.{endBytes};
 ghost use Rattle.lines.specs.declared.verdicts.Verdict as Verdict;
 use crate::shapes::Order;
@@ -16,18 +18,33 @@ use crate::verdicts::setting_of;
 use figures::casts::wide;
 use instrument::settings::Found;
 use instrument::settings::SETTINGS;
-use instrument::settings::parameter_of;
+use instrument::settings::Series;
 use instrument::values::VALUES;
 use instrument::values::Value;
 use instrument::values::get_word;
+use instrument::values::widen;
 use state::entries::State;
 
-// Whether a reply ends in CR LF: setting 73.
+// Whether a reply ends in CR LF: setting 73, which each reply asks for and so isn't looked up.
 pub(crate) fn ends_lf(s: State) -> bool
     ensures { λ r. ⌜ r ≡ endsLf s ⌝ }
 {
-    let settings = s.settings;
-    parameter_of(settings, 73) != 0
+    let series = s.series;
+    match series {
+        Series::Tps100 => s.settings[10] != 0,
+        Series::Tps300 => s.settings[9] != 0,
+    }
+}
+
+// Whether GET answers in wide words: setting 137, where the series has it.
+fn is_wide(s: State) -> bool
+    ensures { λ r. ⌜ r ≡ isWide s ⌝ }
+{
+    let series = s.series;
+    match series {
+        Series::Tps100 => false,
+        Series::Tps300 => s.settings[25] != 0,
+    }
 }
 
 // Lays CR or CR LF.
@@ -51,10 +68,34 @@ fn put_text(w: &[u8], lf: bool, room: &mut [u8])
     put_end(lf, &mut room[n..]);
 }
 
+// Lays the `*` of wide words, and answers its length.
+fn put_star(wide: bool, room: &mut [u8]) -> usize
+    ensures { λ r. ⌜ (r ≡ length (star wide)) × (now (room .exit) ≡ laid (star wide) (now (room .entry))) ⌝ }
+{
+    if wide {
+        figures::lay(b"*", room);
+        return 1;
+    }
+    0
+}
+
+// Lays a word in its width, and answers its length.
+fn put_word(wide: bool, word: [u8; 16], room: &mut [u8]) -> usize
+    ensures { λ r. ⌜ (r ≡ wordSize wide) × (now (room .exit) ≡ laid (wordIn wide word) (now (room .entry))) ⌝ }
+{
+    if wide {
+        let long = widen(word);
+        figures::lay(&long, room);
+        return 24;
+    }
+    figures::lay(&word, room);
+    16
+}
+
 // Lays the words that GET answers, each into the part of the room that starts after the words before it.
-fn put_get(values: [Value; VALUES], groups: &[u8], room: &mut [u8])
-    requires { ⌜ GetFits values (now groups) (now room) ⌝ }
-    ensures { λ _. ⌜ now (room .exit) ≡ laid (getBody values (groupsIn (now (groups .entry))) (now (groups .entry))) (now (room .entry)) ⌝ }
+fn put_get(wide: bool, values: [Value; VALUES], groups: &[u8], room: &mut [u8])
+    requires { ⌜ GetFits values (now groups) (getWords wide values (groupsIn (now groups)) (now groups)) (now room) ⌝ }
+    ensures { λ _. ⌜ now (room .exit) ≡ laid (getWords wide values (groupsIn (now (groups .entry))) (now (groups .entry))) (now (room .entry)) ⌝ }
 {
     let mut i = 0;
     let mut at = 0;
@@ -68,19 +109,28 @@ fn put_get(values: [Value; VALUES], groups: &[u8], room: &mut [u8])
         let value = values[place];
         let kept = value.kept;
         let word = get_word(place, kept);
-        figures::lay(&word, &mut room[at..]);
-        at += 16;
+        let n = put_word(wide, word, &mut room[at..]);
+        at += n;
         i += 5;
     }
 }
 
+// Lays what GET answers: the words, after a `*` where they are wide.
+fn put_words(wide: bool, values: [Value; VALUES], groups: &[u8], room: &mut [u8])
+    requires { ⌜ GetFits values (now groups) (getBody wide values (groupsIn (now groups)) (now groups)) (now room) ⌝ }
+    ensures { λ _. ⌜ now (room .exit) ≡ laid (getBody wide values (groupsIn (now (groups .entry))) (now (groups .entry))) (now (room .entry)) ⌝ }
+{
+    let at = put_star(wide, room);
+    put_get(wide, values, groups, &mut room[at..]);
+}
+
 // The nine characters that CONF answers.
-fn conf_body(settings: [u8; SETTINGS], number: u64) -> [u8; 9]
-    requires { ⌜ confVerdict number ≡ Verdict.Verdict.Accepted ⌝ }
-    ensures { λ r. ⌜ r ≡ confBody settings number ⌝ }
+fn conf_body(series: Series, settings: [u8; SETTINGS], number: u64) -> [u8; 9]
+    requires { ⌜ confVerdict series number ≡ Verdict.Verdict.Accepted ⌝ }
+    ensures { λ r. ⌜ r ≡ confBody series settings number ⌝ }
 {
     let mut body = [b'/'; 9];
-    let Found::At(place) = setting_of(number) else {
+    let Found::At(place) = setting_of(series, number) else {
         return body;
     };
     if SETTINGS <= place {
@@ -89,6 +139,17 @@ fn conf_body(settings: [u8; SETTINGS], number: u64) -> [u8; 9]
     figures::put_number(number, &mut body[0..4]);
     figures::put_number(wide(settings[place]), &mut body[5..9]);
     body
+}
+
+// How long the words of so many indexes are.
+fn get_length(wide: bool, indexes: usize) -> usize
+    requires { ⌜ indexes ≤ 100 ⌝ }
+    ensures { λ r. ⌜ r ≡ getN wide indexes ⌝ }
+{
+    if wide {
+        return 1 + indexes * 24;
+    }
+    indexes * 16
 }
 
 // The length of the reply to an accepted line, without its end.
@@ -101,7 +162,7 @@ pub(crate) fn body_length(s: State, text: &[u8], order: Order) -> usize
         Order::Set(_, _) => 1,
         Order::Conf(_) => 9,
         Order::Put => 1,
-        Order::Get => (text.len() - 5) / 5 * 16,
+        Order::Get => get_length(is_wide(s), (text.len() - 5) / 5),
         Order::Undo => 1,
         Order::Keep => 1,
     }
@@ -115,14 +176,16 @@ pub(crate) fn put_reply(s: State, text: &[u8], order: Order, room: &mut [u8])
     let lf = ends_lf(s);
     match order {
         Order::Conf(number) => {
+            let series = s.series;
             let settings = s.settings;
-            let body = conf_body(settings, number);
+            let body = conf_body(series, settings, number);
             put_text(&body, lf, room);
         }
         Order::Get => {
             let values = s.values;
-            let n = (text.len() - 5) / 5 * 16;
-            put_get(values, &text[5..], room);
+            let wide = is_wide(s);
+            let n = get_length(wide, (text.len() - 5) / 5);
+            put_words(wide, values, &text[5..], room);
             put_end(lf, &mut room[n..]);
         }
         Order::Not => put_end(lf, room),

@@ -8,6 +8,7 @@ ghost use Rattle.lines.specs.Shapes.{groupsRight, groupsIn, orderOf};
 ghost use Rattle.lines.specs.Verdicts.{verdictNumber, isAccepted, fullVerdict, setVerdict, confVerdict, placeNamed, putVerdict, getVerdict, orderVerdict};
 use crate::shapes::Order;
 use instrument::settings::Found;
+use instrument::settings::Series;
 use instrument::settings::in_range;
 use instrument::settings::row_at;
 use instrument::settings::setting_at;
@@ -27,6 +28,7 @@ pub enum Verdict {
     Long,
     Shape,
     Setting,
+    ReadOnly,
     Parameter,
     Index,
     Word,
@@ -47,6 +49,7 @@ pub fn verdict_number(verdict: Verdict) -> u64
         Verdict::Long => 21,
         Verdict::Shape => 22,
         Verdict::Setting => 23,
+        Verdict::ReadOnly => 38,
         Verdict::Parameter => 24,
         Verdict::Index => 25,
         Verdict::Word => 26,
@@ -74,14 +77,14 @@ fn small(n: u64) -> u16
     n as u16
 }
 
-// A place among the settings, for a number of any size.
-pub(crate) fn setting_of(number: u64) -> Found
-    ensures { λ r. ⌜ r ≡ settingPlace number ⌝ }
+// A place among the series' settings, for a number of any size.
+pub(crate) fn setting_of(series: Series, number: u64) -> Found
+    ensures { λ r. ⌜ r ≡ settingPlace series number ⌝ }
 {
     if 9999 < number {
         return Found::Nothing;
     }
-    setting_at(small(number))
+    setting_at(series, small(number))
 }
 
 fn full(count: usize) -> Verdict
@@ -94,22 +97,26 @@ fn full(count: usize) -> Verdict
     }
 }
 
-fn set_verdict(count: usize, number: u64, parameter: u64) -> Verdict
-    ensures { λ r. ⌜ r ≡ setVerdict count number parameter ⌝ }
+fn set_verdict(series: Series, count: usize, number: u64, parameter: u64) -> Verdict
+    ensures { λ r. ⌜ r ≡ setVerdict series count number parameter ⌝ }
 {
-    let Found::At(place) = setting_of(number) else {
+    let Found::At(place) = setting_of(series, number) else {
         return Verdict::Setting;
     };
-    if !in_range(row_at(place), parameter) {
+    let row = row_at(series, place);
+    if row.4 {
+        return Verdict::ReadOnly;
+    }
+    if !in_range(row, parameter) {
         return Verdict::Parameter;
     }
     full(count)
 }
 
-fn conf_verdict(number: u64) -> Verdict
-    ensures { λ r. ⌜ r ≡ confVerdict number ⌝ }
+fn conf_verdict(series: Series, number: u64) -> Verdict
+    ensures { λ r. ⌜ r ≡ confVerdict series number ⌝ }
 {
-    let Found::At(_) = setting_of(number) else {
+    let Found::At(_) = setting_of(series, number) else {
         return Verdict::Setting;
     };
     Verdict::Accepted
@@ -170,16 +177,17 @@ fn get_verdict(values: [Value; VALUES], groups: &[u8]) -> Verdict
     Verdict::Accepted
 }
 
-// A line of 20 to 29, or accepted.
+// A line of 20 to 29 or 38, or accepted.
 pub(crate) fn order_verdict(s: State, text: &[u8], order: Order) -> Verdict
     requires { ⌜ order ≡ orderOf (now text) ⌝ }
     ensures { λ r. ⌜ r ≡ orderVerdict s (now (text .entry)) order ⌝ }
 {
+    let series = s.series;
     let count = s.count;
     match order {
         Order::Not => Verdict::Shape,
-        Order::Set(number, parameter) => set_verdict(count, number, parameter),
-        Order::Conf(number) => conf_verdict(number),
+        Order::Set(number, parameter) => set_verdict(series, count, number, parameter),
+        Order::Conf(number) => conf_verdict(series, number),
         Order::Put => put_verdict(count, word_of(text)),
         Order::Get => {
             let values = s.values;

@@ -4,11 +4,12 @@ use blocks::answers::Answer;
 use blocks::answers::refusal_number;
 use blocks::answers::refusal_tells;
 use blocks::judging::judge;
+use instrument::settings::Series;
 use libc::STDOUT_FILENO;
 use lines::machine::line;
 use lines::verdicts::verdict_number;
 use state::entries::factory;
-use state::image::IMAGE;
+use state::image::IMAGE_100;
 use state::image::encode;
 use units::kinds::Family;
 use words::records::Word;
@@ -81,8 +82,8 @@ fn send(image: &mut [u8], text: &[u8]) -> u64 {
 
 // One line on a fresh image.
 fn fresh(name: &[u8], text: &[u8]) {
-    let mut image = [0; IMAGE];
-    encode(factory(), &mut image);
+    let mut image = [0; IMAGE_100];
+    encode(factory(Series::Tps100), &mut image);
     put(name);
     send(&mut image, text);
 }
@@ -104,8 +105,8 @@ fn send_often(image: &mut [u8], text: &[u8], times: usize) -> usize {
 }
 
 fn full_list() {
-    let mut image = [0; IMAGE];
-    encode(factory(), &mut image);
+    let mut image = [0; IMAGE_100];
+    encode(factory(Series::Tps100), &mut image);
     put(b"64 times SET/30/1 accepted=");
     put_count(send_often(&mut image, b"SET/30/1\r", 64));
     put(b"\none more");
@@ -117,8 +118,8 @@ fn full_list() {
 }
 
 fn long_get() {
-    let mut image = [0; IMAGE];
-    encode(factory(), &mut image);
+    let mut image = [0; IMAGE_100];
+    encode(factory(Series::Tps100), &mut image);
     put(b"PUT");
     send(&mut image, b"PUT/88...0+00001550 \r");
     put(b"GET with 19 indexes");
@@ -188,8 +189,8 @@ fn noughts() {
 
 // Minus nought put over nought and taken back.
 fn put_nought() {
-    let mut image = [0; IMAGE];
-    encode(factory(), &mut image);
+    let mut image = [0; IMAGE_100];
+    encode(factory(Series::Tps100), &mut image);
     put(b"PUT of nought");
     send(&mut image, b"PUT/83...0+00000000 \r");
     put(b"PUT of minus nought");

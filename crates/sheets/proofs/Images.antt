@@ -1,6 +1,6 @@
 -- Sheets and images: a sheet written from one image and loaded into another carries settings and values over, and a loaded sheet is written again.
 use Prim.Native.Nat.{ℕ, _≤_}
-use mathlib.Core.Path.{_≡_, refl, ap, _∙_}
+use mathlib.Core.Path.{_≡_, refl, sym, ap, _∙_}
 use mathlib.Core.Bool.{Bool, true, cond}
 use mathlib.Core.List.{List}
 use native.Mathlib.Omega.{arith}
@@ -10,15 +10,17 @@ use lib.Seq.{take-at}
 use Rattle.figures.specs.Bytes.{laid}
 use Rattle.figures.proofs.Bytes.{laid-fits}
 use Rattle.state.specs.Entries.{noEntries, isState}
-use Rattle.state.specs.Image.{imageOf, stateIn}
+use Rattle.instrument.specs.Settings.{held, padded}
+use Rattle.instrument.specs.declared.settings.Series.{Series}
+use Rattle.state.specs.Image.{imageOf, seriesIn, stateIn}
 use Rattle.state.specs.declared.entries.State.{State}
-use Rattle.state.proofs.Images.{image-is, image-back}
+use Rattle.state.proofs.Images.{shaped, image-is, image-back, image-series}
 use Rattle.sheets.specs.Answers.{sheetTells}
 use Rattle.sheets.specs.Sheet.{sheetOf, Sheet·room, sheetInRoom, writtenSheet, WritesSheet}
 use Rattle.sheets.specs.Loading.{Loading, wrong, right, loadingOf, Loaded·image, loadedBy, loaded, Loads}
 use Rattle.sheets.specs.declared.answers.Sheeted.{Sheeted}
-use Rattle.sheets.specs.declared.answers.Sheeted.the-variants.{NoState, Written, Loaded}
-use Rattle.sheets.proofs.Sheets.{sheet-loads, loads-sheet}
+use Rattle.sheets.specs.declared.answers.Sheeted.the-variants.{NoState, Wrong, Written, Loaded}
+use Rattle.sheets.proofs.Sheets.{sheet-loads, loads-sheet, other-wrong}
 
 -- a state's image writes the state's sheet where it fits
 pub image-writes : (s : State) (room : List ℕ) → isState s ≡ true
@@ -45,34 +47,49 @@ written s room r room′ e h w =
     )
 
 -- what loading into an image comes to
-pub image-loads : (t : State) (sheet : List ℕ) → isState t ≡ true → loaded (imageOf t) sheet ≡ loadedBy (imageOf t) (loadingOf sheet)
-image-loads t sheet e = ap (λ (b : Bool). cond b (loadedBy (imageOf t) (loadingOf sheet)) (record { answer = NoState; image = imageOf t })) (image-is t e)
+pub image-loads : (t : State) (sheet : List ℕ) → isState t ≡ true → loaded (imageOf t) sheet ≡ loadedBy (t .series) (imageOf t) (loadingOf (t .series) sheet)
+image-loads t sheet e =
+    let i = imageOf t in
+    ap (λ (b : Bool). cond b (loadedBy (seriesIn i) i (loadingOf (seriesIn i) sheet)) (record { answer = NoState; image = i })) (image-is t e)
+    ∙ ap (λ (k : Series). loadedBy k i (loadingOf k sheet)) (image-series t e)
 
 pub written-loads : (s t : State) (room : List ℕ) (r r′ : Sheeted) (room′ image′ : List ℕ) → isState s ≡ true → isState t ≡ true
-    → length (sheetOf s) ≤ length room
+    → s .series ≡ t .series → length (sheetOf s) ≤ length room
     → WritesSheet (imageOf s) room r room′ → Loads (imageOf t) (take (sheetTells r) room′) r′ image′
-    → (r′ ≡ Loaded) × (image′ ≡ imageOf (noEntries (s .settings) (s .values)))
-written-loads s t room r r′ room′ image′ hs ht h w l =
+    → (r′ ≡ Loaded) × (image′ ≡ imageOf (noEntries (s .series) (s .settings) (s .values)))
+written-loads s t room r r′ room′ image′ hs ht k h w l =
     let first = written s room r room′ hs h w in
     let sheet : take (sheetTells r) room′ ≡ sheetOf s = ap (λ (a : Sheeted). take (sheetTells a) room′) (first .0) ∙ first .1 in
-    let is : loaded (imageOf t) (take (sheetTells r) room′) ≡ loadedBy (imageOf t) (right (s .settings) (s .values)) =
-    image-loads t (take (sheetTells r) room′) ht ∙ ap (λ (k : List ℕ). loadedBy (imageOf t) (loadingOf k)) sheet ∙ ap (loadedBy (imageOf t)) (sheet-loads s hs)
+    let is : loaded (imageOf t) (take (sheetTells r) room′) ≡ loadedBy (s .series) (imageOf t) (right (held (s .series) (s .settings)) (s .values)) =
+    image-loads t (take (sheetTells r) room′) ht
+    ∙ ap (λ (x : Series). loadedBy x (imageOf t) (loadingOf x (take (sheetTells r) room′))) (sym k)
+    ∙ ap (λ (x : List ℕ). loadedBy (s .series) (imageOf t) (loadingOf (s .series) x)) sheet
+    ∙ ap (loadedBy (s .series) (imageOf t)) (sheet-loads s hs)
     in
-    (l .0 ∙ ap (λ (o : Loaded·image). o .answer) is, l .1 ∙ ap (λ (o : Loaded·image). o .image) is)
+    let back = ap (λ (x : List ℕ). imageOf (noEntries (s .series) x (s .values))) (shaped s hs .settings-held) in
+    (l .0 ∙ ap (λ (o : Loaded·image). o .answer) is, l .1 ∙ ap (λ (o : Loaded·image). o .image) is ∙ back)
 
 -- a sheet that loaded is written again, byte for byte
 pub loaded-writes : (t : State) (sheet room : List ℕ) (r : Sheeted) (room′ image′ : List ℕ) → isState t ≡ true → Loads (imageOf t) sheet Loaded image′
     → length sheet ≤ length room → WritesSheet image′ room r room′ → (r ≡ Written (length sheet)) × (take (length sheet) room′ ≡ sheet)
 loaded-writes t sheet room r room′ image′ e l h w =
-    by (loadingOf sheet) refl (l .0 ∙ ap (λ (o : Loaded·image). o .answer) (image-loads t sheet e))
+    by (loadingOf (t .series) sheet) refl (l .0 ∙ ap (λ (o : Loaded·image). o .answer) (image-loads t sheet e))
     (l .1 ∙ ap (λ (o : Loaded·image). o .image) (image-loads t sheet e))
   where
-    by : (k : Loading) → loadingOf sheet ≡ k → Loaded ≡ loadedBy (imageOf t) k .answer → image′ ≡ loadedBy (imageOf t) k .image
+    by : (k : Loading) → loadingOf (t .series) sheet ≡ k → Loaded ≡ loadedBy (t .series) (imageOf t) k .answer
+        → image′ ≡ loadedBy (t .series) (imageOf t) k .image
         → (r ≡ Written (length sheet)) × (take (length sheet) room′ ≡ sheet)
     by (wrong at) q a i = let z : _≡_ {A = ℕ} 0 1 = cc in absurd (omega arith)
     by (right settings values) q a i =
-        let s = noEntries settings values in
-        let both = loads-sheet sheet settings values q in
+        let s = noEntries (t .series) (padded settings) values in
+        let both = loads-sheet (t .series) sheet settings values q in
         let again : WritesSheet (imageOf s) room r room′ = rw i at w in
         let out = written s room r room′ (both .0) (rw (both .1) h) again in
         (rw (both .1) at (out .0), rw (both .1) at (out .1))
+
+-- "a sheet of the other series is 40 at that line" (request 103): told 0, and the image is as it was
+pub other-refused : (s t : State) → isState t ≡ true → (s .series ≡ t .series → ⊥) → loaded (imageOf t) (sheetOf s) ≡ record { answer = Wrong 0; image = imageOf t }
+unfolding sheetOf
+other-refused s t e apart =
+    image-loads t (sheetOf s) e
+    ∙ ap (loadedBy (t .series) (imageOf t)) (other-wrong (t .series) (s .series) _ (λ q. apart (sym q)))

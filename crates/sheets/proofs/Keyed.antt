@@ -14,9 +14,11 @@ use Rattle.figures.specs.Decimal.{digitsOf, placesBy}
 use Rattle.figures.specs.Rooms.{Puts}
 use Rattle.figures.proofs.Bytes.{same-true}
 use Rattle.figures.proofs.Putting.{puts-as}
-use Rattle.instrument.specs.Settings.{noRow, rows, rowAt}
+use Rattle.instrument.specs.Settings.{settingNumber, noRow, rows100, rows300, rowsOf, rowAt}
 use Rattle.instrument.specs.Values.{noStored, stored, storedAt, indexNumber}
-use Rattle.instrument.specs.Rows.{keyOf}
+use Rattle.instrument.specs.Rows.{keyOf, keyBytes}
+use Rattle.instrument.specs.declared.settings.Series.{Series}
+use Rattle.instrument.specs.declared.settings.Series.the-variants.{Tps100, Tps300}
 use Rattle.instrument.specs.declared.settings.Row.{Row}
 use Rattle.instrument.specs.declared.values.Stored.{Stored}
 use Rattle.sheets.specs.Sheet.{settingKey, valueKey}
@@ -72,18 +74,23 @@ key-put {held} {key} k room at {own} {n = n} e en p =
 -- the settings' rows
 
 abbrev settingKeyed : Row → Bool
-settingKeyed r = isKeyed (r .4) (settingKey r) 5
+settingKeyed r = isKeyed (keyBytes "s" (settingNumber r)) (settingKey r) 5
 
-settings-keyed : (settingKeyed noRow ≡ true) × (eachRow settingKeyed rows ≡ true)
-unfolding eachRow rows digitsOf placesBy startsWith
-settings-keyed = (refl, refl)
+settings-keyed : (k : Series) → (settingKeyed noRow ≡ true) × (eachRow settingKeyed (rowsOf k) ≡ true)
+unfolding eachRow rows100 rows300 digitsOf placesBy startsWith
+settings-keyed Tps100 = (refl, refl)
+settings-keyed Tps300 = (refl, refl)
 
-pub setting-keyed : (i : ℕ) → Keyed (rowAt i .4) (settingKey (rowAt i)) 5
-setting-keyed i = keyed (rowAt i .4) (settingKey (rowAt i)) 5 (row-tested settingKeyed rows noRow (settings-keyed .0) (settings-keyed .1) i)
+abbrev pub keyHeld : Series → ℕ → List ℕ
+keyHeld k i = keyBytes "s" (settingNumber (rowAt k i))
 
-pub setting-key-put : (i n : ℕ) (r : Row) (room : List ℕ) (at : ℕ) {one : List ℕ} {m : ℕ} → r ≡ rowAt i → n ≡ keyLength (r .4)
-    → Puts room at (midOf 0 (n - 0) (r .4)) m one → Puts room at (settingKey (rowAt i)) m one
-setting-key-put i n r room at e en p = key-put (setting-keyed i) room at (ap (λ (x : Row). x .4) e) en p
+pub setting-keyed : (k : Series) (i : ℕ) → Keyed (keyHeld k i) (settingKey (rowAt k i)) 5
+setting-keyed k i =
+    keyed (keyHeld k i) (settingKey (rowAt k i)) 5 (row-tested settingKeyed (rowsOf k) noRow (settings-keyed k .0) (settings-keyed k .1) i)
+
+pub setting-key-put : (k : Series) (i n : ℕ) (key room : List ℕ) (at : ℕ) {one : List ℕ} {m : ℕ} → key ≡ keyHeld k i → n ≡ keyLength key
+    → Puts room at (midOf 0 (n - 0) key) m one → Puts room at (settingKey (rowAt k i)) m one
+setting-key-put k i n key room at e en p = key-put (setting-keyed k i) room at e en p
 
 -- the values' rows
 

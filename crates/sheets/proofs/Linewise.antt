@@ -19,8 +19,9 @@ use Rattle.figures.proofs.Bytes.{laid-fits, length-laid}
 use Rattle.figures.proofs.Decimal.{digits-length}
 use Rattle.figures.proofs.Tests.{by-test}
 use Rattle.figures.proofs.Putting.{puts-as, puts-more, puts-nothing}
-use Rattle.instrument.specs.Settings.{rows, rowAt}
+use Rattle.instrument.specs.Settings.{rowsOf, rowAt, held}
 use Rattle.instrument.specs.Values.{isPut, getWord}
+use Rattle.instrument.specs.declared.settings.Series.{Series}
 use Rattle.instrument.specs.declared.values.Eight.{Eight}
 use Rattle.instrument.specs.declared.values.Kept.{Kept}
 use Rattle.instrument.specs.declared.values.Kept.the-variants.{Never, Put}
@@ -102,11 +103,11 @@ line-within l r e = omega (arith, ap (λ (x : Line). x .n) e, ap (λ (x : Line).
 
 -- a sheet, or its start, as the code keeps it
 
-pub sheet-put : (l : List ℕ) {at : ℕ} {bytes : List ℕ} → Puts (replicate 352 0) 0 l at bytes → record { bytes = bytes; n = at } ≡ sheetAs l
-sheet-put l {at} {bytes} p = let is = put-held (replicate 352 0) l at bytes p in λ j. record { bytes = is .0 j; n = is .1 j }
+pub sheet-put : (l : List ℕ) {at : ℕ} {bytes : List ℕ} → Puts (replicate 441 0) 0 l at bytes → record { bytes = bytes; n = at } ≡ sheetAs l
+sheet-put l {at} {bytes} p = let is = put-held (replicate 441 0) l at bytes p in λ j. record { bytes = is .0 j; n = is .1 j }
 
-pub put-sheet : (l : List ℕ) (r : Sheet) → r ≡ sheetAs l → Puts (replicate 352 0) 0 l (r .n) (r .bytes)
-put-sheet l r e = held-put (replicate 352 0) l (r .n) (r .bytes) (ap (λ (x : Sheet). x .bytes) e) (ap (λ (x : Sheet). x .n) e)
+pub put-sheet : (l : List ℕ) (r : Sheet) → r ≡ sheetAs l → Puts (replicate 441 0) 0 l (r .n) (r .bytes)
+put-sheet l r e = held-put (replicate 441 0) l (r .n) (r .bytes) (ap (λ (x : Sheet). x .bytes) e) (ap (λ (x : Sheet). x .n) e)
 
 -- how long a line is
 
@@ -117,9 +118,9 @@ few-places n h =
     (λ a. by-test (ltb (n / 10) 10) (λ b. rw (a, b) (omega (arith, ltb-true (n / 10) 10 b)))
     (λ b. rw (a, b, lt-ltb (n / 10 / 10) 10 (omega arith)) (omega arith)))
 
-pub setting-long : (i p : ℕ) → length (settingLine rows i p) ≡ length (settingKey (rowAt i)) + 1 + places p
-setting-long i p =
-    omega (arith, length-append (settingKey (rowAt i)) (decimalOf p ++ codes "\n"), length-append (decimalOf p) (codes "\n"), digits-length (places p) p)
+pub setting-long : (k : Series) (i p : ℕ) → length (settingLine (rowsOf k) i p) ≡ length (settingKey (rowAt k i)) + 1 + places p
+setting-long k i p =
+    omega (arith, length-append (settingKey (rowAt k i)) (decimalOf p ++ codes "\n"), length-append (decimalOf p) (codes "\n"), digits-length (places p) p)
 
 pub kept-long : (i : ℕ) (k : Kept) → length (keptLine i k) ≡ length (valueKey i) + 1 + 15 * cond (isPut k) 1 0
 kept-long i Never = omega (arith, length-append (valueKey i) (codes "\n"))
@@ -127,14 +128,17 @@ kept-long i (Put u m d) =
     let c = charactersOf i (Put u m d) in
     omega (arith, length-append (valueKey i) (c ++ codes "\n"), length-append c (codes "\n"))
 
-pub setting-few : (i p : ℕ) → p < 1000 → length (settingLine rows i p) ≤ 9
-setting-few i p h = omega (arith, setting-long i p, setting-keyed i .few, few-places p h .0)
+pub setting-few : (k : Series) (i p : ℕ) → p < 1000 → length (settingLine (rowsOf k) i p) ≤ 9
+setting-few k i p h = omega (arith, setting-long k i p, setting-keyed k i .few, few-places p h .0)
 
 pub kept-few : (i : ℕ) (k : Kept) → length (keptLine i k) ≤ 20
 kept-few i Never = omega (arith, kept-long i Never, value-keyed i .few)
 kept-few i (Put u m d) = omega (arith, kept-long i (Put u m d), value-keyed i .few)
 
 -- the settings' part, and then the values'
-pub sheet-halves : (s : State) → (seriesLine ++ linesBy (settingLine rows) 0 (s .settings)) ++ linesBy valueLine 0 (s .values) ≡ sheetOf s
+pub sheet-halves : (s : State) → let k = s .series in
+    (seriesLine k ++ linesBy (settingLine (rowsOf k)) 0 (held k (s .settings))) ++ linesBy valueLine 0 (s .values) ≡ sheetOf s
 unfolding sheetOf
-sheet-halves s = append-assoc seriesLine (linesBy (settingLine rows) 0 (s .settings)) (linesBy valueLine 0 (s .values))
+sheet-halves s =
+    let k = s .series in
+    append-assoc (seriesLine k) (linesBy (settingLine (rowsOf k)) 0 (held k (s .settings))) (linesBy valueLine 0 (s .values))

@@ -6,14 +6,17 @@ use mathlib.Core.List.{List, _++_, append-nil}
 use native.Mathlib.Omega.{arith}
 use borrow.Author.Tests.{eq-eqb, ne-eqb}
 use lib.Dec.{eqb}
-use lib.ListN.{length, drop, replicate, drop-of-length-le}
+use lib.ListN.{length, take, drop, replicate, drop-of-length-le, length-append, length-replicate, take-append-drop}
+use lib.Seq.{length-take-le}
+use Rattle.figures.proofs.Bytes.{laid-fits}
 use Rattle.state.specs.Entries.{valueOf, noEntries}
 use Rattle.instrument.specs.Values.{valuesN}
-use Rattle.instrument.specs.Settings.{settingsN}
-use Rattle.state.specs.Image.{imageN, imageOf, isImage, encodedIn}
+use Rattle.instrument.specs.Settings.{settingsMost, padded}
+use Rattle.instrument.specs.declared.settings.Series.{Series}
+use Rattle.state.specs.Image.{imageN, imageOf, seriesIn, isImage, encodedIn}
 use Rattle.instrument.specs.declared.values.Kept.the-variants.{Never}
 use Rattle.instrument.specs.declared.values.Value.{Value}
-use Rattle.state.proofs.Laying.{laid-whole}
+use Rattle.sheets.specs.Sheet.{seriesLine}
 use Rattle.sheets.specs.Loading.{settingsIn, valuesFrom}
 use Rattle.sheets.specs.Loading.{Loading, wrong, right, afterValues, afterSettings, loadingOf, Loaded·image, loadedBy, loaded, Loads}
 use Rattle.sheets.specs.Keeping.{settingsAs, valuesAs}
@@ -27,8 +30,18 @@ use Rattle.sheets.proofs.Sheets.{settings-taken, values-taken}
 
 -- what the code keeps of a part that came to its end
 
-pub settings-kept : (at : ℕ) (got : List ℕ) → length got ≡ settingsN → settingsAs (came at got) ≡ record { came = To at; settings = got }
-settings-kept at got h = λ j. record { came = To at; settings = laid-whole got (replicate settingsN 0) h j }
+pub settings-kept : (at i : ℕ) (got : List ℕ) → length got ≡ settingsMost → drop i got ≡ drop i (replicate settingsMost 0) → i ≤ settingsMost
+    → settingsAs (came at (take i got)) ≡ record { came = To at; settings = got }
+settings-kept at i got long past few =
+    let blanks : List ℕ = replicate settingsMost 0 in
+    let n : length (take i got) ≡ i = length-take-le i got (omega arith) in
+    let fits : length (take i got) ≤ length blanks = omega (arith, length-replicate {A = ℕ} settingsMost 0) in
+    let all : padded (take i got) ≡ got =
+    laid-fits (take i got) blanks fits
+    ∙ ap (λ (j : ℕ). take i got ++ drop j blanks) n
+    ∙ ap (λ (l : List ℕ). take i got ++ l) (sym past)
+    ∙ take-append-drop i got in
+    λ j. record { came = To at; settings = all j }
 
 pub values-kept : (at : ℕ) (got : List Value) → length got ≡ valuesN → valuesAs (came at got) ≡ record { came = To at; values = got }
 values-kept at got h =
@@ -36,19 +49,14 @@ values-kept at got h =
     let all : got ++ drop (length got) nevers ≡ got = rw (drop-of-length-le nevers {i = length got} (omega arith)) (append-nil got) in
     λ j. record { came = To at; values = all j }
 
-module _ (sheet : List ℕ) (at : ℕ) (came : settingsIn sheet .came ≡ To at) where
-  settings-all : settingsIn sheet ≡ record { came = To at; got = settingsIn sheet .got }
-  settings-all = λ j. record { came = came j; got = settingsIn sheet .got }
+module _ (k : Series) (sheet : List ℕ) (at : ℕ) (came : settingsIn k sheet .came ≡ To at) where
+  settings-all : settingsIn k sheet ≡ record { came = To at; got = settingsIn k sheet .got }
+  settings-all = λ j. record { came = came j; got = settingsIn k sheet .got }
 
   pub settings-within : at ≤ length sheet
   settings-within =
-      let t = settings-taken sheet at (settingsIn sheet .got) settings-all in
-      taken-within (t .1) (omega (arith, ap length (t .0)))
-
-  pub settings-got : settingsAs (settingsIn sheet) .settings ≡ settingsIn sheet .got
-  settings-got =
-      let got = settingsIn sheet .got in
-      ap (λ (s : Settings). s .settings) (ap settingsAs settings-all ∙ settings-kept at got (settings-taken sheet at got settings-all .1 .long))
+      let t = settings-taken k sheet at (settingsIn k sheet .got) settings-all in
+      taken-within (t .1) (omega (arith, ap length (t .0), length-append (seriesLine k) (drop (length (seriesLine k)) sheet)))
 
 pub values-got : (sheet : List ℕ) (start end : ℕ) → valuesFrom sheet start .came ≡ To end
     → valuesAs (valuesFrom sheet start) .values ≡ valuesFrom sheet start .got
@@ -59,21 +67,21 @@ values-got sheet start end e =
 
 -- what the sheet is loaded as
 
-module _ (sheet : List ℕ) (at : ℕ) where
-  pub wrong-setting : settingsIn sheet .came ≡ Wrong at → loadingOf sheet ≡ wrong at
-  wrong-setting e = ap (afterSettings sheet (settingsIn sheet .got)) e
+module _ (k : Series) (sheet : List ℕ) (at : ℕ) where
+  pub wrong-setting : settingsIn k sheet .came ≡ Wrong at → loadingOf k sheet ≡ wrong at
+  wrong-setting e = ap (afterSettings sheet (settingsIn k sheet .got)) e
 
-  module _ (came : settingsIn sheet .came ≡ To at) (end : ℕ) where
-    after : (c : Came) → valuesFrom sheet at .came ≡ c → loadingOf sheet ≡ afterValues sheet (settingsIn sheet .got) (valuesFrom sheet at .got) c
-    after c e = ap (afterSettings sheet (settingsIn sheet .got)) came ∙ ap (afterValues sheet (settingsIn sheet .got) (valuesFrom sheet at .got)) e
+  module _ (came : settingsIn k sheet .came ≡ To at) (end : ℕ) where
+    after : (c : Came) → valuesFrom sheet at .came ≡ c → loadingOf k sheet ≡ afterValues sheet (settingsIn k sheet .got) (valuesFrom sheet at .got) c
+    after c e = ap (afterSettings sheet (settingsIn k sheet .got)) came ∙ ap (afterValues sheet (settingsIn k sheet .got) (valuesFrom sheet at .got)) e
 
-    pub wrong-value : valuesFrom sheet at .came ≡ Wrong end → loadingOf sheet ≡ wrong end
+    pub wrong-value : valuesFrom sheet at .came ≡ Wrong end → loadingOf k sheet ≡ wrong end
     wrong-value e = after (Wrong end) e
 
-    pub wrong-end : valuesFrom sheet at .came ≡ To end → (end ≡ length sheet → ⊥) → loadingOf sheet ≡ wrong end
+    pub wrong-end : valuesFrom sheet at .came ≡ To end → (end ≡ length sheet → ⊥) → loadingOf k sheet ≡ wrong end
     wrong-end e n = after (To end) e ∙ rw (ne-eqb end (length sheet) n)
 
-    pub all-right : valuesFrom sheet at .came ≡ To end → end ≡ length sheet → loadingOf sheet ≡ right (settingsIn sheet .got) (valuesFrom sheet at .got)
+    pub all-right : valuesFrom sheet at .came ≡ To end → end ≡ length sheet → loadingOf k sheet ≡ right (settingsIn k sheet .got) (valuesFrom sheet at .got)
     all-right e y = after (To end) e ∙ rw (eq-eqb end (length sheet) y)
 
 -- the answer
@@ -81,21 +89,25 @@ module _ (sheet : List ℕ) (at : ℕ) where
 module _ (image sheet : List ℕ) where
   pub loads-none : isImage image ≡ false → Loads image sheet answer.NoState image
   loads-none i =
+      let k = seriesIn image in
       let e : loaded image sheet ≡ record { answer = answer.NoState; image = image } =
-      ap (λ (b : Bool). cond b (loadedBy image (loadingOf sheet)) (record { answer = answer.NoState; image = image })) i in
+      ap (λ (b : Bool). cond b (loadedBy k image (loadingOf k sheet)) (record { answer = answer.NoState; image = image })) i in
       (ap (λ (l : Loaded·image). l .answer) (sym e), ap (λ (l : Loaded·image). l .image) (sym e))
 
-  module _ (i : isImage image ≡ true) where
-    by : (l : Loading) → loadingOf sheet ≡ l → loaded image sheet ≡ loadedBy image l
-    by l e = λ j. cond (i j) (loadedBy image (e j)) (record { answer = answer.NoState; image = image })
+  module _ (i : isImage image ≡ true) (k : Series) (is : k ≡ seriesIn image) where
+    by : (l : Loading) → loadingOf k sheet ≡ l → loaded image sheet ≡ loadedBy k image l
+    by l e =
+        ap (λ (b : Bool). cond b (loadedBy (seriesIn image) image (loadingOf (seriesIn image) sheet)) (record { answer = answer.NoState; image = image })) i
+        ∙ ap (λ (t : Series). loadedBy t image (loadingOf t sheet)) (sym is)
+        ∙ ap (loadedBy k image) e
 
-    pub loads-wrong : (at : ℕ) → loadingOf sheet ≡ wrong at → Loads image sheet (answer.Wrong at) image
+    pub loads-wrong : (at : ℕ) → loadingOf k sheet ≡ wrong at → Loads image sheet (answer.Wrong at) image
     loads-wrong at e = (ap (λ (l : Loaded·image). l .answer) (sym (by (wrong at) e)), ap (λ (l : Loaded·image). l .image) (sym (by (wrong at) e)))
 
-    pub loads-right : (settings : List ℕ) (values : List Value) (image′ : List ℕ) → loadingOf sheet ≡ right settings values
-        → image′ ≡ encodedIn (noEntries settings values) image → Loads image sheet answer.Loaded image′
+    pub loads-right : (settings : List ℕ) (values : List Value) (image′ : List ℕ) → loadingOf k sheet ≡ right settings values
+        → image′ ≡ encodedIn (noEntries k (padded settings) values) image → Loads image sheet answer.Loaded image′
     loads-right settings values image′ e laid =
-        let is = by (right settings values) e in
-        let long : eqb (length image) imageN ≡ true = and-eq-true-iff (eqb (length image) imageN) _ .0 i .0 in
-        let image-is = ap (λ (b : Bool). cond b (imageOf (noEntries settings values)) image) long in
-        (ap (λ (l : Loaded·image). l .answer) (sym is), laid ∙ image-is ∙ ap (λ (l : Loaded·image). l .image) (sym is))
+        let so = by (right settings values) e in
+        let long : eqb (length image) (imageN k) ≡ true = rw is (and-eq-true-iff (eqb (length image) (imageN (seriesIn image))) _ .0 i .0) in
+        let image-is = ap (λ (b : Bool). cond b (imageOf (noEntries k (padded settings) values)) image) long in
+        (ap (λ (l : Loaded·image). l .answer) (sym so), laid ∙ image-is ∙ ap (λ (l : Loaded·image). l .image) (sym so))

@@ -99,11 +99,12 @@ module _ {A : Type 0} (line : ℕ → A → List ℕ) (right : ℕ → A → Boo
           more = λ e. whole ∙ rw (r, ← stands, e, long, drop-drop (length w) at sheet, add-one i, take-suc-set got i x hg);
         }
 
-  pub part-done : (n i at : ℕ) (sheet : List ℕ) (got : List A) → i ≡ n → length got ≡ n → leftOf line right says n i at sheet got ≡ came at got
+  pub part-ended : (n i at : ℕ) (sheet : List ℕ) (got : List A) → i ≡ n → leftOf line right says n i at sheet got ≡ came at (take i got)
   unfolding partBy
-  part-done n i at sheet got e h =
-      let none : n - i ≡ 0 = omega arith in
-      rw (none, take-all i got (omega arith))
+  part-ended n i at sheet got e = let none : n - i ≡ 0 = omega arith in rw none
+
+  pub part-done : (n i at : ℕ) (sheet : List ℕ) (got : List A) → i ≡ n → length got ≡ n → leftOf line right says n i at sheet got ≡ came at got
+  part-done n i at sheet got e h = part-ended n i at sheet got e ∙ ap (λ (l : List A). came at l) (take-all i got (omega arith))
 
   -- what is written is taken back, where a line says what it holds
 

@@ -7,7 +7,9 @@ use borrow.Author.Tests.{le-leb, lt-leb}
 use lib.Dec.{leb}
 use lib.ListN.{length, replicate}
 use Rattle.figures.specs.Bytes.{laid}
-use Rattle.state.specs.Entries.{factoryState, isState}
+use Rattle.instrument.specs.declared.settings.Series.the-variants.{Tps100}
+use Rattle.state.specs.Entries as entries
+use Rattle.state.specs.Entries.{isState}
 use Rattle.state.specs.Image.{imageOf}
 use Rattle.state.specs.declared.entries.State.{State}
 use Rattle.state.proofs.Images.{factory-is-state}
@@ -23,6 +25,10 @@ use Rattle.sheets.specs.declared.answers.Sheeted.{Sheeted}
 use Rattle.sheets.specs.declared.answers.Sheeted.the-variants.{NoState, Room, Wrong, Written, Loaded}
 use Rattle.sheets.proofs.Images.{image-writes}
 
+-- the program plays a TPS100
+abbrev pub factoryState : State
+factoryState = entries.factoryState Tps100
+
 pub run-after : (ls : List (List ℕ)) (s : State) → isState s ≡ true → runBy ls (imageOf s) ≡ imageOf (after s (map callOf ls))
 unfolding runBy after
 run-after [] s e = refl
@@ -34,7 +40,7 @@ abbrev pub reached : List ℕ → State
 reached input = after factoryState (map callOf (pieces input))
 
 pub reached-state : (input : List ℕ) → isState (reached input) ≡ true
-reached-state input = after-state factoryState (map callOf (pieces input)) factory-is-state
+reached-state input = after-state factoryState (map callOf (pieces input)) (factory-is-state Tps100)
 
 pub printed-sheet : (input : List ℕ) → length input ≤ 65536 → printed input ≡ sheetOf (reached input)
 printed-sheet input h = rw (le-leb (length input) 65536 h)
@@ -46,7 +52,7 @@ printed-refused input h = rw (lt-leb (length input) 65536 h)
 pub write-printed : (input image room room′ : List ℕ) (answer : Sheeted) → length input ≤ 65536 → image ≡ runBy (pieces input) (imageOf factoryState)
     → WritesSheet image room answer room′ → (answer ≡ sheetInRoom (printed input) room .answer) × (room′ ≡ sheetInRoom (printed input) room .room)
 write-printed input image room room′ answer h ei w =
-    let is : image ≡ imageOf (reached input) = ei ∙ run-after (pieces input) factoryState factory-is-state in
+    let is : image ≡ imageOf (reached input) = ei ∙ run-after (pieces input) factoryState (factory-is-state Tps100) in
     let out : writtenSheet image room ≡ sheetInRoom (printed input) room =
     ap (λ (i : List ℕ). writtenSheet i room) is ∙ image-writes (reached input) room (reached-state input)
     ∙ ap (λ (l : List ℕ). sheetInRoom l room) (sym (printed-sheet input h))

@@ -17,16 +17,18 @@ use Rattle.figures.proofs.Bytes.{starts-append}
 use Rattle.figures.proofs.Decimal.{digits-length, digits-are, number-digits}
 use Rattle.figures.proofs.Tests.{both}
 use Rattle.units.specs.Information.{signByte, signOf}
-use Rattle.instrument.specs.Settings.{noRow, rows, inRanges, settingsN}
+use Rattle.instrument.specs.Settings.{noRow, rows100, rows300, rowsOf, rowAt, held, inRanges, settingsN}
 use Rattle.instrument.specs.Values.{storedAt, putRight, putKept, keptRight, valueWord}
 use Rattle.state.specs.Entries.{valueOf, valuesRight, isState}
+use Rattle.instrument.specs.declared.settings.Series.{Series}
+use Rattle.instrument.specs.declared.settings.Series.the-variants.{Tps100, Tps300}
 use Rattle.instrument.specs.declared.settings.Row.{Row}
 use Rattle.instrument.specs.declared.values.Kept.{Kept}
 use Rattle.instrument.specs.declared.values.Kept.the-variants.{Never, Put}
 use Rattle.instrument.specs.declared.values.Value.{Value}
 use Rattle.state.specs.declared.entries.State.{State}
-use Rattle.state.proofs.Images.{shaped}
-use Rattle.instrument.proofs.Ranges.{range-high}
+use Rattle.state.proofs.Images.{held-right, held-long}
+use Rattle.instrument.proofs.Ranges.{rows-long, range-high}
 use Rattle.lines.proofs.Parts.{parts}
 use Rattle.sheets.specs.Sheet.{settingKey, settingLine, charactersOf, valueKey, keptLine, valueLine}
 use Rattle.sheets.specs.Loading.{saidBy, settingSays, settingRight, keptSaid, valueSays, valueRight}
@@ -81,20 +83,27 @@ said-decimal p rest h =
 -- settings
 
 -- no highest parameter is more than a byte
-pub right-small : (i p : ℕ) → settingRight rows i p ≡ true → p ≤ 255
-unfolding eachRow rows
-right-small i p e =
-    let r = getD rows i noRow in
-    omega (arith, range-high r p e, leb-true (r .2) 255 (row-tested (λ (r : Row). leb (r .2) 255) rows noRow refl refl i))
+each-byte : (k : Series) → eachRow (λ (r : Row). leb (r .2) 255) (rowsOf k) ≡ true
+unfolding eachRow rows100 rows300
+each-byte Tps100 = refl
+each-byte Tps300 = refl
 
-pub setting-said : (i p : ℕ) (rest : List ℕ) → settingRight rows i p ≡ true → settingSays rows i (settingLine rows i p ++ rest) ≡ p
-setting-said i p rest e =
-    let r = getD rows i noRow in
-    let k = settingKey r in
-    let line : settingLine rows i p ++ rest ≡ k ++ (decimalOf p ++ (10 ∷ rest)) =
-    append-assoc k (decimalOf p ++ (10 ∷ [])) rest ∙ ap (λ (l : List ℕ). k ++ l) (append-assoc (decimalOf p) (10 ∷ []) rest) in
-    let small : p < 1000 = omega (arith, right-small i p e) in
-    ap (λ (l : List ℕ). saidBy 3 0 (drop (length k) l)) line ∙ ap (saidBy 3 0) (drop-append-seam k (decimalOf p ++ (10 ∷ rest))) ∙ said-decimal p rest small
+pub right-high : (k : Series) (i : ℕ) → rowAt k i .2 ≤ 255
+right-high k i = leb-true (rowAt k i .2) 255 (row-tested (λ (r : Row). leb (r .2) 255) (rowsOf k) noRow refl (each-byte k) i)
+
+pub right-small : (k : Series) (i p : ℕ) → settingRight (rowsOf k) i p ≡ true → p ≤ 255
+right-small k i p e = omega (arith, range-high (rowAt k i) p e, right-high k i)
+
+pub setting-said : (k : Series) (i p : ℕ) (rest : List ℕ) → settingRight (rowsOf k) i p ≡ true
+    → settingSays (rowsOf k) i (settingLine (rowsOf k) i p ++ rest) ≡ p
+setting-said k i p rest e =
+    let key = settingKey (rowAt k i) in
+    let line : settingLine (rowsOf k) i p ++ rest ≡ key ++ (decimalOf p ++ (10 ∷ rest)) =
+    append-assoc key (decimalOf p ++ (10 ∷ [])) rest ∙ ap (λ (l : List ℕ). key ++ l) (append-assoc (decimalOf p) (10 ∷ []) rest) in
+    let small : p < 1000 = omega (arith, right-small k i p e) in
+    ap (λ (l : List ℕ). saidBy 3 0 (drop (length key) l)) line
+    ∙ ap (saidBy 3 0) (drop-append-seam key (decimalOf p ++ (10 ∷ rest)))
+    ∙ said-decimal p rest small
 
 -- values
 
@@ -133,22 +142,22 @@ unfolding inRanges rightBy
 ranges-from rs [] i h = rw (drop-of-length-le rs {i = i} (omega arith))
 ranges-from rs (p ∷ ps) i h = rw (drop-cons rs i noRow (omega arith), add-one i, ranges-from rs ps (suc i) (omega arith))
 
-rows-long : length rows ≡ settingsN
-unfolding rows
-rows-long = refl
-
-pub ranges-right : (settings : List ℕ) → length settings ≡ settingsN → inRanges rows settings ≡ rightBy (settingRight rows) 0 settings
-ranges-right settings h = ranges-from rows settings 0 (omega (arith, rows-long))
+pub ranges-right : (k : Series) (settings : List ℕ) → length settings ≡ settingsN k
+    → inRanges (rowsOf k) settings ≡ rightBy (settingRight (rowsOf k)) 0 settings
+ranges-right k settings h = ranges-from (rowsOf k) settings 0 (omega (arith, rows-long k))
 
 pub values-right : (i : ℕ) (vs : List Value) → valuesRight i vs ≡ rightBy valueRight i vs
 unfolding valuesRight rightBy
 values-right i [] = refl
 values-right i (v ∷ vs) = ap (λ (t : Bool). keptRight i (v .kept) && t) (values-right (i + 1) vs)
 
-pub state-right : (s : State) → isState s ≡ true → (rightBy (settingRight rows) 0 (s .settings) ≡ true) × (rightBy valueRight 0 (s .values) ≡ true)
+pub state-right : (s : State) → isState s ≡ true → let k = s .series in
+    (rightBy (settingRight (rowsOf k)) 0 (held k (s .settings)) ≡ true) × (rightBy valueRight 0 (s .values) ≡ true)
 state-right s e =
+    let k = s .series in
     let p = parts s e in
-    (sym (ranges-right (s .settings) (shaped s e .settings-long)) ∙ p .ranges, sym (values-right 0 (s .values)) ∙ p .values-right)
+    let ranges = held-right k (s .settings) (p .ranges) in
+    (sym (ranges-right k (held k (s .settings)) (held-long k (s .settings) (p .ranges))) ∙ ranges, sym (values-right 0 (s .values)) ∙ p .values-right)
 
 -- what `kept_in` answers: never put, or what the word that it lays down holds
 

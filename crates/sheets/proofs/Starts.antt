@@ -5,9 +5,10 @@ use mathlib.Core.Bool.{Bool, true, false, cond}
 use mathlib.Core.List.{List, [], map}
 use native.Mathlib.Omega.{arith}
 use Rattle.state.specs.Entries.{noEntries}
-use Rattle.state.specs.Image.{imageOf, stateIn, isImage}
+use Rattle.instrument.specs.Settings.{padded}
+use Rattle.instrument.specs.declared.settings.Series.{Series}
+use Rattle.state.specs.Image.{imageOf, seriesIn, stateIn, isImage}
 use Rattle.instrument.specs.declared.values.Value.{Value}
-use Rattle.state.specs.declared.entries.State.{State}
 use Rattle.lines.specs.Demand.{Start, contentsOf, marks, playAll, Lent, inRoom, imageAfter}
 use Rattle.lines.proofs.Starts.{start}
 use Rattle.lines.proofs.Hosted.{hosted-played}
@@ -15,57 +16,64 @@ use Rattle.sheets.specs.Loading.{Loading, wrong, right, loadingOf, Loade
 use Rattle.sheets.specs.declared.answers.Sheeted.the-variants.{NoState, Loaded}
 use Rattle.sheets.proofs.Sheets.{loads-sheet}
 
-pub loaded-start : (sheet settings : List ℕ) (values : List Value) → loadingOf sheet ≡ right settings values → Start (noEntries settings values)
-loaded-start sheet settings values e = start (noEntries settings values) (loads-sheet sheet settings values e .0) refl
+pub loaded-start : (k : Series) (sheet settings : List ℕ) (values : List Value) → loadingOf k sheet ≡ right settings values
+    → Start (noEntries k (padded settings) values)
+loaded-start k sheet settings values e = start (noEntries k (padded settings) values) (loads-sheet k sheet settings values e .0) refl
 
--- what an accepted load leaves: the image of a start, with the contents that the sheet names
+-- what an accepted load leaves: the image of a start of its series, with the contents that the sheet names
 pub record Fresh (image sheet : List ℕ) : Type 0 where
-  pub state : State
-  pub begins : Start state
-  pub laid : loaded image sheet .image ≡ imageOf state
-  pub names : loadingOf sheet ≡ right (state .settings) (state .values)
+  pub settings : List ℕ
+  pub values : List Value
+  pub begins : Start (noEntries (seriesIn image) (padded settings) values)
+  pub laid : loaded image sheet .image ≡ imageOf (noEntries (seriesIn image) (padded settings) values)
+  pub names : loadingOf (seriesIn image) sheet ≡ right settings values
 
 module _ (image sheet : List ℕ) where
+  abbrev series : Series
+  series = seriesIn image
+
   abbrev loadedTo : Bool → Loading → Loaded·image
-  loadedTo b k = cond b (loadedBy image k) (record { answer = NoState; image = image })
+  loadedTo b l = cond b (loadedBy series image l) (record { answer = NoState; image = image })
 
   -- "makes the settings and stored values those it names and empties the undo list"
-  laid-as : loaded image sheet .answer ≡ Loaded → (settings : List ℕ) (values : List Value) → loadingOf sheet ≡ right settings values
-      → loaded image sheet .image ≡ imageOf (noEntries settings values)
-  laid-as e settings values names = by (isImage image) e ∙ ap (λ (k : Loading). loadedTo true k .image) names
+  laid-as : loaded image sheet .answer ≡ Loaded → (settings : List ℕ) (values : List Value) → loadingOf series sheet ≡ right settings values
+      → loaded image sheet .image ≡ imageOf (noEntries series (padded settings) values)
+  laid-as e settings values names = by (isImage image) e ∙ ap (λ (l : Loading). loadedTo true l .image) names
     where
-      by : (b : Bool) → loadedTo b (loadingOf sheet) .answer ≡ Loaded → loadedTo b (loadingOf sheet) .image ≡ loadedTo true (loadingOf sheet) .image
+      by : (b : Bool) → loadedTo b (loadingOf series sheet) .answer ≡ Loaded
+          → loadedTo b (loadingOf series sheet) .image ≡ loadedTo true (loadingOf series sheet) .image
       by true q = refl
       by false q = let z : _≡_ {A = ℕ} 0 1 = cc in absurd (omega arith)
 
   pub loaded-image : loaded image sheet .answer ≡ Loaded → Fresh image sheet
-  loaded-image e = by (isImage image) (loadingOf sheet) refl e
+  loaded-image e = by (isImage image) (loadingOf series sheet) refl e
     where
-      by : (b : Bool) (k : Loading) → loadingOf sheet ≡ k → loadedTo b k .answer ≡ Loaded → Fresh image sheet
-      by false k names q = let z : _≡_ {A = ℕ} 0 1 = cc in absurd (omega arith)
+      by : (b : Bool) (l : Loading) → loadingOf series sheet ≡ l → loadedTo b l .answer ≡ Loaded → Fresh image sheet
+      by false l names q = let z : _≡_ {A = ℕ} 0 1 = cc in absurd (omega arith)
       by true (wrong at) names q = let z : _≡_ {A = ℕ} 0 1 = cc in absurd (omega arith)
       by true (right settings values) names q =
           record {
-            state = noEntries settings values;
-            begins = loaded-start sheet settings values names;
+            settings = settings;
+            values = values;
+            begins = loaded-start series sheet settings values names;
             laid = laid-as e settings values names;
             names = names;
           }
 
   -- 40 "leaves the state as it was", and 31 the lent bytes
   pub refused-image : (loaded image sheet .answer ≡ Loaded → ⊥) → loaded image sheet .image ≡ image
-  refused-image = by (isImage image) (loadingOf sheet)
+  refused-image = by (isImage image) (loadingOf series sheet)
     where
-      by : (b : Bool) (k : Loading) → (loadedTo b k .answer ≡ Loaded → ⊥) → loadedTo b k .image ≡ image
-      by false k f = refl
+      by : (b : Bool) (l : Loading) → (loadedTo b l .answer ≡ Loaded → ⊥) → loadedTo b l .image ≡ image
+      by false l f = refl
       by true (wrong at) f = refl
       by true (right settings values) f = absurd (f refl)
 
-  -- demand 3 from a load on: any image loaded into, and any calls after
-  pub loaded-played : loaded image sheet .answer ≡ Loaded → (settings : List ℕ) (values : List Value) → loadingOf sheet ≡ right settings values
-      → (cs : List Lent)
-      → contentsOf (stateIn (imageAfter (loaded image sheet .image) cs))
-      ≡ playAll (contentsOf (noEntries settings values)) (marks (noEntries settings values) (map inRoom cs) [])
+  -- demand 3 from a load on: any image loaded into, of either series, and any calls after
+  pub loaded-played : loaded image sheet .answer ≡ Loaded → (settings : List ℕ) (values : List Value) → loadingOf series sheet ≡ right settings values
+      → (cs : List Lent) →
+      let s = noEntries series (padded settings) values in
+      contentsOf (stateIn (imageAfter (loaded image sheet .image) cs)) ≡ playAll (contentsOf s) (marks s (map inRoom cs) [])
   loaded-played e settings values names cs =
       ap (λ (i : List ℕ). contentsOf (stateIn (imageAfter i cs))) (laid-as e settings values names)
-      ∙ hosted-played (noEntries settings values) (loaded-start sheet settings values names) cs
+      ∙ hosted-played (noEntries series (padded settings) values) (loaded-start series sheet settings values names) cs

@@ -17,17 +17,17 @@ use Rattle.sheets.specs.Keeping.{sheetPut}
 use Rattle.sheets.specs.declared.writing.Sheet.{Sheet}
 use Rattle.sheets.specs.declared.answers.Sheeted.{Sheeted}
 use Rattle.sheets.specs.declared.answers.Sheeted.the-variants as answer
-use Rattle.sheets.proofs.Sizes.{sheet-most}
+use Rattle.sheets.proofs.Sizes.{sheet-below}
 use Rattle.sheets.proofs.Linewise.{held-whole}
 
 -- a state's sheet as the code keeps it
 pub sheet-kept : (s : State) (r : Sheet) → isState s ≡ true → r ≡ sheetPut s
     → (r .n ≡ length (sheetOf s)) × (take (r .n) (r .bytes) ≡ sheetOf s) × (r .n ≤ length (r .bytes))
 sheet-kept s r h e =
-    let bytes : r .bytes ≡ laid (sheetOf s) (replicate 352 0) = ap (λ (x : Sheet). x .bytes) e in
-    let whole = held-whole (replicate 352 0) (sheetOf s) (r .n) (r .bytes) (sheet-most s h) bytes (ap (λ (x : Sheet). x .n) e) in
-    let long : length (r .bytes) ≡ 352 = ap length bytes ∙ length-laid (sheetOf s) (replicate 352 0) in
-    (whole .0, whole .1, omega (arith, whole .0, sheet-most s h))
+    let bytes : r .bytes ≡ laid (sheetOf s) (replicate 441 0) = ap (λ (x : Sheet). x .bytes) e in
+    let whole = held-whole (replicate 441 0) (sheetOf s) (r .n) (r .bytes) (sheet-below s h) bytes (ap (λ (x : Sheet). x .n) e) in
+    let long : length (r .bytes) ≡ 441 = ap length bytes ∙ length-laid (sheetOf s) (replicate 441 0) in
+    (whole .0, whole .1, omega (arith, whole .0, sheet-below s h))
 
 -- the answer
 

@@ -6,7 +6,7 @@ use mathlib.Core.List.{List, [], _∷_, _++_}
 use lib.Dec.{eqb}
 use lib.ListN.{length, getD, drop, replicate}
 use Rattle.figures.specs.Bytes.{laid}
-use Rattle.instrument.specs.Settings.{rows, settingsN}
+use Rattle.instrument.specs.Settings.{rowsOf, held, padded}
 use Rattle.state.specs.Entries.{valueOf}
 use Rattle.instrument.specs.Values.{valuesN}
 use Rattle.instrument.specs.declared.values.Kept.the-variants.{Never}
@@ -31,17 +31,17 @@ lineAs l = record { bytes = laid l (replicate 20 0); n = min (length l) 20 }
 
 -- a sheet, or its start, from the start of the longest
 abbrev pub sheetAs : List ℕ → Sheet
-sheetAs l = record { bytes = laid l (replicate 352 0); n = min (length l) 352 }
+sheetAs l = record { bytes = laid l (replicate 441 0); n = min (length l) 441 }
 
 abbrev pub settingsPut : State → Sheet
-settingsPut s = sheetAs (seriesLine ++ linesBy (settingLine rows) 0 (s .settings))
+settingsPut s = sheetAs (seriesLine (s .series) ++ linesBy (settingLine (rowsOf (s .series))) 0 (held (s .series) (s .settings)))
 
 abbrev pub sheetPut : State → Sheet
 sheetPut s = sheetAs (sheetOf s)
 
 -- what the lines of a part held; blank where one is wrong
 abbrev pub settingsAs : Part ℕ → Settings
-settingsAs p = record { came = p .came; settings = laid (p .got) (replicate settingsN 0) }
+settingsAs p = record { came = p .came; settings = padded (p .got) }
 
 abbrev pub valuesAs : Part Value → Values
 valuesAs p = record { came = p .came; values = p .got ++ drop (length (p .got)) (replicate valuesN (valueOf Never)) }

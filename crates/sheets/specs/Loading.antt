@@ -7,10 +7,11 @@ use lib.Dec.{eqb}
 use lib.ListN.{length, getD, drop}
 use Rattle.figures.specs.Bytes.{startsWith}
 use Rattle.figures.specs.Decimal.{isDigit}
-use Rattle.instrument.specs.Settings.{noRow, rows, inRange, settingsN}
+use Rattle.instrument.specs.Settings.{noRow, rowsOf, inRange, settingsN, padded}
 use Rattle.instrument.specs.Values.{putKept, keptRight, valuesN}
 use Rattle.state.specs.Entries.{valueOf, noEntries}
-use Rattle.state.specs.Image.{imageOf, isImage}
+use Rattle.state.specs.Image.{imageOf, seriesIn, isImage}
+use Rattle.instrument.specs.declared.settings.Series.{Series}
 use Rattle.instrument.specs.declared.settings.Row.{Row}
 use Rattle.instrument.specs.declared.values.Kept.{Kept}
 use Rattle.instrument.specs.declared.values.Kept.the-variants.{Never}
@@ -65,14 +66,16 @@ abbrev pub afterSettings : List ℕ → List ℕ → Came → Loading
 afterSettings sheet settings (Wrong at) = wrong at
 afterSettings sheet settings (To at) = afterValues sheet settings (valuesFrom sheet at .got) (valuesFrom sheet at .came)
 
-abbrev pub settingsFrom : List ℕ → ℕ → Part ℕ
-settingsFrom sheet at = partBy (settingLine rows) (settingRight rows) (settingSays rows) settingsN 0 at (drop at sheet) []
+-- as many as the series has
+abbrev pub settingsFrom : Series → List ℕ → ℕ → Part ℕ
+settingsFrom k sheet at = partBy (settingLine (rowsOf k)) (settingRight (rowsOf k)) (settingSays (rowsOf k)) (settingsN k) 0 at (drop at sheet) []
 
-abbrev pub settingsIn : List ℕ → Part ℕ
-settingsIn sheet = cond (startsWith seriesLine sheet) (settingsFrom sheet (length seriesLine)) (wrongAt 0)
+-- "a sheet of the other series is 40 at that line" (request 103)
+abbrev pub settingsIn : Series → List ℕ → Part ℕ
+settingsIn k sheet = cond (startsWith (seriesLine k) sheet) (settingsFrom k sheet (length (seriesLine k))) (wrongAt 0)
 
-abbrev pub loadingOf : List ℕ → Loading
-loadingOf sheet = afterSettings sheet (settingsIn sheet .got) (settingsIn sheet .came)
+abbrev pub loadingOf : Series → List ℕ → Loading
+loadingOf k sheet = afterSettings sheet (settingsIn k sheet .got) (settingsIn k sheet .came)
 
 -- the answer, and the lent bytes as they are then
 pub record Loaded·image : Type 0 where
@@ -80,12 +83,13 @@ pub record Loaded·image : Type 0 where
   pub image : List ℕ
 
 -- "makes the settings and stored values those it names and empties the undo list; otherwise refusal 40 .. leaves the state as it was"
-abbrev pub loadedBy : List ℕ → Loading → Loaded·image
-loadedBy image (wrong at) = record { answer = answer.Wrong at; image = image }
-loadedBy image (right settings values) = record { answer = answer.Loaded; image = imageOf (noEntries settings values) }
+abbrev pub loadedBy : Series → List ℕ → Loading → Loaded·image
+loadedBy k image (wrong at) = record { answer = answer.Wrong at; image = image }
+loadedBy k image (right settings values) = record { answer = answer.Loaded; image = imageOf (noEntries k (padded settings) values) }
 
 abbrev pub loaded : List ℕ → List ℕ → Loaded·image
-loaded image sheet = cond (isImage image) (loadedBy image (loadingOf sheet)) (record { answer = answer.NoState; image = image })
+loaded image sheet =
+    cond (isImage image) (loadedBy (seriesIn image) image (loadingOf (seriesIn image) sheet)) (record { answer = answer.NoState; image = image })
 
 abbrev pub Loads : List ℕ → List ℕ → Sheeted → List ℕ → Type 0
 Loads image sheet r image′ = (r ≡ loaded image sheet .answer) × (image′ ≡ loaded image sheet .image)

@@ -8,6 +8,7 @@ use lib.Dec.{leb}
 use lib.ListN.{length}
 use Rattle.figures.specs.Text.{codes}
 use Rattle.figures.specs.Bytes.{laid}
+use Rattle.instrument.specs.declared.settings.Series.the-variants.{Tps100}
 use Rattle.state.specs.Entries.{factoryState}
 use Rattle.lines.specs.Demand.{Call, after}
 use Rattle.pieces.specs.Pieces.{pieces}
@@ -23,7 +24,7 @@ refusedInput = codes "refused=input\n"
 
 -- what the program prints: "reads at most 65,536 bytes .. Longer input: it prints `refused=input` and LF."
 abbrev pub printed : List ℕ → List ℕ
-printed input = cond (leb (length input) 65536) (sheetOf (after factoryState (map callOf (pieces input)))) refusedInput
+printed input = cond (leb (length input) 65536) (sheetOf (after (factoryState Tps100) (map callOf (pieces input)))) refusedInput
 
 -- in a lent room: its length, and the room as it is then; nothing where it is too short
 abbrev pub Plays : List ℕ → List ℕ → ℕ → List ℕ → Type 0

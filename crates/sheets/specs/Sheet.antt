@@ -9,9 +9,11 @@ use Rattle.figures.specs.Text.{codes}
 use Rattle.figures.specs.Bytes.{laid}
 use Rattle.figures.specs.Decimal.{decimalOf}
 use Rattle.instrument.specs.Rows.{keyOf}
-use Rattle.instrument.specs.Settings.{settingNumber, noRow, rows}
+use Rattle.instrument.specs.Settings.{settingNumber, noRow, rowsOf, held}
 use Rattle.instrument.specs.Values.{indexNumber, storedAt, getWord}
 use Rattle.state.specs.Image.{stateIn, isImage}
+use Rattle.instrument.specs.declared.settings.Series.{Series}
+use Rattle.instrument.specs.declared.settings.Series.the-variants.{Tps100, Tps300}
 use Rattle.instrument.specs.declared.settings.Row.{Row}
 use Rattle.instrument.specs.declared.values.Kept.{Kept}
 use Rattle.instrument.specs.declared.values.Kept.the-variants.{Never, Put}
@@ -21,8 +23,10 @@ use Rattle.sheets.specs.Lines.{linesBy}
 use Rattle.sheets.specs.declared.answers.Sheeted.{Sheeted}
 use Rattle.sheets.specs.declared.answers.Sheeted.the-variants as answer
 
-abbrev pub seriesLine : List ℕ
-seriesLine = codes "series=TPS100\n"
+-- "The sheet begins `series=TPS300`" (request 103)
+abbrev pub seriesLine : Series → List ℕ
+seriesLine Tps100 = codes "series=TPS100\n"
+seriesLine Tps300 = codes "series=TPS300\n"
 
 abbrev pub settingKey : Row → List ℕ
 settingKey r = keyOf "s" (settingNumber r)
@@ -50,7 +54,8 @@ abbrev pub valueLine : ℕ → Value → List ℕ
 valueLine place v = keptLine place (v .kept)
 
 unfoldable pub sheetOf : State → List ℕ
-sheetOf s = seriesLine ++ (linesBy (settingLine rows) 0 (s .settings) ++ linesBy valueLine 0 (s .values))
+sheetOf s =
+    seriesLine (s .series) ++ (linesBy (settingLine (rowsOf (s .series))) 0 (held (s .series) (s .settings)) ++ linesBy valueLine 0 (s .values))
 
 -- writing it: the answer, and the room as it is then. "Order: .. for writing, 31, then 30. Room beyond a written sheet is untouched."
 pub record Sheet·room : Type 0 where

@@ -2,7 +2,7 @@
 ghost use mathlib.Core.Path.{_≡_};
 ghost use Prim.Native.Nat.{_≤_, _<_};
 ghost use lib.ListN.{length, drop, replicate};
-ghost use Rattle.instrument.specs.Settings.{rows};
+ghost use Rattle.instrument.specs.Settings.{rowsOf};
 ghost use Rattle.state.specs.Entries.{valueOf};
 ghost use Rattle.instrument.specs.Values.{valuesN};
 ghost use Rattle.instrument.specs.declared.values.Kept.the-variants.{Never};
@@ -11,12 +11,16 @@ ghost use Rattle.sheets.specs.Loading.{saidBy, settingSays, keptSaid, se
 ghost use Rattle.sheets.specs.Keeping.{settingsAs, valuesAs};
 use crate::answers::Sheeted;
 use crate::writing::key_length;
+use crate::writing::series_line;
 use crate::writing::setting_line;
 use crate::writing::value_line;
 use figures::casts::wide;
+use instrument::keys::key_at;
 use instrument::settings::SETTINGS;
+use instrument::settings::Series;
 use instrument::settings::in_range;
 use instrument::settings::row_at;
+use instrument::settings::settings_of;
 use instrument::values::Kept;
 use instrument::values::VALUES;
 use instrument::values::Value;
@@ -69,11 +73,10 @@ fn said_at(s: &[u8], start: usize) -> u64
 }
 
 // What the line of the setting at a place says.
-fn parameter_in(place: usize, s: &[u8]) -> u64
-    ensures { λ r. ⌜ r ≡ settingSays rows place (now (s .entry)) ⌝ }
+fn parameter_in(series: Series, place: usize, s: &[u8]) -> u64
+    ensures { λ r. ⌜ r ≡ settingSays (rowsOf series) place (now (s .entry)) ⌝ }
 {
-    let row = row_at(place);
-    let key = row.4;
+    let key = key_at(series, place);
     said_at(s, key_length(key))
 }
 
@@ -110,23 +113,25 @@ fn wrong_settings(at: usize) -> Settings
 }
 
 // The series and the settings' lines.
-fn settings_in(sheet: &[u8]) -> Settings
-    ensures { λ r. ⌜ r ≡ settingsAs (settingsIn (now (sheet .entry))) ⌝ }
+fn settings_in(series: Series, sheet: &[u8]) -> Settings
+    ensures { λ r. ⌜ r ≡ settingsAs (settingsIn series (now (sheet .entry))) ⌝ }
 {
-    if !figures::starts(sheet, b"series=TPS100\n") {
+    let head = series_line(series);
+    if !figures::starts(sheet, &head) {
         return wrong_settings(0);
     }
+    let count = settings_of(series);
     let mut settings = [0; SETTINGS];
     let mut at = 14;
     let mut i = 0;
-    while i < SETTINGS {
+    while i < count {
         let rest = &sheet[at..];
-        let parameter = parameter_in(i, rest);
-        if !in_range(row_at(i), parameter) {
+        let parameter = parameter_in(series, i, rest);
+        if !in_range(row_at(series, i), parameter) {
             return wrong_settings(at);
         }
         let p = parameter as u8;
-        let line = setting_line(i, p);
+        let line = setting_line(series, i, p);
         let text = line.bytes;
         let n = line.n;
         if !figures::starts(rest, &text[0..n]) {
@@ -193,16 +198,18 @@ fn values_in(sheet: &[u8], start: usize) -> Values
     }
 }
 
-// Loads a sheet into a lent image: settings and values are then those it names, and the undo list is empty. 31 and 40 leave the image as it was.
+// Loads a sheet of the image's series into it: settings and values are then those it names, and the undo list is empty. 31 and 40 leave the image as it was.
 pub fn load(image: &mut [u8], sheet: &[u8]) -> Sheeted
     ensures { λ r. ⌜ Loads (now (image .entry)) (now (sheet .entry)) r (now (image .exit)) ⌝ }
 {
     let decoded = decode(image);
     let answer = decoded.answer;
+    let state = decoded.state;
+    let series = state.series;
     let Known::Is = answer else {
         return Sheeted::NoState;
     };
-    let first = settings_in(sheet);
+    let first = settings_in(series, sheet);
     let came = first.came;
     let at = match came {
         Came::Wrong(at) => {
@@ -226,6 +233,6 @@ pub fn load(image: &mut [u8], sheet: &[u8]) -> Sheeted
     }
     let settings = first.settings;
     let values = second.values;
-    encode(with_no_entries(settings, values), image);
+    encode(with_no_entries(series, settings, values), image);
     Sheeted::Loaded
 }

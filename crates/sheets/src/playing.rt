@@ -7,10 +7,11 @@ ghost use Rattle.sheets.specs.Playing.{Plays};
 ghost use Rattle.sheets.specs.Keeping.{Runs};
 use crate::answers::Sheeted;
 use crate::writing::write;
+use instrument::settings::Series;
 use lines::machine::line;
 use pieces::cut;
 use state::entries::factory;
-use state::image::IMAGE;
+use state::image::IMAGE_100;
 use state::image::encode;
 
 // The most bytes that an input may have.
@@ -41,8 +42,9 @@ pub fn play(input: &[u8], room: &mut [u8]) -> usize
         figures::lay(b"refused=input\n", room);
         return 14;
     }
-    let mut image = [0; IMAGE];
-    encode(factory(), &mut image);
+    let mut image = [0; IMAGE_100];
+    let series = Series::Tps100;
+    encode(factory(series), &mut image);
     run(input, &mut image);
     let answer = write(&image, room);
     if let Sheeted::Written(n) = answer {

@@ -1,15 +1,16 @@
 // The sheet written from a state: line by line, each put where the one before it ended.
 ghost use mathlib.Core.Path.{_≡_};
 ghost use lib.ListN.{length};
-ghost use Rattle.instrument.specs.Settings.{rows};
-ghost use Rattle.sheets.specs.Sheet.{settingLine, keptLine, WritesSheet};
+ghost use Rattle.instrument.specs.Settings.{rowsOf};
+ghost use Rattle.sheets.specs.Sheet.{seriesLine, settingLine, keptLine, WritesSheet};
 ghost use Rattle.sheets.specs.Keeping.{keyLength, lineAs, sheetPut, settingsPut};
 use crate::answers::Sheeted;
 use figures::casts::wide;
 use figures::rooms::put;
 use figures::rooms::put_decimal;
-use instrument::settings::SETTINGS;
-use instrument::settings::row_at;
+use instrument::keys::key_at;
+use instrument::settings::Series;
+use instrument::settings::settings_of;
 use instrument::values::Kept;
 use instrument::values::VALUES;
 use instrument::values::get_word;
@@ -18,8 +19,8 @@ use state::entries::State;
 use state::image::Known;
 use state::image::decode;
 
-// The longest sheet.
-pub const LONGEST: usize = 352;
+// The longest sheet of a series.
+pub const LONGEST: usize = 441;
 
 // A line from the start of 20 bytes, the longest, and its length; the rest is 0.
 pub struct Line {
@@ -46,12 +47,21 @@ pub(crate) fn key_length(key: [u8; 5]) -> usize
     3
 }
 
-// The line of the setting at a place.
-pub(crate) fn setting_line(place: usize, parameter: u8) -> Line
-    ensures { λ r. ⌜ r ≡ lineAs (settingLine rows place parameter) ⌝ }
+// The line that names the series.
+pub(crate) fn series_line(series: Series) -> [u8; 14]
+    ensures { λ r. ⌜ r ≡ seriesLine series ⌝ }
 {
-    let row = row_at(place);
-    let key = row.4;
+    match series {
+        Series::Tps100 => *b"series=TPS100\n",
+        Series::Tps300 => *b"series=TPS300\n",
+    }
+}
+
+// The line of the setting at a place.
+pub(crate) fn setting_line(series: Series, place: usize, parameter: u8) -> Line
+    ensures { λ r. ⌜ r ≡ lineAs (settingLine (rowsOf series) place parameter) ⌝ }
+{
+    let key = key_at(series, place);
     let n = key_length(key);
     let mut bytes = [0; 20];
     let after_key = put(&mut bytes, 0, &key[0..n]);
@@ -87,12 +97,15 @@ pub(crate) fn value_line(place: usize, kept: Kept) -> Line
 fn put_settings(s: State) -> Sheet
     ensures { λ r. ⌜ r ≡ settingsPut s ⌝ }
 {
+    let series = s.series;
     let settings = s.settings;
+    let head = series_line(series);
+    let count = settings_of(series);
     let mut bytes = [0; LONGEST];
-    let mut at = put(&mut bytes, 0, b"series=TPS100\n");
+    let mut at = put(&mut bytes, 0, &head);
     let mut i = 0;
-    while i < SETTINGS {
-        let line = setting_line(i, settings[i]);
+    while i < count {
+        let line = setting_line(series, i, settings[i]);
         let text = line.bytes;
         let n = line.n;
         at = put(&mut bytes, at, &text[0..n]);

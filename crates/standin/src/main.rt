@@ -1,4 +1,7 @@
-// The program standin: plays the instrument on standard input and output, from the factory state or from a sheet file.
+// The program standin: plays the instrument on standard input and output, from a series' factory state or from a sheet file, of the series that it names.
+use figures::same;
+use figures::starts;
+use instrument::settings::Series;
 use libc::STDERR_FILENO;
 use libc::STDIN_FILENO;
 use libc::STDOUT_FILENO;
@@ -10,7 +13,8 @@ use sheets::answers::sheet_number;
 use sheets::answers::sheet_tells;
 use sheets::loading::load;
 use state::entries::factory;
-use state::image::IMAGE;
+use state::image::IMAGE_100;
+use state::image::IMAGE_300;
 use state::image::encode;
 
 fn put(text: &[u8]) {
@@ -33,7 +37,7 @@ fn turn(image: &mut [u8], port: Port) -> Next {
             on: false,
         };
     }
-    let mut room = [0u8; 306];
+    let mut room = [0u8; 459];
     let turn = hear(image, port, byte[0], &mut room);
     let next = turn.port;
     let n = turn.count;
@@ -70,25 +74,97 @@ fn failed(what: &[u8]) {
     os::fail(what);
 }
 
-// Loads the sheet file: a sheet has at most 352 bytes, and one more shows that a file is longer.
-fn load_file(image: &mut [u8], path: &[u8]) -> bool {
+// What the arguments ask for: the series, whether a sheet is to be loaded, how many bytes came of it, and whether to play at all.
+struct Start {
+    series: Series,
+    loads: bool,
+    n: usize,
+    on: bool,
+}
+
+fn none() -> Start {
+    let series = Series::Tps100;
+    Start {
+        series: series,
+        loads: false,
+        n: 0,
+        on: false,
+    }
+}
+
+fn fresh(series: Series) -> Start {
+    Start {
+        series: series,
+        loads: false,
+        n: 0,
+        on: true,
+    }
+}
+
+// Reads the sheet file: a sheet has at most 441 bytes, and one more shows that a file is longer.
+fn read_file(path: &[u8], sheet: &mut [u8]) -> Start {
     let fd = os::open_read(path);
     if fd < 0 {
         failed(path);
-        return false;
+        return none();
     }
-    let mut sheet = [0u8; 353];
-    let n = io::read_full(fd, &mut sheet);
+    let n = io::read_full(fd, sheet);
     // Nothing came: the file is empty, or no file, as a folder.
     if n == 0 {
         let mut byte = [0u8; 1];
         let got = libc::read(fd, &mut byte);
         if got < 0 {
             failed(path);
-            return false;
+            return none();
         }
     }
     libc::close(fd);
+    let mut series = Series::Tps100;
+    if starts(sheet, b"series=TPS300\n") {
+        series = Series::Tps300;
+    }
+    Start {
+        series: series,
+        loads: true,
+        n: n,
+        on: true,
+    }
+}
+
+// A series, a sheet file, or nothing, which is a TPS100; the argument was just read.
+fn asked(name: &[u8], sheet: &mut [u8]) -> Start {
+    let n = os::arg_count();
+    if n < 2 {
+        return fresh(Series::Tps100);
+    }
+    if 2 < n {
+        put(b"usage: standin [TPS100 | TPS300 | SHEET]\n");
+        return none();
+    }
+    if os::errno() != 0 {
+        failed(b"SHEET");
+        return none();
+    }
+    if same(name, b"TPS100") {
+        return fresh(Series::Tps100);
+    }
+    if same(name, b"TPS300") {
+        return fresh(Series::Tps300);
+    }
+    read_file(name, sheet)
+}
+
+// Lays the series' factory state down, and loads the sheet where there is one; answers whether to play.
+fn ready(image: &mut [u8], start: Start, path: &[u8], sheet: &[u8]) -> bool {
+    let series = start.series;
+    encode(factory(series), image);
+    if !start.loads {
+        return true;
+    }
+    let n = start.n;
+    if sheet.len() < n {
+        return false;
+    }
     let answer = load(image, &sheet[..n]);
     if let Sheeted::Loaded = answer {
         return true;
@@ -97,29 +173,27 @@ fn load_file(image: &mut [u8], path: &[u8]) -> bool {
     false
 }
 
-// Loads what the argument names, where there is one, and answers whether to play.
-fn begin(image: &mut [u8]) -> bool {
-    let n = os::arg_count();
-    if n < 2 {
-        return true;
-    }
-    if 2 < n {
-        put(b"usage: standin [SHEET]\n");
-        return false;
-    }
-    let mut path = io::buffer();
-    let length = os::arg(1, &mut path);
-    if os::errno() != 0 {
-        failed(b"SHEET");
-        return false;
-    }
-    load_file(image, &path[..length])
-}
-
 fn main() {
-    let mut image = [0; IMAGE];
-    encode(factory(), &mut image);
-    if begin(&mut image) {
-        play(&mut image);
+    let mut path = io::buffer();
+    let mut sheet = [0u8; 442];
+    let length = os::arg(1, &mut path);
+    let start = asked(&path[..length], &mut sheet);
+    if !start.on {
+        return;
+    }
+    let series = start.series;
+    match series {
+        Series::Tps100 => {
+            let mut image = [0; IMAGE_100];
+            if ready(&mut image, start, &path[..length], &sheet) {
+                play(&mut image);
+            }
+        }
+        Series::Tps300 => {
+            let mut image = [0; IMAGE_300];
+            if ready(&mut image, start, &path[..length], &sheet) {
+                play(&mut image);
+            }
+        }
     }
 }

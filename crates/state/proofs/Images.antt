@@ -1,20 +1,23 @@
 -- Each state's image gives the state back, so each has one image and each image is of one state.
-use Prim.Native.Nat.{ℕ, suc, _+_, _*_, _/_, _%_, _<_}
+use Prim.Native.Nat.{ℕ, zero, suc, _+_, _-_, _*_, _/_, _%_, _<_, _≤_}
 use mathlib.Core.Path.{_≡_, refl, sym, ap, _∙_}
 use mathlib.Core.Bool.{Bool, true, false, cond, _&&_, false≢true, and-eq-true-iff}
 use mathlib.Core.List.{List, [], _∷_, _++_}
+use native.Mathlib.Nat.{sub-zero}
 use native.Mathlib.Omega.{arith}
 use borrow.Author.Tests.{eq-eqb, eqb-true, leb-true}
 use lib.Dec.{eqb, leb}
-use lib.ListN.{length, getD, take, drop, length-append}
-use lib.Seq.{take-all, take-at, drop-at, drop-drop, getD-drop}
+use lib.ListN.{length, getD, take, drop, replicate, length-append, length-replicate, take-append-drop}
+use lib.Seq.{take-all, take-at, drop-at, drop-drop, getD-drop, length-take-le}
 use Rattle.figures.specs.Bytes.{sameBytes}
-use Rattle.figures.proofs.Bytes.{same-refl, same-true}
-use Rattle.instrument.specs.Settings.{inRange, rows, inRanges, settingsN}
+use Rattle.figures.proofs.Bytes.{same-refl, same-true, laid-fits}
+use Rattle.instrument.specs.Settings.{rows100, rows300, settingsN, settingsMost, noRow, rowsOf, held, padded, places, inRange, inRanges}
 use Rattle.state.specs.Entries.{factoryState, entriesN, valueOf, entryOf, blankState, valuesRight, entriesRight, putsOf, sound, isState}
 use Rattle.instrument.specs.Values.{valuesN}
-use Rattle.state.specs.Image.{valuesAt, countAt, entriesAt, imageN, keptBytes, entryBytes, valuesBytes, entriesBytes, imageOf}
-use Rattle.state.specs.Image.{keptIn, entryIn, valuesIn, entriesIn, stateIn, isImage, decodeOf}
+use Rattle.state.specs.Image.{formOf, valuesAt, countAt, entriesAt, restN, imageN, keptBytes, entryBytes, valuesBytes, entriesBytes, restOf, imageOf}
+use Rattle.state.specs.Image.{keptIn, entryIn, valuesIn, entriesIn, seriesIn, stateOf, stateAs, stateIn, isImage, decodeOf}
+use Rattle.instrument.specs.declared.settings.Series.{Series}
+use Rattle.instrument.specs.declared.settings.Series.the-variants.{Tps100, Tps300}
 use Rattle.instrument.specs.declared.settings.Row.{Row}
 use Rattle.instrument.specs.declared.values.Kept.{Kept}
 use Rattle.instrument.specs.declared.values.Kept.the-variants.{Never, Put}
@@ -25,6 +28,7 @@ use Rattle.state.specs.declared.entries.Entry.{Entry}
 use Rattle.state.specs.declared.entries.State.{State}
 use Rattle.state.specs.declared.image.Known.the-variants.{Not, Is}
 use Rattle.state.specs.declared.image.Decoded.{Decoded}
+use Rattle.instrument.proofs.Ranges.{rows-long, settings-few, places-long, range-high}
 use Rattle.state.proofs.Laying.{flat-length, rows-flat, valueBytes, valueIn}
 
 -- a row gives back what it was made of
@@ -54,7 +58,8 @@ entry-back e = by (e .item) (e .former .parameter) (e .former .kept)
 -- what of a state its image rests on
 
 pub record Shaped (s : State) : Type 0 where
-  pub settings-long : length (s .settings) ≡ settingsN
+  pub settings-long : length (s .settings) ≡ settingsMost
+  pub settings-held : padded (held (s .series) (s .settings)) ≡ s .settings
   pub values-long : length (s .values) ≡ valuesN
   pub undo-long : length (s .undo) ≡ entriesN
   pub few : s .count < 65536
@@ -66,87 +71,178 @@ ranges-long [] (p ∷ ps) e = absurd (false≢true e)
 ranges-long (r ∷ rs) [] e = absurd (false≢true e)
 ranges-long (r ∷ rs) (p ∷ ps) e = ap suc (ranges-long rs ps (and-eq-true-iff (inRange r p) (inRanges rs ps) .0 e .1))
 
-rows-long : length rows ≡ settingsN
-unfolding rows
-rows-long = refl
+-- what stands past the series' own settings is nought
+
+drop-replicate : {A : Type 0} (n m : ℕ) (a : A) → drop n (replicate m a) ≡ replicate (m - n) a
+drop-replicate zero m a = rw (sub-zero m)
+drop-replicate (suc n) zero a = let q : 0 - suc n ≡ 0 = omega arith in rw q
+drop-replicate (suc n) (suc m) a = let q : suc m - suc n ≡ m - n = omega arith in rw q (drop-replicate n m a)
+
+blank-held : (p : ℕ) → inRange noRow p ≡ true → p ≡ 0
+blank-held p e = omega (arith, range-high noRow p e)
+
+blanks-held : (n : ℕ) (ps : List ℕ) → inRanges (replicate n noRow) ps ≡ true → ps ≡ replicate n 0
+unfolding inRanges
+blanks-held zero [] e = refl
+blanks-held zero (p ∷ ps) e = absurd (false≢true e)
+blanks-held (suc n) [] e = absurd (false≢true e)
+blanks-held (suc n) (p ∷ ps) e =
+    let both = and-eq-true-iff (inRange noRow p) (inRanges (replicate n noRow) ps) .0 e in
+    λ i. blank-held p (both .0) i ∷ blanks-held n ps (both .1) i
+
+pub ranges-split : (rs more : List Row) (ps : List ℕ) → inRanges (rs ++ more) ps ≡ true
+    → (inRanges rs (take (length rs) ps) ≡ true) × (inRanges more (drop (length rs) ps) ≡ true)
+unfolding inRanges
+ranges-split [] more ps e = (refl, e)
+ranges-split (r ∷ rs) more [] e = absurd (false≢true e)
+ranges-split (r ∷ rs) more (p ∷ ps) e =
+    let both = and-eq-true-iff (inRange r p) (inRanges (rs ++ more) ps) .0 e in
+    let rest = ranges-split rs more ps (both .1) in
+    (rw (both .0) (rest .0), rest .1)
+
+module _ (k : Series) (ps : List ℕ) (e : inRanges (places k) ps ≡ true) where
+  parted : (inRanges (rowsOf k) (held k ps) ≡ true) × (inRanges (replicate (settingsMost - settingsN k) noRow) (drop (settingsN k) ps) ≡ true)
+  parted = rw (rows-long k) at (ranges-split (rowsOf k) (replicate (settingsMost - settingsN k) noRow) ps e)
+
+  -- the series' own are in their ranges
+  pub held-right : inRanges (rowsOf k) (held k ps) ≡ true
+  held-right = parted .0
+
+  pub held-long : length (held k ps) ≡ settingsN k
+  held-long = ranges-long (rowsOf k) (held k ps) held-right ∙ rows-long k
+
+  pub held-back : padded (held k ps) ≡ ps
+  held-back =
+      let n = settingsN k in
+      let blanks : List ℕ = replicate settingsMost 0 in
+      let fits : length (held k ps) ≤ length blanks = omega (arith, held-long, settings-few k, length-replicate {A = ℕ} settingsMost 0) in
+      let past : drop (length (held k ps)) blanks ≡ drop n ps =
+      ap (λ (i : ℕ). drop i blanks) held-long ∙ drop-replicate n settingsMost 0 ∙ sym (blanks-held (settingsMost - n) (drop n ps) (parted .1))
+      in
+      laid-fits (held k ps) blanks fits ∙ ap (λ (t : List ℕ). held k ps ++ t) past ∙ take-append-drop n ps
 
 pub shaped : (s : State) → isState s ≡ true → Shaped s
 shaped s e =
     let last = sound (s .count) (putsOf (s .values)) (s .undo) in
-    let u = eqb (length (s .undo)) entriesN && entriesRight (s .undo) (s .count) in
+    let u = eqb (length (s .undo)) entriesN && entriesRight (s .series) (s .undo) (s .count) in
     let v = eqb (length (s .values)) valuesN && valuesRight 0 (s .values) in
-    let c = and-eq-true-iff (leb (s .count) entriesN) (inRanges rows (s .settings) && (v && (u && last))) .0 e in
-    let g = and-eq-true-iff (inRanges rows (s .settings)) (v && (u && last)) .0 (c .1) in
+    let c = and-eq-true-iff (leb (s .count) entriesN) (inRanges (places (s .series)) (s .settings) && (v && (u && last))) .0 e in
+    let g = and-eq-true-iff (inRanges (places (s .series)) (s .settings)) (v && (u && last)) .0 (c .1) in
     let w = and-eq-true-iff v (u && last) .0 (g .1) in
     let values = and-eq-true-iff (eqb (length (s .values)) valuesN) (valuesRight 0 (s .values)) .0 (w .0) in
-    let undo = and-eq-true-iff (eqb (length (s .undo)) entriesN) (entriesRight (s .undo) (s .count)) .0 (and-eq-true-iff u last .0 (w .1) .0) in
+    let undo = and-eq-true-iff (eqb (length (s .undo)) entriesN) (entriesRight (s .series) (s .undo) (s .count)) .0 (and-eq-true-iff u last .0 (w .1) .0) in
     record {
-      settings-long = ranges-long rows (s .settings) (g .0) ∙ rows-long;
+      settings-long = ranges-long (places (s .series)) (s .settings) (g .0) ∙ places-long (s .series);
+      settings-held = held-back (s .series) (s .settings) (g .0);
       values-long = eqb-true (length (s .values)) valuesN (values .0);
       undo-long = eqb-true (length (s .undo)) entriesN (undo .0);
       few = omega (arith, leb-true (s .count) entriesN (c .0));
     }
 
--- the parts of an image, by their offsets
+-- parameters as many as the series has, padded: held again, and right where they are
 
-module _ (f h k : ℕ) (g v e : List ℕ) (lg : length g ≡ settingsN) (lv : length v ≡ valuesN * 11) (le : length e ≡ entriesN * 14) where
-  abbrev laidOut : List ℕ
-  laidOut = f ∷ (g ++ (v ++ (h ∷ k ∷ e)))
+pub padded-held : (k : Series) (ps : List ℕ) → length ps ≡ settingsN k → held k (padded ps) ≡ ps
+padded-held k ps long =
+    let blanks : List ℕ = replicate settingsMost 0 in
+    let fits : length ps ≤ length blanks = omega (arith, settings-few k, length-replicate {A = ℕ} settingsMost 0) in
+    ap (held k) (laid-fits ps blanks fits) ∙ take-at ps (drop (length ps) blanks) (settingsN k) long
 
-  at-values : drop valuesAt laidOut ≡ v ++ (h ∷ k ∷ e)
-  at-values = drop-at g (v ++ (h ∷ k ∷ e)) settingsN lg
+blanks-right : (n : ℕ) → inRanges (replicate n noRow) (replicate n 0) ≡ true
+unfolding inRanges
+blanks-right zero = refl
+blanks-right (suc n) = blanks-right n
 
-  at-count : drop countAt laidOut ≡ h ∷ k ∷ e
-  at-count = sym (drop-drop (valuesN * 11) valuesAt laidOut) ∙ ap (drop (valuesN * 11)) at-values ∙ drop-at v (h ∷ k ∷ e) (valuesN * 11) lv
+ranges-join : (rs more : List Row) (ps qs : List ℕ) → inRanges rs ps ≡ true → inRanges more qs ≡ true → inRanges (rs ++ more) (ps ++ qs) ≡ true
+unfolding inRanges
+ranges-join [] more [] qs e f = f
+ranges-join [] more (p ∷ ps) qs e f = absurd (false≢true e)
+ranges-join (r ∷ rs) more [] qs e f = absurd (false≢true e)
+ranges-join (r ∷ rs) more (p ∷ ps) qs e f =
+    let both = and-eq-true-iff (inRange r p) (inRanges rs ps) .0 e in
+    rw (both .0) (ranges-join rs more ps qs (both .1) f)
 
-  settings-part : take settingsN (drop 1 laidOut) ≡ g
-  settings-part = take-at g (v ++ (h ∷ k ∷ e)) settingsN lg
+pub padded-right : (k : Series) (ps : List ℕ) → inRanges (rowsOf k) ps ≡ true → inRanges (places k) (padded ps) ≡ true
+padded-right k ps e =
+    let long : length ps ≡ settingsN k = ranges-long (rowsOf k) ps e ∙ rows-long k in
+    let blanks : List ℕ = replicate settingsMost 0 in
+    let fits : length ps ≤ length blanks = omega (arith, settings-few k, length-replicate {A = ℕ} settingsMost 0) in
+    let past : drop (length ps) blanks ≡ replicate (settingsMost - settingsN k) 0 = ap (λ (i : ℕ). drop i blanks) long ∙ drop-replicate (settingsN k) settingsMost 0 in
+    ap (inRanges (places k)) (laid-fits ps blanks fits ∙ ap (λ (t : List ℕ). ps ++ t) past)
+    ∙ ranges-join (rowsOf k) (replicate (settingsMost - settingsN k) noRow) ps (replicate (settingsMost - settingsN k) 0) e (blanks-right (settingsMost - settingsN k))
 
-  values-part : take (valuesN * 11) (drop valuesAt laidOut) ≡ v
-  values-part = ap (take (valuesN * 11)) at-values ∙ take-at v (h ∷ k ∷ e) (valuesN * 11) lv
+-- the parts of the rest, by their offsets
 
-  entries-part : take (entriesN * 14) (drop entriesAt laidOut) ≡ e
-  entries-part = ap (take (entriesN * 14)) (sym (drop-drop 2 countAt laidOut) ∙ ap (drop 2) at-count) ∙ take-all (entriesN * 14) e (omega arith)
+module _ (h l : ℕ) (v e : List ℕ) (lv : length v ≡ countAt) (le : length e ≡ entriesN * 14) where
+  abbrev rest : List ℕ
+  rest = v ++ (h ∷ l ∷ e)
 
-  count-part : getD laidOut countAt 0 * 256 + getD laidOut (countAt + 1) 0 ≡ h * 256 + k
+  at-count : drop countAt rest ≡ h ∷ l ∷ e
+  at-count = drop-at v (h ∷ l ∷ e) countAt lv
+
+  values-part : take countAt rest ≡ v
+  values-part = take-at v (h ∷ l ∷ e) countAt lv
+
+  entries-part : take (entriesN * 14) (drop entriesAt rest) ≡ e
+  entries-part = ap (take (entriesN * 14)) (sym (drop-drop 2 countAt rest) ∙ ap (drop 2) at-count) ∙ take-all (entriesN * 14) e (omega arith)
+
+  count-part : getD rest countAt 0 * 256 + getD rest (countAt + 1) 0 ≡ h * 256 + l
   count-part =
-      let high : getD laidOut countAt 0 ≡ h = sym (getD-drop countAt laidOut 0 0) ∙ ap (λ (l : List ℕ). getD l 0 0) at-count in
-      let low : getD laidOut (countAt + 1) 0 ≡ k = sym (getD-drop countAt laidOut 1 0) ∙ ap (λ (l : List ℕ). getD l 1 0) at-count in
+      let high : getD rest countAt 0 ≡ h = sym (getD-drop countAt rest 0 0) ∙ ap (λ (t : List ℕ). getD t 0 0) at-count in
+      let low : getD rest (countAt + 1) 0 ≡ l = sym (getD-drop countAt rest 1 0) ∙ ap (λ (t : List ℕ). getD t 1 0) at-count in
       rw (high, low)
 
-  all-long : length laidOut ≡ imageN
-  all-long = omega (arith, length-append g (v ++ (h ∷ k ∷ e)), length-append v (h ∷ k ∷ e))
+  rest-long : length rest ≡ restN
+  rest-long = omega (arith, length-append v (h ∷ l ∷ e))
+
+series-said : (k : Series) (l : List ℕ) → seriesIn (formOf k ∷ l) ≡ k
+series-said Tps100 l = refl
+series-said Tps300 l = refl
 
 -- a state is read from its image
 
-pub imaged : (s : State) → Shaped s → (length (imageOf s) ≡ imageN) × (stateIn (imageOf s) ≡ s)
-unfolding imageOf stateIn
+pub imaged : (s : State) → Shaped s → (length (imageOf s) ≡ imageN (s .series)) × (stateIn (imageOf s) ≡ s)
+unfolding imageOf stateAs
 imaged s hs =
-    let g = s .settings in
+    let k = s .series in
+    let g = held k (s .settings) in
     let v = valuesBytes (s .values) in
     let e = entriesBytes (s .undo) in
     let h = s .count / 256 % 256 in
-    let k = s .count % 256 in
-    let lg : length g ≡ settingsN = hs .settings-long in
-    let lv : length v ≡ valuesN * 11 = flat-length valueBytes 11 (λ x. value-back x .0) (s .values) ∙ rw (hs .values-long) in
+    let l = s .count % 256 in
+    let r = restOf (s .values) (s .count) (s .undo) in
+    let lg : length g ≡ settingsN k = length-take-le (settingsN k) (s .settings) (omega (arith, hs .settings-long, settings-few k)) in
+    let lv : length v ≡ countAt = flat-length valueBytes 11 (λ x. value-back x .0) (s .values) ∙ rw (hs .values-long) in
     let le : length e ≡ entriesN * 14 = flat-length entryBytes 14 (λ x. entry-back x .0) (s .undo) ∙ rw (hs .undo-long) in
     let rv : valuesIn v ≡ s .values = rw (hs .values-long) at (rows-flat valueBytes valueIn 11 value-back (s .values)) in
     let re : entriesIn e ≡ s .undo = rw (hs .undo-long) at (rows-flat entryBytes entryIn 14 entry-back (s .undo)) in
-    let hk : h * 256 + k ≡ s .count = omega (arith, hs .few) in (
-      all-long 1 h k g v e lg lv le,
-      (λ i. record {
-        settings = settings-part 1 h k g v e lg lv le i;
-        values = (ap valuesIn (values-part 1 h k g v e lg lv le) ∙ rv) i;
-        undo = (ap entriesIn (entries-part 1 h k g v e lg lv le) ∙ re) i;
-        count = (count-part 1 h k g v e lg lv le ∙ hk) i;
-      }),
+    let hl : h * 256 + l ≡ s .count = omega (arith, hs .few) in
+    let at-settings : take (settingsN k) (g ++ r) ≡ g = take-at g r (settingsN k) lg in
+    let at-rest : drop (valuesAt k) (formOf k ∷ (g ++ r)) ≡ r =
+    sym (drop-drop (settingsN k) 1 (formOf k ∷ (g ++ r))) ∙ drop-at g r (settingsN k) lg
+    in
+    let split : stateAs k (formOf k ∷ (g ++ r)) ≡ stateOf k g r = λ i. stateOf k (at-settings i) (at-rest i) in (
+      omega (arith, length-append g r, rest-long h l v e lv le),
+      ap (λ (t : Series). stateAs t (formOf k ∷ (g ++ r))) (series-said k (g ++ r))
+          ∙ split
+          ∙ (λ i. record {
+            series = k;
+            settings = hs .settings-held i;
+            values = (ap valuesIn (values-part h l v e lv le) ∙ rv) i;
+            undo = (ap entriesIn (entries-part h l v e lv le) ∙ re) i;
+            count = (count-part h l v e lv le ∙ hl) i;
+          }),
     )
 
-pub image-length : (s : State) → isState s ≡ true → length (imageOf s) ≡ imageN
+pub image-length : (s : State) → isState s ≡ true → length (imageOf s) ≡ imageN (s .series)
 image-length s e = imaged s (shaped s e) .0
 
 pub image-back : (s : State) → isState s ≡ true → stateIn (imageOf s) ≡ s
 image-back s e = imaged s (shaped s e) .1
+
+-- an image says the series
+pub image-series : (s : State) → isState s ≡ true → seriesIn (imageOf s) ≡ s .series
+unfolding imageOf stateAs
+image-series s e = ap (λ (t : State). t .series) (image-back s e)
 
 -- every state's image is accepted, as that state
 
@@ -172,13 +268,18 @@ told-not false s b d e q = refl
 pub decoded-is : (l : List ℕ) (d : Decoded) → d ≡ decodeOf l → d .answer ≡ Is → (isImage l ≡ true) × (d .state ≡ stateIn l)
 decoded-is l d e q = told (isImage l) (stateIn l) blankState d e q
 
+pub decoded-series : (l : List ℕ) (d : Decoded) → d ≡ decodeOf l → d .answer ≡ Is → d .state .series ≡ seriesIn l
+unfolding stateAs
+decoded-series l d e q = ap (λ (t : State). t .series) (decoded-is l d e q .1)
+
 pub decoded-not : (l : List ℕ) (d : Decoded) → d ≡ decodeOf l → d .answer ≡ Not → isImage l ≡ false
 decoded-not l d e q = told-not (isImage l) (stateIn l) blankState d e q
 
 pub image-is : (s : State) → isState s ≡ true → isImage (imageOf s) ≡ true
+unfolding imageOf stateAs
 image-is s e =
-    ap (λ (t : State). eqb (length (imageOf s)) imageN && (sameBytes (imageOf s) (imageOf t) && isState t)) (image-back s e)
-    ∙ rw (eq-eqb (length (imageOf s)) imageN (image-length s e), same-refl (imageOf s), e)
+    ap (λ (t : State). eqb (length (imageOf s)) (imageN (t .series)) && (sameBytes (imageOf s) (imageOf t) && isState t)) (image-back s e)
+    ∙ rw (eq-eqb (length (imageOf s)) (imageN (s .series)) (image-length s e), same-refl (imageOf s), e)
 
 -- an image is of one state
 
@@ -187,10 +288,11 @@ one-state s t hs ht e = sym (image-back s hs) ∙ ap stateIn e ∙ image-back t 
 
 pub image-of : (l : List ℕ) → isImage l ≡ true → (isState (stateIn l) ≡ true) × (l ≡ imageOf (stateIn l))
 image-of l e =
-    let rest = and-eq-true-iff (eqb (length l) imageN) (sameBytes l (imageOf (stateIn l)) && isState (stateIn l)) .0 e in
+    let rest = and-eq-true-iff (eqb (length l) (imageN (seriesIn l))) (sameBytes l (imageOf (stateIn l)) && isState (stateIn l)) .0 e in
     let both = and-eq-true-iff (sameBytes l (imageOf (stateIn l))) (isState (stateIn l)) .0 (rest .1) in
     (both .1, same-true l (imageOf (stateIn l)) (both .0))
 
-pub factory-is-state : isState factoryState ≡ true
-unfolding rows inRanges valuesRight entriesRight sound
-factory-is-state = refl
+pub factory-is-state : (k : Series) → isState (factoryState k) ≡ true
+unfolding rows100 rows300 inRanges valuesRight entriesRight sound
+factory-is-state Tps100 = refl
+factory-is-state Tps300 = refl

@@ -8,6 +8,7 @@ use native.Mathlib.Omega.{arith}
 use borrow.Author.Tests.{le-ltb, lt-ltb}
 use lib.ListN.{length, getD, drop, drop-of-length-le}
 use lib.Seq.{drop-cons}
+use Rattle.instrument.specs.declared.settings.Series.{Series}
 use Rattle.instrument.specs.declared.values.Value.{Value}
 use Rattle.state.specs.declared.entries.Entry.{Entry}
 use Rattle.instrument.specs.Values.{keptRight}
@@ -34,34 +35,34 @@ values-all vs i h = rw (drop-of-length-le vs h)
 
 -- entries: at a place below the count, and past it
 
-module _ (u : List Entry) (d : Entry) (i n : ℕ) (h : i < length u) where
-  stand-turn : i < n → entriesRight (drop i u) (n - i) ≡ entryRight (getD u i d) && entriesRight (drop (i + 1) u) (n - (i + 1))
+module _ (k : Series) (u : List Entry) (d : Entry) (i n : ℕ) (h : i < length u) where
+  stand-turn : i < n → entriesRight k (drop i u) (n - i) ≡ entryRight k (getD u i d) && entriesRight k (drop (i + 1) u) (n - (i + 1))
   unfolding entriesRight
   stand-turn hn =
       let q : n - i - 1 ≡ n - (i + 1) = omega arith in
       rw (drop-cons u i d h, lt-ltb 0 (n - i) (omega arith), q, add-one i)
 
-  blank-turn : n ≤ i → entriesRight (drop i u) (n - i) ≡ isBlank (getD u i d) && entriesRight (drop (i + 1) u) (n - (i + 1))
+  blank-turn : n ≤ i → entriesRight k (drop i u) (n - i) ≡ isBlank (getD u i d) && entriesRight k (drop (i + 1) u) (n - (i + 1))
   unfolding entriesRight
   blank-turn hn =
       let q : n - i - 1 ≡ n - (i + 1) = omega arith in
       rw (drop-cons u i d h, le-ltb 0 (n - i) (omega arith), q, add-one i)
 
-  pub stand-more : i < n → entryRight (getD u i d) ≡ true → entriesRight (drop i u) (n - i) ≡ entriesRight (drop (i + 1) u) (n - (i + 1))
+  pub stand-more : i < n → entryRight k (getD u i d) ≡ true → entriesRight k (drop i u) (n - i) ≡ entriesRight k (drop (i + 1) u) (n - (i + 1))
   stand-more hn e = stand-turn hn ∙ and-on e
 
-  pub stand-not : i < n → entryRight (getD u i d) ≡ false → entriesRight (drop i u) (n - i) ≡ false
+  pub stand-not : i < n → entryRight k (getD u i d) ≡ false → entriesRight k (drop i u) (n - i) ≡ false
   stand-not hn e = stand-turn hn ∙ and-off _ e
 
-  pub blank-more : n ≤ i → isBlank (getD u i d) ≡ true → entriesRight (drop i u) (n - i) ≡ entriesRight (drop (i + 1) u) (n - (i + 1))
+  pub blank-more : n ≤ i → isBlank (getD u i d) ≡ true → entriesRight k (drop i u) (n - i) ≡ entriesRight k (drop (i + 1) u) (n - (i + 1))
   blank-more hn e = blank-turn hn ∙ and-on e
 
-  pub blank-not : n ≤ i → isBlank (getD u i d) ≡ false → entriesRight (drop i u) (n - i) ≡ false
+  pub blank-not : n ≤ i → isBlank (getD u i d) ≡ false → entriesRight k (drop i u) (n - i) ≡ false
   blank-not hn e = blank-turn hn ∙ and-off _ e
 
-pub entries-all : (u : List Entry) (i n : ℕ) → length u ≤ i → entriesRight (drop i u) n ≡ true
+pub entries-all : (k : Series) (u : List Entry) (i n : ℕ) → length u ≤ i → entriesRight k (drop i u) n ≡ true
 unfolding entriesRight
-entries-all u i n h = rw (drop-of-length-le u h)
+entries-all k u i n h = rw (drop-of-length-le u h)
 
 -- entries taken back, the newest that stands at a time
 

@@ -1,12 +1,14 @@
--- A state: settings, stored values and the undo list. "A state is settings in range, each value never put or as a PUT can leave it, and 0
+-- A state: its series, settings, stored values and the undo list. "A state is settings in range, each value never put or as a PUT can leave it, and 0
 -- to 64 entries holding the same; taken back newest first, none names a value then never put."
 use Prim.Native.Nat.{ℕ, zero, suc, _+_, _-_}
 use mathlib.Core.Bool.{Bool, true, false, cond, not, _&&_}
 use mathlib.Core.List.{List, [], _∷_, map}
 use lib.Dec.{eqb, leb, ltb}
 use lib.ListN.{length, getD, set, replicate}
-use Rattle.instrument.specs.Settings.{settingsN, rows, rowAt, factorySettings, inRange, inRanges}
+use Rattle.instrument.specs.Settings.{settingsN, settingsMost, rowAt, places, isAsked, factorySettings, inRange, inRanges}
 use Rattle.instrument.specs.Values.{valuesN, isPut, keptRight}
+use Rattle.instrument.specs.declared.settings.Series.{Series}
+use Rattle.instrument.specs.declared.settings.Series.the-variants.{Tps100}
 use Rattle.instrument.specs.declared.values.Kept.{Kept}
 use Rattle.instrument.specs.declared.values.Kept.the-variants.{Never}
 use Rattle.instrument.specs.declared.values.Value.{Value}
@@ -29,30 +31,34 @@ abbrev pub blankEntry : Entry
 blankEntry = entryOf Free 0 Never
 
 -- no undo entry
-abbrev pub noEntries : List ℕ → List Value → State
-noEntries settings values = record { settings = settings; values = values; undo = replicate entriesN blankEntry; count = 0 }
+abbrev pub noEntries : Series → List ℕ → List Value → State
+noEntries k settings values = record { series = k; settings = settings; values = values; undo = replicate entriesN blankEntry; count = 0 }
 
 -- no value put either
-abbrev pub unused : List ℕ → State
-unused settings = noEntries settings (replicate valuesN (valueOf Never))
+abbrev pub unused : Series → List ℕ → State
+unused k settings = noEntries k settings (replicate valuesN (valueOf Never))
 
 -- "At the factory no value has been put."
-abbrev pub factoryState : State
-factoryState = unused factorySettings
+abbrev pub factoryState : Series → State
+factoryState k = unused k (factorySettings k)
 
 abbrev pub blankState : State
-blankState = unused (replicate settingsN 0)
+blankState = unused Tps100 (replicate settingsMost 0)
 
 abbrev pub isNever : Kept → Bool
 isNever k = not (isPut k)
 
-abbrev pub itemRight : Item → ℕ → Kept → Bool
-itemRight Free p k = false
-itemRight (Setting i) p k = ltb i settingsN && (inRange (rowAt i) p && isNever k)
-itemRight (Stored i) p k = ltb i valuesN && (eqb p 0 && keptRight i k)
+-- a parameter that a SET can leave at a place: those that can't be SET "have no undo entries" (request 103)
+abbrev pub settable : Series → ℕ → ℕ → Bool
+settable k i p = ltb i (settingsN k) && (not (isAsked (rowAt k i)) && inRange (rowAt k i) p)
 
-abbrev pub entryRight : Entry → Bool
-entryRight e = itemRight (e .item) (e .former .parameter) (e .former .kept)
+abbrev pub itemRight : Series → Item → ℕ → Kept → Bool
+itemRight k Free p w = false
+itemRight k (Setting i) p w = settable k i p && isNever w
+itemRight k (Stored i) p w = ltb i valuesN && (eqb p 0 && keptRight i w)
+
+abbrev pub entryRight : Series → Entry → Bool
+entryRight k e = itemRight k (e .item) (e .former .parameter) (e .former .kept)
 
 abbrev pub isFree : Item → Bool
 isFree Free = true
@@ -63,9 +69,9 @@ abbrev pub isBlank : Entry → Bool
 isBlank e = isFree (e .item) && (eqb (e .former .parameter) 0 && isNever (e .former .kept))
 
 -- the first n entries may stand, and those past them are blank
-unfoldable pub entriesRight : List Entry → ℕ → Bool
-entriesRight [] n = true
-entriesRight (e ∷ es) n = cond (ltb 0 n) (entryRight e) (isBlank e) && entriesRight es (n - 1)
+unfoldable pub entriesRight : Series → List Entry → ℕ → Bool
+entriesRight k [] n = true
+entriesRight k (e ∷ es) n = cond (ltb 0 n) (entryRight k e) (isBlank e) && entriesRight k es (n - 1)
 
 -- the values at the places from i on
 unfoldable pub valuesRight : ℕ → List Value → Bool
@@ -95,7 +101,7 @@ sound (suc n) puts u =
 abbrev pub isState : State → Bool
 isState s =
     leb (s .count) entriesN
-    && (inRanges rows (s .settings)
+    && (inRanges (places (s .series)) (s .settings)
     && ((eqb (length (s .values)) valuesN && valuesRight 0 (s .values))
-    && ((eqb (length (s .undo)) entriesN && entriesRight (s .undo) (s .count))
+    && ((eqb (length (s .undo)) entriesN && entriesRight (s .series) (s .undo) (s .count))
     && sound (s .count) (putsOf (s .values)) (s .undo))))

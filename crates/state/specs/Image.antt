@@ -7,7 +7,9 @@ use lib.ListN.{length, getD, take, drop}
 use Rattle.figures.specs.Bytes.{sameBytes}
 use Rattle.instrument.specs.Values.{eightBytes, eightOf, valuesN}
 use Rattle.state.specs.Entries.{entriesN, valueOf, entryOf, blankState, isState}
-use Rattle.instrument.specs.Settings.{settingsN}
+use Rattle.instrument.specs.Settings.{settingsN, held, padded}
+use Rattle.instrument.specs.declared.settings.Series.{Series}
+use Rattle.instrument.specs.declared.settings.Series.the-variants.{Tps100, Tps300}
 use Rattle.instrument.specs.declared.values.Kept.{Kept}
 use Rattle.instrument.specs.declared.values.Kept.the-variants.{Never, Put}
 use Rattle.instrument.specs.declared.values.Value.{Value}
@@ -18,18 +20,27 @@ use Rattle.state.specs.declared.entries.State.{State}
 use Rattle.state.specs.declared.image.Known.the-variants.{Not, Is}
 use Rattle.state.specs.declared.image.Decoded.{Decoded}
 
--- the offsets of the parts
-abbrev pub valuesAt : ℕ
-valuesAt = 1 + settingsN
+-- series and form
+abbrev pub formOf : Series → ℕ
+formOf Tps100 = 1
+formOf Tps300 = 17
 
+-- where the values start: after as many settings as the series has
+abbrev pub valuesAt : Series → ℕ
+valuesAt k = 1 + settingsN k
+
+-- values, count and entries follow in every series alike; their offsets from there
 abbrev pub countAt : ℕ
-countAt = valuesAt + valuesN * 11
+countAt = valuesN * 11
 
 abbrev pub entriesAt : ℕ
 entriesAt = countAt + 2
 
-abbrev pub imageN : ℕ
-imageN = entriesAt + entriesN * 14
+abbrev pub restN : ℕ
+restN = entriesAt + entriesN * 14
+
+abbrev pub imageN : Series → ℕ
+imageN k = valuesAt k + restN
 
 -- never put, or unit, sign and eight characters
 unfoldable pub keptBytes : Kept → List ℕ
@@ -55,13 +66,15 @@ valuesBytes = flat (λ (v : Value). keptBytes (v .kept))
 abbrev pub entriesBytes : List Entry → List ℕ
 entriesBytes = flat entryBytes
 
+abbrev pub restOf : List Value → ℕ → List Entry → List ℕ
+restOf values count undo = valuesBytes values ++ ((count / 256 % 256) ∷ (count % 256) ∷ entriesBytes undo)
+
 -- series and form, settings, values, count, entries
 unfoldable pub imageOf : State → List ℕ
-imageOf s =
-    1 ∷ (s .settings ++ (valuesBytes (s .values) ++ ((s .count / 256 % 256) ∷ (s .count % 256) ∷ entriesBytes (s .undo))))
+imageOf s = formOf (s .series) ∷ (held (s .series) (s .settings) ++ restOf (s .values) (s .count) (s .undo))
 
 abbrev pub encodedIn : State → List ℕ → List ℕ
-encodedIn s image = cond (eqb (length image) imageN) (imageOf s) image
+encodedIn s image = cond (eqb (length image) (imageN (s .series))) (imageOf s) image
 
 abbrev pub keptIn : List ℕ → Kept
 keptIn l = cond (eqb (getD l 0 0) 1) (Put (getD l 1 0) (getD l 2 0) (eightOf (drop 3 l))) Never
@@ -83,18 +96,30 @@ valuesIn = rowsIn (λ (l : List ℕ). valueOf (keptIn l)) 11 valuesN
 abbrev pub entriesIn : List ℕ → List Entry
 entriesIn = rowsIn entryIn 14 entriesN
 
--- the state that the bytes would be the image of
-unfoldable pub stateIn : List ℕ → State
-stateIn l = record {
-  settings = take settingsN (drop 1 l);
-  values = valuesIn (take (valuesN * 11) (drop valuesAt l));
-  undo = entriesIn (take (entriesN * 14) (drop entriesAt l));
-  count = getD l countAt 0 * 256 + getD l (countAt + 1) 0;
+-- the series that the first byte says; one that says none is in no image
+abbrev pub seriesIn : List ℕ → Series
+seriesIn l = cond (eqb (getD l 0 0) (formOf Tps300)) Tps300 Tps100
+
+-- the state of a series that has those settings' bytes and the rest
+abbrev pub stateOf : Series → List ℕ → List ℕ → State
+stateOf k settings rest = record {
+  series = k;
+  settings = padded settings;
+  values = valuesIn (take countAt rest);
+  undo = entriesIn (take (entriesN * 14) (drop entriesAt rest));
+  count = getD rest countAt 0 * 256 + getD rest (countAt + 1) 0;
 }
+
+-- the state of a series that the bytes would be the image of
+unfoldable pub stateAs : Series → List ℕ → State
+stateAs k l = stateOf k (take (settingsN k) (drop 1 l)) (drop (valuesAt k) l)
+
+abbrev pub stateIn : List ℕ → State
+stateIn l = stateAs (seriesIn l) l
 
 -- the bytes are a state's image
 abbrev pub isImage : List ℕ → Bool
-isImage l = eqb (length l) imageN && (sameBytes l (imageOf (stateIn l)) && isState (stateIn l))
+isImage l = eqb (length l) (imageN (seriesIn l)) && (sameBytes l (imageOf (stateIn l)) && isState (stateIn l))
 
 abbrev pub decodeOf : List ℕ → Decoded
 decodeOf l = cond (isImage l) (record { answer = Is; state = stateIn l }) (record { answer = Not; state = blankState })

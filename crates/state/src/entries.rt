@@ -1,14 +1,16 @@
 // The state, and its undo list: an array by value of entries, each with the item and its former content, blank past the count.
 ghost use mathlib.Core.Path.{_≡_};
 ghost use Prim.Native.Nat.{_≤_};
-ghost use Rattle.state.specs.Entries.{entriesN, noEntries, unused, blankEntry, factoryState, blankState, isNever, isBlank, putsOf, entryRight, entriesRight, valuesRight, sound, isState};
+ghost use Rattle.state.specs.Entries.{entriesN, noEntries, unused, blankEntry, factoryState, blankState, isNever, isBlank, putsOf, settable, entryRight, entriesRight, valuesRight, sound, isState};
 use figures::casts::place_of;
 use figures::casts::wide;
 use instrument::settings::SETTINGS;
+use instrument::settings::Series;
 use instrument::settings::factory_settings;
 use instrument::settings::in_range;
 use instrument::settings::in_ranges;
 use instrument::settings::row_at;
+use instrument::settings::settings_of;
 use instrument::values::Kept;
 use instrument::values::VALUES;
 use instrument::values::Value;
@@ -35,7 +37,9 @@ pub struct Entry {
     pub former: Former,
 }
 
+// Settings past those that the series has are 0.
 pub struct State {
+    pub series: Series,
     pub settings: [u8; SETTINGS],
     pub values: [Value; VALUES],
     pub undo: [Entry; ENTRIES],
@@ -57,13 +61,14 @@ pub fn blank_entry() -> Entry
     }
 }
 
-// The state with those settings and values and no undo entry.
-pub fn with_no_entries(settings: [u8; SETTINGS], values: [Value; VALUES]) -> State
-    ensures { λ r. ⌜ r ≡ noEntries settings values ⌝ }
+// The series' state with those settings and values and no undo entry.
+pub fn with_no_entries(series: Series, settings: [u8; SETTINGS], values: [Value; VALUES]) -> State
+    ensures { λ r. ⌜ r ≡ noEntries series settings values ⌝ }
 {
     let entry = blank_entry();
     let undo = [entry; ENTRIES];
     State {
+        series: series,
         settings: settings,
         values: values,
         undo: undo,
@@ -71,26 +76,27 @@ pub fn with_no_entries(settings: [u8; SETTINGS], values: [Value; VALUES]) -> Sta
     }
 }
 
-fn with_settings(settings: [u8; SETTINGS]) -> State
-    ensures { λ r. ⌜ r ≡ unused settings ⌝ }
+fn with_settings(series: Series, settings: [u8; SETTINGS]) -> State
+    ensures { λ r. ⌜ r ≡ unused series settings ⌝ }
 {
     let kept = Kept::Never;
     let value = Value { kept: kept };
-    with_no_entries(settings, [value; VALUES])
+    with_no_entries(series, settings, [value; VALUES])
 }
 
 // At the factory no value has been put.
-pub fn factory() -> State
-    ensures { λ r. ⌜ r ≡ factoryState ⌝ }
+pub fn factory(series: Series) -> State
+    ensures { λ r. ⌜ r ≡ factoryState series ⌝ }
 {
-    with_settings(factory_settings())
+    with_settings(series, factory_settings(series))
 }
 
 // The state of noughts, for bytes that are no state.
 pub(crate) fn blank_state() -> State
     ensures { λ r. ⌜ r ≡ blankState ⌝ }
 {
-    with_settings([0; SETTINGS])
+    let series = Series::Tps100;
+    with_settings(series, [0; SETTINGS])
 }
 
 fn is_never(kept: Kept) -> bool
@@ -99,9 +105,32 @@ fn is_never(kept: Kept) -> bool
     !is_put(kept)
 }
 
+fn settable_in(series: Series, place: usize, parameter: u8) -> bool
+    ensures { λ r. ⌜ r ≡ settable series place parameter ⌝ }
+{
+    if settings_of(series) <= place {
+        return false;
+    }
+    let row = row_at(series, place);
+    if row.4 {
+        return false;
+    }
+    in_range(row, wide(parameter))
+}
+
+// Whether a SET can leave the parameter at the place. The series is named so that the compiler knows the table.
+fn settable(series: Series, place: usize, parameter: u8) -> bool
+    ensures { λ r. ⌜ r ≡ settable series place parameter ⌝ }
+{
+    match series {
+        Series::Tps100 => settable_in(Series::Tps100, place, parameter),
+        Series::Tps300 => settable_in(Series::Tps300, place, parameter),
+    }
+}
+
 // Whether an entry that stands may be there.
-fn entry_right(entry: Entry) -> bool
-    ensures { λ r. ⌜ r ≡ entryRight entry ⌝ }
+fn entry_right(series: Series, entry: Entry) -> bool
+    ensures { λ r. ⌜ r ≡ entryRight series entry ⌝ }
 {
     let item = entry.item;
     let former = entry.former;
@@ -110,10 +139,7 @@ fn entry_right(entry: Entry) -> bool
         Item::Free => false,
         Item::Setting(b) => {
             let place = place_of(b);
-            if SETTINGS <= place {
-                return false;
-            }
-            if !in_range(row_at(place), wide(former.parameter)) {
+            if !settable(series, place, former.parameter) {
                 return false;
             }
             is_never(kept)
@@ -149,14 +175,14 @@ fn entry_blank(entry: Entry) -> bool
 }
 
 // Those below the count may stand, and those past it are blank.
-fn entries_right(undo: [Entry; ENTRIES], count: usize) -> bool
-    ensures { λ r. ⌜ r ≡ entriesRight undo count ⌝ }
+fn entries_right(series: Series, undo: [Entry; ENTRIES], count: usize) -> bool
+    ensures { λ r. ⌜ r ≡ entriesRight series undo count ⌝ }
 {
     let mut i = 0;
     while i < ENTRIES {
         let entry = undo[i];
         if i < count {
-            if !entry_right(entry) {
+            if !entry_right(series, entry) {
                 return false;
             }
         } else {
@@ -230,6 +256,7 @@ fn sound_back(values: [Value; VALUES], undo: [Entry; ENTRIES], count: usize) -> 
 pub(crate) fn is_state(s: State) -> bool
     ensures { λ r. ⌜ r ≡ isState s ⌝ }
 {
+    let series = s.series;
     let settings = s.settings;
     let values = s.values;
     let undo = s.undo;
@@ -237,13 +264,13 @@ pub(crate) fn is_state(s: State) -> bool
     if ENTRIES < count {
         return false;
     }
-    if !in_ranges(settings) {
+    if !in_ranges(series, settings) {
         return false;
     }
     if !values_right(values) {
         return false;
     }
-    if !entries_right(undo, count) {
+    if !entries_right(series, undo, count) {
         return false;
     }
     sound_back(values, undo, count)

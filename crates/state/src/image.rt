@@ -1,10 +1,10 @@
 // The image: a state as the bytes that a host lends (docs/IMAGE.md).
 ghost use mathlib.Core.Path.{_≡_};
 ghost use Prim.Native.Nat.{_<_, _≤_, _+_, _*_};
-ghost use lib.ListN.{length, take, drop};
+ghost use lib.ListN.{length, getD, take, drop};
 ghost use Rattle.state.specs.Entries.{entriesN};
 ghost use Rattle.instrument.specs.Values.{valuesN};
-ghost use Rattle.state.specs.Image.{imageN, keptBytes, itemBytes, entryBytes, valuesBytes, entriesBytes, imageOf, keptIn, entryIn, valuesIn, entriesIn, stateIn, decodeOf, encodedIn};
+ghost use Rattle.state.specs.Image.{imageN, keptBytes, itemBytes, entryBytes, valuesBytes, entriesBytes, imageOf, keptIn, entryIn, valuesIn, entriesIn, formOf, valuesAt, restN, restOf, seriesIn, stateAs, decodeOf, encodedIn};
 use crate::entries::ENTRIES;
 use crate::entries::Entry;
 use crate::entries::Former;
@@ -14,21 +14,24 @@ use crate::entries::blank_entry;
 use crate::entries::blank_state;
 use crate::entries::is_state;
 use instrument::settings::SETTINGS;
+use instrument::settings::Series;
+use instrument::settings::settings_of;
 use instrument::values::Eight;
 use instrument::values::Kept;
 use instrument::values::VALUES;
 use instrument::values::Value;
 
-// The first byte: TPS100, form 1.
-const FORM: u8 = 1;
-
-const VALUES_AT: usize = 1 + SETTINGS;
-
-const COUNT_AT: usize = VALUES_AT + VALUES * 11;
+const COUNT_AT: usize = VALUES * 11;
 
 const ENTRIES_AT: usize = COUNT_AT + 2;
 
-pub const IMAGE: usize = ENTRIES_AT + ENTRIES * 14;
+// What follows the settings: values, count and entries.
+const REST: usize = ENTRIES_AT + ENTRIES * 14;
+
+// A TPS100's image, and a TPS300's, the longest.
+pub const IMAGE_100: usize = 20 + REST;
+
+pub const IMAGE_300: usize = 31 + REST;
 
 // Whether the bytes are a state's image.
 pub enum Known {
@@ -89,6 +92,30 @@ fn entry_bytes(entry: Entry) -> [u8; 14]
     ]
 }
 
+// The first byte: the series in its high four bits, form 1 in its low four.
+fn form_of(series: Series) -> u8
+    ensures { λ r. ⌜ r ≡ formOf series ⌝ }
+{
+    match series {
+        Series::Tps100 => 1,
+        Series::Tps300 => 17,
+    }
+}
+
+// Where the values start: after the first byte and as many settings as the series has.
+fn values_at(series: Series) -> usize
+    ensures { λ r. ⌜ (r ≡ valuesAt series) × (r ≤ 31) ⌝ }
+{
+    1 + settings_of(series)
+}
+
+// How many bytes an image of the series has.
+pub fn image_size(series: Series) -> usize
+    ensures { λ r. ⌜ r ≡ imageN series ⌝ }
+{
+    values_at(series) + REST
+}
+
 fn put_values(values: [Value; VALUES], out: &mut [u8])
     requires { ⌜ length (now out) ≡ valuesN * 11 ⌝ }
     ensures { λ _. ⌜ now (out .exit) ≡ valuesBytes values ⌝ }
@@ -120,22 +147,32 @@ fn put_entries(undo: [Entry; ENTRIES], out: &mut [u8])
     }
 }
 
-// Lays the image of s down; nothing where the bytes aren't as many as an image has.
+// Lays what follows the settings.
+fn put_rest(values: [Value; VALUES], count: usize, undo: [Entry; ENTRIES], out: &mut [u8])
+    requires { ⌜ length (now out) ≡ restN ⌝ }
+    ensures { λ _. ⌜ now (out .exit) ≡ restOf values count undo ⌝ }
+{
+    put_values(values, &mut out[0..COUNT_AT]);
+    out[COUNT_AT] = (count / 256 % 256) as u8;
+    out[COUNT_AT + 1] = (count % 256) as u8;
+    put_entries(undo, &mut out[ENTRIES_AT..REST]);
+}
+
+// Lays the image of s down; nothing where the bytes aren't as many as an image of its series has.
 pub fn encode(s: State, image: &mut [u8])
     ensures { λ _. ⌜ now (image .exit) ≡ encodedIn s (now (image .entry)) ⌝ }
 {
-    if image.len() != IMAGE {
+    let series = s.series;
+    if image.len() != image_size(series) {
         return;
     }
+    let at = values_at(series);
     let settings = s.settings;
     let values = s.values;
     let undo = s.undo;
-    image[0] = FORM;
-    figures::lay(&settings, &mut image[1..VALUES_AT]);
-    put_values(values, &mut image[VALUES_AT..COUNT_AT]);
-    image[COUNT_AT] = (s.count / 256 % 256) as u8;
-    image[COUNT_AT + 1] = (s.count % 256) as u8;
-    put_entries(undo, &mut image[ENTRIES_AT..IMAGE]);
+    image[0] = form_of(series);
+    figures::lay(&settings, &mut image[1..at]);
+    put_rest(values, s.count, undo, &mut image[at..]);
 }
 
 fn kept_in(s: &[u8]) -> Kept
@@ -219,18 +256,21 @@ fn wide(b: u8) -> usize
     b as usize
 }
 
-// The state that the bytes would be the image of.
-fn state_in(s: &[u8]) -> State
-    requires { ⌜ length (now s) ≡ imageN ⌝ }
-    ensures { λ r. ⌜ r ≡ stateIn (now (s .entry)) ⌝ }
+// The state of the series that the bytes would be the image of.
+fn state_in(series: Series, s: &[u8]) -> State
+    requires { ⌜ length (now s) ≡ imageN series ⌝ }
+    ensures { λ r. ⌜ r ≡ stateAs series (now (s .entry)) ⌝ }
 {
+    let at = values_at(series);
     let mut settings = [0; SETTINGS];
-    figures::lay(&s[1..VALUES_AT], &mut settings);
-    let values = values_in(&s[VALUES_AT..COUNT_AT]);
-    let undo = entries_in(&s[ENTRIES_AT..IMAGE]);
-    let high = wide(s[COUNT_AT]);
-    let low = wide(s[COUNT_AT + 1]);
+    figures::lay(&s[1..at], &mut settings);
+    let rest = &s[at..];
+    let values = values_in(&rest[0..COUNT_AT]);
+    let undo = entries_in(&rest[ENTRIES_AT..REST]);
+    let high = wide(rest[COUNT_AT]);
+    let low = wide(rest[COUNT_AT + 1]);
     State {
+        series: series,
         settings: settings,
         values: values,
         undo: undo,
@@ -238,22 +278,37 @@ fn state_in(s: &[u8]) -> State
     }
 }
 
+// The series that the first byte says.
+fn series_in(s: &[u8]) -> Series
+    ensures { λ r. ⌜ r ≡ seriesIn (now (s .entry)) ⌝ }
+{
+    if s.len() == 0 {
+        return Series::Tps100;
+    }
+    if s[0] == 17 {
+        return Series::Tps300;
+    }
+    Series::Tps100
+}
+
 // The state whose image the bytes are: what they would be is laid down again and compared, and judged.
 pub fn decode(image: &[u8]) -> Decoded
     ensures { λ r. ⌜ r ≡ decodeOf (now (image .entry)) ⌝ }
 {
     let blank = blank_state();
-    if image.len() != IMAGE {
+    let series = series_in(image);
+    let n = image_size(series);
+    if image.len() != n {
         let answer = Known::Not;
         return Decoded {
             answer: answer,
             state: blank,
         };
     }
-    let state = state_in(image);
-    let mut again = [0; IMAGE];
-    encode(state, &mut again);
-    if !figures::same(image, &again) {
+    let state = state_in(series, image);
+    let mut again = [0; IMAGE_300];
+    encode(state, &mut again[0..n]);
+    if !figures::same(image, &again[0..n]) {
         let answer = Known::Not;
         return Decoded {
             answer: answer,

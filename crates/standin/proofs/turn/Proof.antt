@@ -15,7 +15,7 @@ fits c =
     let read = c .before .before .before .before .before in
     let a = read .before .before .before .args in
     let heard = ap (λ (t : Turn). t .count) (c .hear .ensures .0) in
-    let within = heard-fits (a .image .now) (a .port) (getD (read .read .last .1 .0) 0 0) (replicate 306 0) in
+    let within = heard-fits (a .image .now) (a .port) (getD (read .read .last .1 .0) 0 0) (replicate 459 0) in
     omega (arith, heard, within, c .hear .kept .1 .1 .1 .0)
 
 array-share-prefix-room : tie.Need-array-share-prefix-room

@@ -1,33 +1,13 @@
--- `row_at` meets its contract: each arm has the table's row at its place, and past the last stands one of noughts.
-use mathlib.Core.Path.{refl}
-use Rattle.figures.specs.Decimal.{placesBy, digitsOf}
-use Rattle.instrument.specs.Settings.{rows, noRow}
-use Rattle.instrument.proofs.Seek.{at-place, past-place}
+-- `row_at` meets its contract: the row of its series.
+use borrow.Author.Needs.{needs}
 use Rattle.instrument.proofs.settings.row_at.Statement.{statement}
 use Rattle.instrument.proofs.settings.row_at.Tie as tie
 
+returns : tie.Need-returns
+returns c = rw (c .before .enum-told .given .1) (c .row-100 .ensures)
+
+returns-2 : tie.Need-returns-2
+returns-2 c = rw (c .before .enum-told2 .given .1) (c .row-300 .ensures)
+
 pub row-at-spec : {M : Type 1} → statement M
-unfolding rows placesBy digitsOf
-row-at-spec =
-    tie.close
-    (tie.spec
-    (λ c. at-place rows noRow (c .match .keys1) refl)
-    (λ c. at-place rows noRow (c .match .keys2) refl)
-    (λ c. at-place rows noRow (c .match .keys3) refl)
-    (λ c. at-place rows noRow (c .match .keys4) refl)
-    (λ c. at-place rows noRow (c .match .keys5) refl)
-    (λ c. at-place rows noRow (c .match .keys6) refl)
-    (λ c. at-place rows noRow (c .match .keys7) refl)
-    (λ c. at-place rows noRow (c .match .keys8) refl)
-    (λ c. at-place rows noRow (c .match .keys9) refl)
-    (λ c. at-place rows noRow (c .match .keys10) refl)
-    (λ c. at-place rows noRow (c .match .keys11) refl)
-    (λ c. at-place rows noRow (c .match .keys12) refl)
-    (λ c. at-place rows noRow (c .match .keys13) refl)
-    (λ c. at-place rows noRow (c .match .keys14) refl)
-    (λ c. at-place rows noRow (c .match .keys15) refl)
-    (λ c. at-place rows noRow (c .match .keys16) refl)
-    (λ c. at-place rows noRow (c .match .keys17) refl)
-    (λ c. at-place rows noRow (c .match .keys18) refl)
-    (λ c. at-place rows noRow (c .match .keys19) refl)
-    (λ c. past-place rows noRow 19 (c .before .before .before .args .place) refl (c .before .before .match .rest)))
+row-at-spec = tie.close (tie.spec (λ c. search needs) (λ c κs. search needs) (λ c. search needs) (λ c κs. search needs) returns returns-2)

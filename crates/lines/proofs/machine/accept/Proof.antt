@@ -6,9 +6,9 @@ use native.Mathlib.Omega.{arith}
 use borrow.Author.Needs.{needs}
 use lib.ListN.{length, length-append}
 use Rattle.lines.specs.Orders.{doneOf}
-use Rattle.lines.specs.Replies.{endsLf, replyEnd, bodyOf}
+use Rattle.lines.specs.Replies.{endsLf, isWide, replyEnd, bodyOf}
 use Rattle.lines.specs.declared.verdicts.Verdict.the-variants.{Accepted}
-use Rattle.lines.proofs.Replying.{end-long, body-short}
+use Rattle.lines.proofs.Replying.{end-long, body-most, body-short}
 use Rattle.lines.proofs.Calling.{ends-short, ends-fits}
 use Rattle.lines.proofs.machine.accept.Statement.{statement}
 use Rattle.lines.proofs.machine.accept.Tie as tie
@@ -28,7 +28,7 @@ add-n : tie.Need-add-n
 add-n c =
     let s = start c in
     let short = body-short (s .args .s) (s .args .text .now) (s .args .order) (s .pre .1 .0) (s .pre .1 .1 .0) (s .pre .1 .1 .1) in
-    omega (arith, c .before .body-length .ensures, c .end-length .ensures, end-long (endsLf (s .args .s)), short)
+    omega (arith, c .before .body-length .ensures, c .end-length .ensures, end-long (endsLf (s .args .s)), short, body-most (isWide (s .args .s)))
 
 returns : tie.Need-returns
 returns c =

@@ -3,7 +3,7 @@ use mathlib.Core.Path.{_≡_, sym, _∙_}
 use borrow.Author.Needs.{needs}
 use Rattle.instrument.specs.Settings.{settingPlace}
 use Rattle.instrument.specs.declared.settings.Found.the-variants.{At}
-use Rattle.lines.proofs.Lookups.{setting-in}
+use Rattle.lines.proofs.Lookups.{setting-below}
 use Rattle.lines.proofs.Runs.{SetRuns, set-runs, set-byte}
 use Rattle.lines.proofs.orders.set_done.Statement.{statement}
 use Rattle.lines.proofs.orders.set_done.Tie as tie
@@ -12,7 +12,7 @@ ran : (c : tie.Start) → SetRuns (c .args .s) (c .args .number) (c .args .param
 ran c = set-runs (c .args .s) (c .args .number) (c .args .parameter) (c .pre)
 
 -- the place that was found
-looked : (c : tie.After-place) → settingPlace (c .before .before .before .args .number) ≡ At (c .place .given .0 .0)
+looked : (c : tie.After-place) → settingPlace (c .before .before .before .args .s .series) (c .before .before .before .args .number) ≡ At (c .place .given .0 .0)
 looked c = sym (c .before .before .setting-of .ensures) ∙ c .place .given .1
 
 returns : tie.Need-returns
@@ -27,7 +27,7 @@ set-requires : tie.Need-set-requires
 set-requires c κs =
     let found = c .before .before in
     let s = found .before .before .before in
-    (setting-in (s .args .number) (found .place .given .0 .0) (looked found), ran s .free)
+    (setting-below (s .args .s .series) (s .args .number) (found .place .given .0 .0) (looked found), ran s .free)
 
 returns-2 : tie.Need-returns-2
 returns-2 c = rw (looked (c .before .before .before)) (c .set .ensures ∙ rw (c .before .small .ensures))

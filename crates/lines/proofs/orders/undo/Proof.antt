@@ -3,11 +3,12 @@ use mathlib.Core.Path.{_≡_}
 use native.Mathlib.Omega.{arith}
 use borrow.Author.Needs.{needs}
 use borrow.Author.Tests.{eq-eqb, ne-eqb}
-use lib.ListN.{length, length-map}
+use lib.ListN.{length}
 use lib.Seq.{set-out}
 use Rattle.state.specs.Entries.{valueOf}
 use Rattle.instrument.specs.Values.{valuesN}
-use Rattle.instrument.specs.Settings.{settingsN}
+use Rattle.instrument.specs.Settings.{settingsMost}
+use Rattle.instrument.proofs.Ranges.{unmapped}
 use Rattle.lines.specs.Orders.{newest}
 use Rattle.lines.proofs.orders.undo.Statement.{statement}
 use Rattle.lines.proofs.orders.undo.Tie as tie
@@ -20,7 +21,7 @@ returns-2 c =
     let made = c .before .before .before .before .before in
     let start = made .before .before .before in
     let s = start .before .args .t1 in
-    let long : length (s .settings) ≡ settingsN = search needs in
+    let long : length (s .settings) ≡ settingsMost = search needs in
     let past = set-out (s .settings) (c .before .place-of .result) (newest s .former .parameter) (omega arith) in
     rw (ne-eqb _ _ (start .if1 .left), made .blank-entry .ensures, c .before .before .before .item .given .1, ← c .before .place-of .ensures, past)
 
@@ -29,7 +30,7 @@ returns-3 c =
     let made = c .before .before .before .before .before in
     let start = made .before .before .before in
     let s = start .before .args .t1 in
-    let long : length (s .values) ≡ valuesN = simp length-map at (start .before .good .0 .1 .1 .1 .0 .1 .0 .1) in
+    let long : length (s .values) ≡ valuesN = search (needs, unmapped) in
     let past = set-out (s .values) (c .before .place-of2 .result) (valueOf (newest s .former .kept)) (omega arith) in
     rw (ne-eqb _ _ (start .if1 .left), made .blank-entry .ensures, c .before .before .before .item2 .given .1, ← c .before .place-of2 .ensures, past)
 

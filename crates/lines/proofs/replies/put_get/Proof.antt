@@ -1,10 +1,12 @@
 -- `lines::replies::put_get` meets its contract. The loop's invariant is `Got`; no group is refused, so that neither early return is taken.
 use Prim.Native.Nat.{ℕ, _+_, _-_, _<_, _≤_}
+use mathlib.Core.Bool.{Bool}
 use mathlib.Core.List.{List}
 use mathlib.Core.Path.{_≡_, sym, _∙_}
 use native.Mathlib.Omega.{arith}
 use borrow.Author.Needs.{needs}
 use lib.ListN.{length, getD}
+use Rattle.words.specs.Reading.{wordSize}
 use Rattle.instrument.specs.Values.{valuesN}
 use Rattle.instrument.specs.declared.settings.Found.the-variants.{At}
 use Rattle.lines.specs.Verdicts.{placeNamed}
@@ -13,14 +15,14 @@ use Rattle.lines.proofs.replies.put_get.Statement.{statement}
 use Rattle.lines.proofs.replies.put_get.Tie as tie
 
 abbrev Inv-loop : tie.InvT-loop
-Inv-loop groups room₀ values i₀ at₀ room i at = Got values groups room₀ room i at
+Inv-loop wide groups room₀ values i₀ at₀ room i at = Got wide values groups room₀ room i at
 
 abbrev μ-loop : tie.MeasureT-loop
-μ-loop groups room₀ values i₀ at₀ room i at = length groups - i
+μ-loop wide groups room₀ values i₀ at₀ room i at = length groups - i
 
-record Turn (g room₀ room : List ℕ) (i at : ℕ) : Type 0 where
+record Turn (wide : Bool) (g room₀ room : List ℕ) (i at : ℕ) : Type 0 where
   five : i + 5 ≤ length g
-  words : at + 16 ≤ length room₀
+  words : at + wordSize wide ≤ length room₀
   same : length room ≡ length room₀
   place : ℕ
   named : placeNamed (getD g (i + 3) 0) (getD g (i + 4) 0) ≡ At place
@@ -33,18 +35,19 @@ start c = c .before .before .before
 turn : (c : tie.In-loop Inv-loop μ-loop) →
     let a = start (c .before) .args in
     let l = c .before .loop in
-    Turn (a .groups .now) (a .room .now) (l .room) (l .i) (l .at)
+    Turn (a .wide) (a .groups .now) (a .room .now) (l .room) (l .i) (l .at)
 turn c =
     let s = start (c .before) in
     let l = c .before .loop in
     let g = s .args .groups .now in
     let r = s .args .room .now in
-    let v = s .args .t1 in
-    let n = got-named v g r (s .pre) (l .room) (l .i) (l .at) (l .inv) (c .loop-test .taken) in
+    let v = s .args .t2 in
+    let w = s .args .wide in
+    let n = got-named w v g r (s .pre) (l .room) (l .i) (l .at) (l .inv) (c .loop-test .taken) in
     record {
       five = n .0;
-      words = got-room v g r (s .pre) (l .room) (l .i) (l .at) (l .inv) (c .loop-test .taken);
-      same = got-length v g r (s .pre) (l .room) (l .i) (l .at) (l .inv);
+      words = got-room w v g r (s .pre) (l .room) (l .i) (l .at) (l .inv) (c .loop-test .taken);
+      same = got-length w v g r (s .pre) (l .room) (l .i) (l .at) (l .inv);
       place = n .1 .0;
       named = n .1 .1 .0;
       below = n .1 .1 .1;
@@ -57,14 +60,14 @@ from-named c = c .before .before .before
 abbrev from-place : tie.After-known-told Inv-loop μ-loop → tie.In-loop Inv-loop μ-loop
 from-place c = from-named (c .before .before .before)
 
-abbrev from-word : tie.After-word Inv-loop μ-loop → tie.In-loop Inv-loop μ-loop
-from-word c = from-place (c .before .before .before .before)
+abbrev from-word : tie.After-get-word Inv-loop μ-loop → tie.In-loop Inv-loop μ-loop
+from-word c = from-place (c .before .before .before)
 
 abbrev from-lay : tie.After-slice-known2 Inv-loop μ-loop → tie.In-loop Inv-loop μ-loop
 from-lay c = from-word (c .before .before .before .before)
 
 loop-holds : tie.Need-loop-holds Inv-loop μ-loop
-loop-holds c = let s = c .before .before in got-none (s .args .t1) (s .args .groups .now) (s .args .room .now) (s .pre)
+loop-holds c = let s = c .before .before in got-none (s .args .wide) (s .args .t2) (s .args .groups .now) (s .args .room .now) (s .pre)
 
 add-place-named : tie.Need-add-place-named Inv-loop μ-loop
 add-place-named c = omega (arith, turn c .five)
@@ -98,14 +101,14 @@ returns-2 c =
     let e = same-place (r .result) (t .place) (p .place .given .0 .0) (r .ensures ∙ t .named) (p .place .given .1) in
     absurd (omega (arith, t .below, c .if1 .taken))
 
-sub-lay : tie.Need-sub-lay Inv-loop μ-loop
-sub-lay c = let t = turn (from-word c) in omega (arith, t .words, t .same)
+sub-put-word : tie.Need-sub-put-word Inv-loop μ-loop
+sub-put-word c = let t = turn (from-word c) in omega (arith, t .words, t .same)
 
-part-lay-start : tie.Need-part-lay-start Inv-loop μ-loop
-part-lay-start c = let t = turn (from-word c) in omega (arith, t .words, t .same)
+part-put-word-start : tie.Need-part-put-word-start Inv-loop μ-loop
+part-put-word-start c = let t = turn (from-word c) in omega (arith, t .words, t .same)
 
 add-at : tie.Need-add-at Inv-loop μ-loop
-add-at c = let t = from-lay c in omega (arith, turn t .words, start (t .before) .good)
+add-at c = let t = from-lay c in omega (arith, turn t .words, c .before .before .put-word .ensures .0, start (t .before) .good)
 
 add-i : tie.Need-add-i Inv-loop μ-loop
 add-i c = let t = from-lay c in omega (arith, turn t .five, start (t .before) .good)
@@ -118,25 +121,25 @@ loop-again c =
     let t = from-lay c in
     let s = start (t .before) in
     let l = t .before .loop in
-    let w = c .before .before .before .before .before in
+    let w = c .before .before .before .before in
     let p = w .before .before .before .before in
     let found = sym (p .before .before .place-named .ensures) ∙ p .place .given .1 in
-    let last = c .before .before .lay in
-    got-more (s .args .t1) (s .args .groups .now) (s .args .room .now) (s .pre) (l .room) (l .i) (l .at) (l .inv)
-    (p .place .given .0 .0) (last .last .1 .0) (t .loop-test .taken) found
-    (rw (← w .get-word .ensures) (last .ensures))
+    let last = c .before .before .put-word in
+    got-more (s .args .wide) (s .args .t2) (s .args .groups .now) (s .args .room .now) (s .pre) (l .room) (l .i) (l .at) (l .inv)
+    (p .place .given .0 .0) (last .result) (last .last .1 .1 .0) (t .loop-test .taken) found (last .ensures .0)
+    (rw (← w .get-word .ensures) (last .ensures .1))
 
 same-length-3 : tie.Need-same-length-3 Inv-loop μ-loop
 same-length-3 c =
     let s = start (c .before) in
     let l = c .before .loop in
-    got-length (s .args .t1) (s .args .groups .now) (s .args .room .now) (s .pre) (l .room) (l .i) (l .at) (l .inv)
+    got-length (s .args .wide) (s .args .t2) (s .args .groups .now) (s .args .room .now) (s .pre) (l .room) (l .i) (l .at) (l .inv)
 
 returns-3 : tie.Need-returns-3 Inv-loop μ-loop
 returns-3 c =
     let s = start (c .before) in
     let l = c .before .loop in
-    got-all (s .args .t1) (s .args .groups .now) (s .args .room .now) (s .pre) (l .room) (l .i) (l .at) (l .inv) (c .loop-test .left)
+    got-all (s .args .wide) (s .args .t2) (s .args .groups .now) (s .args .room .now) (s .pre) (l .room) (l .i) (l .at) (l .inv) (c .loop-test .left)
 
 pub put-get-spec : {M : Type 1} → statement M
 put-get-spec =
@@ -159,9 +162,8 @@ put-get-spec =
     (λ c. search needs)
     (λ c. search needs)
     (λ c κs. search needs)
-    (λ c. search needs)
-    sub-lay
-    part-lay-start
+    sub-put-word
+    part-put-word-start
     (λ c. search needs)
     (λ c κs. search needs)
     add-at

@@ -1,6 +1,7 @@
 -- `lines::replies::put_reply` meets its contract: each arm's text is the reply of its orders, and the end is laid down behind it.
 use Prim.Native.Nat.{ℕ, _-_, _*_, _/_, _≤_}
 use mathlib.Core.Path.{_≡_, refl, sym, ap, _∙_}
+use mathlib.Core.Bool.{Bool}
 use mathlib.Core.List.{List, [], _∷_}
 use native.Mathlib.Omega.{arith}
 use types.Run.{OneOf, miss}
@@ -10,7 +11,8 @@ use lib.ListN.{length, drop}
 use Rattle.figures.specs.Bytes.{laid}
 use Rattle.state.specs.declared.entries.State.{State}
 use Rattle.lines.specs.Shapes.{groupsIn}
-use Rattle.lines.specs.Replies.{getBody, done, bodyOf}
+use Rattle.lines.specs.Replies.{isWide, getBody, done, bodyOf}
+use Rattle.lines.specs.Keeping.{getN}
 use Rattle.figures.specs.Text.{endBytes}
 use Rattle.lines.specs.declared.shapes.Order.{Order}
 use Rattle.lines.specs.declared.shapes.Order.the-variants.{Not, Set, Conf, Put, Get, Undo, Keep}
@@ -37,8 +39,8 @@ start c = c .before .before .before
 abbrev from-conf : tie.After-conf-body → tie.After-ends-lf
 from-conf c = c .before .before .before .before .before
 
-abbrev from-get : tie.After-values → tie.After-ends-lf
-from-get c = c .before .before .before
+abbrev from-get : tie.After-is-wide → tie.After-ends-lf
+from-get c = c .before .before .before .before
 
 conf-body-requires : tie.Need-conf-body-requires
 conf-body-requires c κs = rw (c .before .before .order .given .1) at (c .before .before .before .before .before .before .before .pre .0 .1 .0)
@@ -60,47 +62,50 @@ put-text-requires c κs =
     reply-fits (a .s) (a .text .now) (a .order) (conf .conf-body .result) (lf .result) (length (a .room .now)) (conf-is conf) (lf .ensures) (s .pre .1)
 
 -- the line of GET is long enough
-long : (c : tie.After-values) → 5 ≤ length (start (from-get c) .args .text .now)
+long : (c : tie.After-is-wide) → 5 ≤ length (start (from-get c) .args .text .now)
 long c =
     let s = start (from-get c) in
-    get-length (s .args .s) (s .args .text .now) (s .args .order) (c .before .enum-told .given .1) (s .pre .0 .0) (s .pre .0 .1 .0)
+    get-length (s .args .s) (s .args .text .now) (s .args .order) (c .before .before .enum-told .given .1) (s .pre .0 .0) (s .pre .0 .1 .0)
 
 -- and so is what it's answered
-words-long : (c : tie.After-values) →
-    let a = start (from-get c) .args in
-    length (bodyOf (a .s) (a .text .now) (a .order)) ≡ (length (a .text .now) - 5) / 5 * 16
+words-long : (c : tie.After-get-length) →
+    let a = start (from-get (c .before)) .args in
+    length (bodyOf (a .s) (a .text .now) (a .order)) ≡ c .get-length .result
 words-long c =
-    let s = start (from-get c) in
-    get-body-long (s .args .s) (s .args .text .now) (s .args .order) (c .before .enum-told .given .1) (s .pre .0 .0) (s .pre .0 .1 .0)
+    let s = start (from-get (c .before)) in
+    let n = (length (s .args .text .now) - 5) / 5 in
+    get-body-long (s .args .s) (s .args .text .now) (s .args .order) (c .before .before .before .enum-told .given .1) (s .pre .0 .0) (s .pre .0 .1 .0)
+    ∙ ap (λ (b : Bool). getN b n) (sym (c .before .is-wide .ensures))
+    ∙ sym (c .get-length .ensures)
 
-sub-n : tie.Need-sub-n
-sub-n c = long c
+sub-get-length : tie.Need-sub-get-length
+sub-get-length c = long c
 
-mul-n : tie.Need-mul-n
-mul-n c = omega (arith, start (from-get c) .pre .0 .1 .1)
+get-length-requires : tie.Need-get-length-requires
+get-length-requires c κs = omega (arith, start (from-get c) .pre .0 .1 .1)
 
-sub-put-get : tie.Need-sub-put-get
-sub-put-get c = long c
+sub-put-words : tie.Need-sub-put-words
+sub-put-words c = long (c .before)
 
-part-put-get-start : tie.Need-part-put-get-start
-part-put-get-start c = omega (arith, long c)
+part-put-words-start : tie.Need-part-put-words-start
+part-put-words-start c = omega (arith, long (c .before))
 
-put-get-requires : tie.Need-put-get-requires
-put-get-requires c κs =
-    let get = c .before .before in
-    let s = start (from-get get) in
+put-words-requires : tie.Need-put-words-requires
+put-words-requires c κs =
+    let wide = c .before .before .before in
+    let s = start (from-get wide) in
     let a = s .args in
-    get-fits (a .s) (a .text .now) (a .order) (get .before .enum-told .given .1) (s .pre .0 .0) (s .pre .0 .1 .0) (a .room .now) (s .pre .1)
+    rw (wide .is-wide .ensures)
+    (get-fits (a .s) (a .text .now) (a .order) (wide .before .before .enum-told .given .1) (s .pre .0 .0) (s .pre .0 .1 .0) (a .room .now) (s .pre .1))
 
-abbrev from-words : tie.After-slice-known3 → tie.After-values
+abbrev from-words : tie.After-slice-known3 → tie.After-get-length
 from-words c = c .before .before .before .before .before
 
 -- GET's words end within the room
-within : (c : tie.After-slice-known3) →
-    (length (start (from-get (from-words c)) .args .text .now) - 5) / 5 * 16 ≤ length (c .before .before .put-get .last .1 .1 .0)
+within : (c : tie.After-slice-known3) → from-words c .get-length .result ≤ length (c .before .before .put-words .last .1 .1 .1 .0)
 within c =
     let get = from-words c in
-    omega (arith, words-long get, start (from-get get) .pre .1, c .before .before .put-get .kept .1 .1 .0)
+    omega (arith, words-long get, start (from-get (get .before)) .pre .1, c .before .before .put-words .kept .1 .1 .1 .0)
 
 sub-put-end : tie.Need-sub-put-end
 sub-put-end c = within c
@@ -129,20 +134,21 @@ returns-2 : tie.Need-returns-2
 returns-2 c =
     let words = c .before .before .before .before .before .before in
     let get = words .before .before .before in
-    let lf = from-get get .ends-lf in
-    let s = start (from-get get) in
+    let wide = get .before in
+    let lf = from-get wide .ends-lf in
+    let s = start (from-get wide) in
     let a = s .args in
     let t = a .text .now in
     let room = a .room .now in
     let w = bodyOf (a .s) t (a .order) in
-    let is : w ≡ getBody (a .s .values) (groupsIn (drop 5 t)) (drop 5 t) =
-    get-body (a .s) t (a .order) (get .before .enum-told .given .1) (s .pre .0 .0) (s .pre .0 .1 .0)
+    let is : w ≡ getBody (isWide (a .s)) (a .s .values) (groupsIn (drop 5 t)) (drop 5 t) =
+    get-body (a .s) t (a .order) (wide .before .before .enum-told .given .1) (s .pre .0 .0) (s .pre .0 .1 .0)
     in
-    let g = words .put-get in
+    let g = words .put-words in
     let p = c .before .before .put-end in
-    let down : g .last .1 .1 .0 ≡ laid w room = rw (is, ← to-end 5 t) (g .ensures) in
+    let down : g .last .1 .1 .1 .0 ≡ laid w room = rw (is, ← wide .is-wide .ensures, ← to-end 5 t) (g .ensures) in
     reply-laid (a .s) t (a .order) w (lf .result) room _ refl (lf .ensures)
-    (laid-then w (endBytes (lf .result)) room (g .last .1 .1 .0) (p .last .1 .0) ((length t - 5) / 5 * 16) (sym (words-long get))
+    (laid-then w (endBytes (lf .result)) room (g .last .1 .1 .1 .0) (p .last .1 .0) (get .get-length .result) (sym (words-long get))
     (reply-fits (a .s) t (a .order) w (lf .result) (length room) refl (lf .ensures) (s .pre .1))
     down
     (p .ensures))
@@ -175,12 +181,13 @@ put-reply-spec =
     (λ c. search needs)
     put-text-requires
     (λ c. search needs)
-    sub-n
-    mul-n
-    sub-put-get
-    part-put-get-start
+    (λ c κs. search needs)
+    sub-get-length
+    get-length-requires
+    sub-put-words
+    part-put-words-start
     (λ c. search needs)
-    put-get-requires
+    put-words-requires
     sub-put-end
     part-put-end-start
     (λ c. search needs)

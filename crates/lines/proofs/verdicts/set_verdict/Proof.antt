@@ -1,4 +1,4 @@
--- `set_verdict` meets its contract: the setting is looked up, then its range, then the count.
+-- `set_verdict` meets its contract: the setting is looked up, then whether it can be SET, then its range, then the count.
 use mathlib.Core.Path.{_≡_, sym, _∙_}
 use borrow.Author.Needs.{needs}
 use Rattle.instrument.specs.Settings.{settingPlace}
@@ -11,18 +11,23 @@ returns : tie.Need-returns
 returns c = rw (sym (c .before .before .setting-of .ensures) ∙ c .enum-told .given .1)
 
 -- the place that was found
-looked : (c : tie.After-place) → settingPlace (c .before .before .before .args .number) ≡ At (c .place .given .0 .0)
+looked : (c : tie.After-place) → settingPlace (c .before .before .before .args .series) (c .before .before .before .args .number) ≡ At (c .place .given .0 .0)
 looked c = sym (c .before .before .setting-of .ensures) ∙ c .place .given .1
 
 returns-2 : tie.Need-returns-2
-returns-2 c =
-    let told = c .before in
-    rw (looked (told .before .before .before), ← told .before .row-at .ensures, failed (told .in-range .ensures) (c .if1 .taken))
+returns-2 c = rw (looked (c .before .before .before), ← c .before .row-at .ensures, c .if1 .taken)
 
 returns-3 : tie.Need-returns-3
 returns-3 c =
+    let told = c .before in
+    let row = told .before .before in
+    rw (looked (row .before .before), ← row .row-at .ensures, told .before .if1 .left, failed (told .in-range .ensures) (c .if2 .taken))
+
+returns-4 : tie.Need-returns-4
+returns-4 c =
     let told = c .before .before in
-    rw (looked (told .before .before .before), ← told .before .row-at .ensures, passed (told .in-range .ensures) (c .before .if1 .left)) (c .full .ensures)
+    let row = told .before .before in
+    rw (looked (row .before .before), ← row .row-at .ensures, told .before .if1 .left, passed (told .in-range .ensures) (c .before .if2 .left)) (c .full .ensures)
 
 pub set-verdict-spec : {M : Type 1} → statement M
 set-verdict-spec =
@@ -33,7 +38,8 @@ set-verdict-spec =
     (λ c. search needs)
     returns
     (λ c κs. search needs)
-    (λ c κs. search needs)
     returns-2
     (λ c κs. search needs)
-    returns-3)
+    returns-3
+    (λ c κs. search needs)
+    returns-4)

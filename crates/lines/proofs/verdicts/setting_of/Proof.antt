@@ -6,7 +6,7 @@ use Rattle.lines.proofs.verdicts.setting_of.Statement.{statement}
 use Rattle.lines.proofs.verdicts.setting_of.Tie as tie
 
 returns : tie.Need-returns
-returns c = sym (setting-none (c .before .args .number) (c .if1 .taken))
+returns c = sym (setting-none (c .before .args .series) (c .before .args .number) (c .if1 .taken))
 
 returns-2 : tie.Need-returns-2
 returns-2 c = c .setting-at .ensures ∙ rw (c .before .small .ensures)

@@ -4,7 +4,6 @@ use mathlib.Core.Path.{_≡_, ap, _∙_}
 use borrow.Author.Needs.{needs}
 use lib.ListN.{length, drop}
 use Rattle.instrument.specs.Settings.{rowAt}
-use Rattle.instrument.specs.declared.settings.Row.{Row}
 use Rattle.sheets.specs.Sheet.{settingKey}
 use Rattle.sheets.specs.Loading.{saidBy}
 use Rattle.sheets.specs.Keeping.{keyLength}
@@ -14,10 +13,11 @@ use Rattle.sheets.proofs.loading.parameter_in.Tie as tie
 
 returns : tie.Need-returns
 returns c =
-    let given = c .before .before .before .before .before .args in
+    let given = c .before .before .before .before .args in
     let place = given .place in
-    let n : c .before .key-length .result ≡ length (settingKey (rowAt place)) =
-    c .before .key-length .ensures ∙ ap (λ (r : Row). keyLength (r .4)) (c .before .before .before .row-at .ensures) ∙ setting-keyed place .long in
+    let series = given .series in
+    let n : c .before .key-length .result ≡ length (settingKey (rowAt series place)) =
+    c .before .key-length .ensures ∙ ap keyLength (c .before .before .key-at .ensures) ∙ setting-keyed series place .long in
     c .said-at .ensures .0 ∙ ap (λ (k : ℕ). saidBy 3 0 (drop k (given .s .now))) n
 
 pub parameter-in-spec : {M : Type 1} → statement M

@@ -5,14 +5,15 @@ use mathlib.Core.List.{[], _∷_}
 use types.Run.{OneOf, miss}
 use denote.Enum.Declared.{tagOf}
 use borrow.Author.Needs.{needs}
-use Rattle.state.specs.Entries.{factoryState}
-use Rattle.state.specs.Image.{imageOf}
+use lib.ListN.{replicate}
+use Rattle.state.specs.Image.{imageOf, encodedIn}
+use Rattle.state.specs.declared.entries.State.{State}
 use Rattle.pieces.specs.Pieces.{pieces}
 use Rattle.sheets.specs.Playing.{Plays}
 use Rattle.sheets.specs.Keeping.{runBy}
 use Rattle.sheets.specs.declared.answers.Sheeted.{Sheeted}
 use Rattle.sheets.specs.declared.answers.Sheeted.the-variants.{NoState, Room, Wrong, Written, Loaded}
-use Rattle.sheets.proofs.Reached.{writtenN, plays-printed, plays-short, plays-refused}
+use Rattle.sheets.proofs.Reached.{factoryState, writtenN, plays-printed, plays-short, plays-refused}
 use Rattle.sheets.proofs.answers.Sheeted.{the-type}
 use Rattle.sheets.proofs.playing.play.Statement.{statement}
 use Rattle.sheets.proofs.playing.play.Tie as tie
@@ -33,7 +34,7 @@ out w r er =
     let encode = run .before .before .before in
     let factory = encode .before .before in
     let a = factory .before .before .before .before .args in
-    let first : encode .encode .last .1 .0 ≡ imageOf factoryState = encode .encode .ensures ∙ ap imageOf (factory .factory .ensures) in
+    let first : encode .encode .last .1 .0 ≡ imageOf factoryState = encode .encode .ensures ∙ ap (λ (s : State). encodedIn s (replicate 1039 0)) (factory .factory .ensures) in
     plays-printed (a .input .now) (run .run .last .1 .0) (a .room .now) (w .write .last .1 .0) (w .write .result) r (factory .before .if1 .left)
     (run .run .ensures ∙ ap (runBy (pieces (a .input .now))) first) (w .write .ensures) er
 

@@ -7,7 +7,7 @@ use borrow.Author.Needs.{needs}
 use lib.ListN.{length, getD, take, replicate}
 use Rattle.figures.specs.Rooms.{Puts}
 use Rattle.figures.proofs.Putting.{puts-more, puts-long, puts-within}
-use Rattle.instrument.specs.Settings.{rows}
+use Rattle.instrument.specs.Settings.{rowsOf, held}
 use Rattle.state.specs.Entries.{valueOf}
 use Rattle.instrument.specs.Values.{valuesN}
 use Rattle.instrument.specs.declared.values.Kept.{Kept}
@@ -32,16 +32,18 @@ all c = search (needs, unmapped)
 -- the settings' part
 
 abbrev front : (c : tie.After-put-settings Inv-loop μ-loop) → List ℕ
-front c = seriesLine ++ linesBy (settingLine rows) 0 (c .before .args .s .settings)
+front c =
+    let s = c .before .args .s in
+    seriesLine (s .series) ++ linesBy (settingLine (rowsOf (s .series))) 0 (held (s .series) (s .settings))
 
-front-put : (c : tie.After-put-settings Inv-loop μ-loop) → Puts (replicate 352 0) 0 (front c) (c .put-settings .result .n) (c .put-settings .result .bytes)
+front-put : (c : tie.After-put-settings Inv-loop μ-loop) → Puts (replicate 441 0) 0 (front c) (c .put-settings .result .n) (c .put-settings .result .bytes)
 front-put c = put-sheet (front c) (c .put-settings .result) (c .put-settings .ensures)
 
 loop-holds : tie.Need-loop-holds Inv-loop μ-loop
 loop-holds c =
     let at = c .before .before in
     let start = at .put-settings .result in
-    lines-none valueLine (start .bytes) (start .n) (at .before .args .s .values) (puts-within (replicate 352 0) 0 (front at) (front-put at))
+    lines-none valueLine (start .bytes) (start .n) (at .before .args .s .values) (puts-within (replicate 441 0) 0 (front at) (front-put at))
 
 -- the value of a turn
 
@@ -52,7 +54,7 @@ slice-aggregate-put : tie.Need-slice-aggregate-put Inv-loop μ-loop
 slice-aggregate-put c =
     let at = c .before .before .before .before .before in
     let start = at .before .before .before in
-    sym (puts-long _ _ _ (at .loop .inv) ∙ puts-long (replicate 352 0) 0 (front start) (front-put start))
+    sym (puts-long _ _ _ (at .loop .inv) ∙ puts-long (replicate 441 0) 0 (front start) (front-put start))
 
 part-put-end : tie.Need-part-put-end Inv-loop μ-loop
 part-put-end c =
@@ -82,7 +84,7 @@ returns c =
     let past : length (s .values) ≤ at .loop .i = omega (arith, all (start .before), c .loop-test .left) in
     let lines = lines-all valueLine (first .bytes) (first .n) (s .values) (at .loop .i) past (at .loop .inv) in
     let text = linesBy valueLine 0 (s .values) in
-    sheet-put (front start ++ text) (puts-more (replicate 352 0) 0 (front start) text (front-put start) lines) ∙ ap sheetAs (sheet-halves s)
+    sheet-put (front start ++ text) (puts-more (replicate 441 0) 0 (front start) text (front-put start) lines) ∙ ap sheetAs (sheet-halves s)
 
 pub put-sheet-spec : {M : Type 1} → statement M
 put-sheet-spec =

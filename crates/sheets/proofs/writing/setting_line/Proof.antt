@@ -1,7 +1,8 @@
 -- `setting_line` meets its contract: the key that the row holds, the parameter and LF come to the line.
+use mathlib.Core.Path.{_≡_}
 use native.Mathlib.Omega.{arith}
-use borrow.Author.Needs.{needs, length-unmapped}
-use lib.ListN.{replicate}
+use borrow.Author.Needs.{needs}
+use lib.ListN.{length, replicate}
 use Rattle.figures.specs.Decimal.{decimalOf}
 use Rattle.instrument.specs.Settings.{rowAt}
 use Rattle.sheets.specs.Sheet.{settingKey}
@@ -12,20 +13,21 @@ use Rattle.sheets.proofs.writing.setting_line.Tie as tie
 
 part-put-end : tie.Need-part-put-end
 part-put-end c =
-    let key = c .before .before .before .before .row-at .result .4 in
-    omega (arith, c .before .before .key-length .ensures, key-most key, length-unmapped _ key 5 (search needs))
+    let key = c .before .before .before .key-at .result in
+    let five : length key ≡ 5 = search needs in
+    omega (arith, c .before .before .key-length .ensures, key-most key)
 
 returns : tie.Need-returns
 returns c =
     let end = c .before in
     let number = end .before .before .before .before in
     let key = number .before .before .before .before in
-    let length = key .before .before .before .before in
-    let row = length .before .before in
+    let long = key .before .before .before .before in
+    let row = long .before in
     let a = row .before .args in
-    let keyed = setting-key-put (a .place) (length .key-length .result) (row .row-at .result) (replicate 20 0) 0 (row .row-at .ensures)
-    (length .key-length .ensures) (key .put .ensures) in
-    line-put (settingKey (rowAt (a .place))) (decimalOf (a .parameter)) keyed
+    let keyed = setting-key-put (a .series) (a .place) (long .key-length .result) (row .key-at .result) (replicate 20 0) 0 (row .key-at .ensures)
+    (long .key-length .ensures) (key .put .ensures) in
+    line-put (settingKey (rowAt (a .series) (a .place))) (decimalOf (a .parameter)) keyed
     (rw (number .before .wide .ensures) at (number .put-decimal .ensures)) (end .put2 .ensures)
 
 pub setting-line-spec : {M : Type 1} → statement M

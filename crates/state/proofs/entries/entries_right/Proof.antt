@@ -13,10 +13,11 @@ use Rattle.state.proofs.entries.entries_right.Statement.{statement}
 use Rattle.state.proofs.entries.entries_right.Tie as tie
 
 abbrev Inv-loop : tie.InvT-loop
-Inv-loop count undo i₀ i = (i ≤ entriesN) × (length undo ≡ entriesN) × (entriesRight undo count ≡ entriesRight (drop i undo) (count - i))
+Inv-loop series count undo i₀ i =
+    (i ≤ entriesN) × (length undo ≡ entriesN) × (entriesRight series undo count ≡ entriesRight series (drop i undo) (count - i))
 
 abbrev μ-loop : tie.MeasureT-loop
-μ-loop count undo i₀ i = entriesN - i
+μ-loop series count undo i₀ i = entriesN - i
 
 loop-holds : tie.Need-loop-holds Inv-loop μ-loop
 loop-holds c = (omega arith, search needs, rw sub-zero)
@@ -26,23 +27,23 @@ returns c =
     let told = c .before .entry-right in
     let at = c .before .before .before .before .before .loop in
     let a = c .before .before .before .before .before .before .args in
-    sym (at .inv .2 ∙ stand-not (a .t1) blankEntry (at .i) (a .count) (omega arith) (c .before .before .if1 .taken) (failed (told .ensures) (c .if2 .taken)))
+    sym (at .inv .2 ∙ stand-not (a .series) (a .t2) blankEntry (at .i) (a .count) (omega arith) (c .before .before .if1 .taken) (failed (told .ensures) (c .if2 .taken)))
 
 returns-2 : tie.Need-returns-2 Inv-loop μ-loop
 returns-2 c =
     let told = c .before .entry-blank in
     let at = c .before .before .before .before .before .loop in
     let a = c .before .before .before .before .before .before .args in
-    sym (at .inv .2 ∙ blank-not (a .t1) blankEntry (at .i) (a .count) (omega arith) (c .before .before .if1 .left) (failed (told .ensures) (c .if3 .taken)))
+    sym (at .inv .2 ∙ blank-not (a .series) (a .t2) blankEntry (at .i) (a .count) (omega arith) (c .before .before .if1 .left) (failed (told .ensures) (c .if3 .taken)))
 
 loop-again : tie.Need-loop-again Inv-loop μ-loop
 loop-again c =
     let at = c .before .before .before .loop in
     let a = c .before .before .before .before .args in
-    let more : entriesRight (drop (at .i) (a .t1)) (a .count - at .i) ≡ entriesRight (drop (at .i + 1) (a .t1)) (a .count - (at .i + 1)) =
+    let more : entriesRight (a .series) (drop (at .i) (a .t2)) (a .count - at .i) ≡ entriesRight (a .series) (drop (at .i + 1) (a .t2)) (a .count - (at .i + 1)) =
     ⊎-elim
-    (λ w. stand-more (a .t1) blankEntry (at .i) (a .count) (omega arith) (w .0 .taken) (passed (w .1 .ensures) (w .2 .left)))
-    (λ w. blank-more (a .t1) blankEntry (at .i) (a .count) (omega arith) (w .0 .left) (passed (w .1 .ensures) (w .2 .left)))
+    (λ w. stand-more (a .series) (a .t2) blankEntry (at .i) (a .count) (omega arith) (w .0 .taken) (passed (w .1 .ensures) (w .2 .left)))
+    (λ w. blank-more (a .series) (a .t2) blankEntry (at .i) (a .count) (omega arith) (w .0 .left) (passed (w .1 .ensures) (w .2 .left)))
     (c .if1 .came)
     in
     (omega arith, at .inv .1, at .inv .2 ∙ more)
@@ -51,7 +52,7 @@ returns-3 : tie.Need-returns-3 Inv-loop μ-loop
 returns-3 c =
     let at = c .before .loop in
     let a = c .before .before .args in
-    sym (at .inv .2 ∙ entries-all (a .t1) (at .i) (a .count - at .i) (omega arith))
+    sym (at .inv .2 ∙ entries-all (a .series) (a .t2) (at .i) (a .count - at .i) (omega arith))
 
 pub entries-right-spec : {M : Type 1} → statement M
 entries-right-spec =

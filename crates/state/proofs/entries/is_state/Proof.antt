@@ -4,7 +4,7 @@ use mathlib.Core.Bool.{Bool, _&&_}
 use borrow.Author.Needs.{needs}
 use borrow.Author.Tests.{le-leb, lt-leb, eq-eqb}
 use lib.ListN.{length}
-use Rattle.instrument.specs.Settings.{rows, inRanges}
+use Rattle.instrument.specs.Settings.{places, inRanges}
 use Rattle.state.specs.Entries.{entriesN, putsOf, valuesRight, entriesRight, sound, isState}
 use Rattle.state.specs.declared.entries.State.{State}
 use Rattle.instrument.specs.Values.{valuesN}
@@ -15,13 +15,13 @@ use Rattle.state.proofs.entries.is_state.Tie as tie
 
 -- what is left to ask after the settings, and after the values
 abbrev byEntries : State → Bool
-byEntries s = entriesRight (s .undo) (s .count) && sound (s .count) (putsOf (s .values)) (s .undo)
+byEntries s = entriesRight (s .series) (s .undo) (s .count) && sound (s .count) (putsOf (s .values)) (s .undo)
 
 abbrev byValues : State → Bool
 byValues s = valuesRight 0 (s .values) && byEntries s
 
 -- the count is no more than there are entries
-few : (c : tie.Else1) → let s = c .before .before .before .before .args .s in isState s ≡ inRanges rows (s .settings) && byValues s
+few : (c : tie.Else1) → let s = c .before .before .before .before .args .s in isState s ≡ inRanges (places (s .series)) (s .settings) && byValues s
 few c =
     let s = c .before .before .before .before .args .s in
     let hv : length (s .values) ≡ valuesN = search (needs, unmapped) in

@@ -1,27 +1,34 @@
 -- `state_in` meets its contract: each part is what was read of its bytes.
-use Prim.Native.Nat.{ℕ, _+_, _*_}
-use mathlib.Core.Path.{_≡_, _∙_}
+use Prim.Native.Nat.{ℕ, _+_, _*_, _-_}
+use mathlib.Core.Path.{_≡_, ap, _∙_}
 use mathlib.Core.List.{List}
 use native.Mathlib.Omega.{arith}
 use borrow.Author.Needs.{needs}
 use borrow.Rule.Slice.PartMut.{midOf}
-use lib.ListN.{getD, replicate}
-use Rattle.figures.proofs.Bytes.{length-mid}
+use lib.ListN.{length, getD, take, drop, replicate, length-drop}
+use lib.Seq.{take-all}
+use Rattle.figures.specs.Bytes.{laid}
+use Rattle.instrument.specs.Settings.{settingsN, settingsMost}
 use Rattle.state.specs.Entries.{entriesN}
-use Rattle.instrument.specs.Values.{valuesN}
-use Rattle.instrument.specs.Settings.{settingsN}
-use Rattle.state.specs.Image.{valuesAt, countAt, entriesAt, valuesIn, entriesIn, stateIn}
+use Rattle.state.specs.Image.{valuesAt, countAt, entriesAt, valuesIn, entriesIn, stateAs}
+use Rattle.instrument.specs.declared.settings.Series.{Series}
 use Rattle.instrument.specs.declared.values.Value.{Value}
 use Rattle.state.specs.declared.entries.Entry.{Entry}
-use Rattle.state.proofs.Laying.{laid-whole}
 use Rattle.state.proofs.image.state_in.Statement.{statement}
 use Rattle.state.proofs.image.state_in.Tie as tie
 
-whole : (l g : List ℕ) (v : List Value) (u : List Entry) (h k : ℕ) → g ≡ midOf 1 settingsN l → v ≡ valuesIn (midOf valuesAt (valuesN * 11) l)
-    → u ≡ entriesIn (midOf entriesAt (entriesN * 14) l) → h ≡ getD l countAt 0 → k ≡ getD l (countAt + 1) 0
-    → record { settings = g; values = v; undo = u; count = h * 256 + k } ≡ stateIn l
-unfolding stateIn
-whole l g v u h k eg ev eu eh ek = rw (eg, ev, eu, eh, ek)
+whole : (k : Series) (l rest g : List ℕ) (v : List Value) (u : List Entry) (n h j : ℕ) → n ≡ settingsN k → rest ≡ drop (valuesAt k) l
+    → g ≡ laid (take n (drop 1 l)) (replicate settingsMost 0) → v ≡ valuesIn (take countAt rest)
+    → u ≡ entriesIn (take (entriesN * 14) (drop entriesAt rest)) → h ≡ getD rest countAt 0 → j ≡ getD rest (countAt + 1) 0
+    → record { series = k; settings = g; values = v; undo = u; count = h * 256 + j } ≡ stateAs k l
+unfolding stateAs
+whole k l rest g v u n h j en er eg ev eu eh ej = rw (eg, ev, eu, eh, ej, er, en)
+
+rest-all : (l : List ℕ) (at n : ℕ) → at ≡ n → midOf at (length l - at) l ≡ drop n l
+rest-all l at n e = take-all (length l - at) (drop at l) (omega (arith, length-drop at l)) ∙ ap (λ (i : ℕ). drop i l) e
+
+values-at-requires : tie.Need-values-at-requires
+values-at-requires c κs = search needs
 
 sub-lay : tie.Need-sub-lay
 sub-lay c = search needs
@@ -37,6 +44,15 @@ slice-aggregate-lay c = search needs
 
 lay-requires : tie.Need-lay-requires
 lay-requires c κs = search needs
+
+sub-rest : tie.Need-sub-rest
+sub-rest c = search needs
+
+part-rest-start : tie.Need-part-rest-start
+part-rest-start c = search needs
+
+part-rest-end : tie.Need-part-rest-end
+part-rest-end c = search needs
 
 sub-values-in : tie.Need-sub-values-in
 sub-values-in c = search needs
@@ -77,32 +93,43 @@ shared-slice-read-wide-2 c = search needs
 wide-requires-2 : tie.Need-wide-requires-2
 wide-requires-2 c κs = search needs
 
-mul-t9 : tie.Need-mul-t9
-mul-t9 c = search needs
+mul-t12 : tie.Need-mul-t12
+mul-t12 c = search needs
 
-add-t24 : tie.Need-add-t24
-add-t24 c = search needs
+add-t29 : tie.Need-add-t29
+add-t29 c = search needs
 
 returns : tie.Need-returns
 returns c =
-    let l = c .before .before .before .before .before .before .before .before .before .before .before .before .before .args .s .now in
-    let g = c .before .before .before .before .before .before .before .before .before .lay in
-    let v = c .before .before .before .before .before .before .values-in in
-    let u = c .before .before .before .before .entries-in in
+    let j = c .wide2 in
     let h = c .before .before .wide in
-    let k = c .wide2 in
-    let eg = g .ensures ∙ laid-whole (midOf 1 settingsN l) (replicate settingsN 0) (length-mid 1 settingsN l (omega arith)) in
-    whole l (g .last .1 .0) (v .result) (u .result) (h .result) (k .result) eg (v .ensures) (u .ensures) (h .ensures .0) (k .ensures .0)
+    let u = c .before .before .before .before .entries-in in
+    let values = c .before .before .before .before .before .before in
+    let v = values .values-in in
+    let laying = values .before .before .before .before in
+    let g = laying .lay in
+    let sized = laying .before .before .before in
+    let at = sized .values-at .result in
+    let k = sized .before .before .args .series in
+    let l = sized .before .before .args .s .now in
+    let ea : at ≡ valuesAt k = sized .values-at .ensures .0 in
+    let en : at - 1 ≡ settingsN k = omega arith in
+    whole k l (midOf at (length l - at) l) (g .last .1 .0) (v .result) (u .result) (at - 1) (h .result) (j .result) en
+    (rest-all l at (valuesAt k) ea) (g .ensures) (v .ensures) (u .ensures) (h .ensures .0) (j .ensures .0)
 
 pub state-in-spec : {M : Type 1} → statement M
 state-in-spec =
     tie.close
     (tie.spec
+    values-at-requires
     sub-lay
     part-lay-start
     part-lay-end
     slice-aggregate-lay
     lay-requires
+    sub-rest
+    part-rest-start
+    part-rest-end
     sub-values-in
     part-values-in-start
     part-values-in-end
@@ -116,6 +143,6 @@ state-in-spec =
     add-wide
     shared-slice-read-wide-2
     wide-requires-2
-    mul-t9
-    add-t24
+    mul-t12
+    add-t29
     returns)

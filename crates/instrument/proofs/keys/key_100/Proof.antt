@@ -1,0 +1,33 @@
+-- `key_100` meets its contract: each arm has the key of the table's row at its place.
+use mathlib.Core.Path.{refl}
+use Rattle.figures.specs.Decimal.{placesBy, digitsOf}
+use Rattle.instrument.specs.Settings.{rows100, noRow}
+use Rattle.instrument.proofs.Ranges.{key-place, key-past}
+use Rattle.instrument.proofs.keys.key_100.Statement.{statement}
+use Rattle.instrument.proofs.keys.key_100.Tie as tie
+
+pub key-100-spec : {M : Type 1} → statement M
+unfolding rows100 placesBy digitsOf
+key-100-spec =
+    tie.close
+    (tie.spec
+    (λ c. key-place rows100 (c .before .before .match .keys1) refl)
+    (λ c. key-place rows100 (c .before .before .match .keys2) refl)
+    (λ c. key-place rows100 (c .before .before .match .keys3) refl)
+    (λ c. key-place rows100 (c .before .before .match .keys4) refl)
+    (λ c. key-place rows100 (c .before .before .match .keys5) refl)
+    (λ c. key-place rows100 (c .before .before .match .keys6) refl)
+    (λ c. key-place rows100 (c .before .before .match .keys7) refl)
+    (λ c. key-place rows100 (c .before .before .match .keys8) refl)
+    (λ c. key-place rows100 (c .before .before .match .keys9) refl)
+    (λ c. key-place rows100 (c .before .before .match .keys10) refl)
+    (λ c. key-place rows100 (c .before .before .match .keys11) refl)
+    (λ c. key-place rows100 (c .before .before .match .keys12) refl)
+    (λ c. key-place rows100 (c .before .before .match .keys13) refl)
+    (λ c. key-place rows100 (c .before .before .match .keys14) refl)
+    (λ c. key-place rows100 (c .before .before .match .keys15) refl)
+    (λ c. key-place rows100 (c .before .before .match .keys16) refl)
+    (λ c. key-place rows100 (c .before .before .match .keys17) refl)
+    (λ c. key-place rows100 (c .before .before .match .keys18) refl)
+    (λ c. key-place rows100 (c .before .before .match .keys19) refl)
+    (λ c. key-past rows100 19 (c .before .before .before .args .place) refl refl (c .before .before .match .rest)))
