@@ -1,7 +1,7 @@
 /* gsi.h: what a host in C links from libhost.a. Every function is proved to do just what is said here, whatever it is lent.
 
    Each function but the two that tell an image's length answers number * 2^32 + told: GSI_NUMBER and GSI_TOLD take the two apart. The number is 0
-   where the call was accepted; otherwise it is document 01's refusal. A buffer is a pointer and a length; a length of 0 lends nothing. Buffers that
+   where the call was accepted; otherwise it is the refusal's, of the rules. A buffer is a pointer and a length; a length of 0 lends nothing. Buffers that
    are lent to one call don't overlap, and a list of records is aligned as its type asks. Nothing is kept between calls. */
 #ifndef GSI_H
 #define GSI_H
