@@ -6,6 +6,7 @@ pub mod Runs
 pub mod States
 pub mod Tracks
 pub mod Demand
+pub mod Asked
 pub mod Hosted
 pub mod Wrong
 pub mod Shape
