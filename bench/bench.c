@@ -439,7 +439,7 @@ static void check_script(void)
     for (unsigned i = 0; i < LINES; i++) {
         uint64_t a = gsi_line(image, IMAGE, script[i].bytes, script[i].length, reply, sizeof reply);
         uint64_t b = ref_line(theirs, IMAGE, script[i].bytes, script[i].length, their_reply, sizeof their_reply);
-        if (a != b || memcmp(image, theirs, IMAGE) != 0 || memcmp(reply, their_reply, (size_t)(a & 0xffffffff)) != 0)
+        if (a != b || memcmp(image, theirs, IMAGE) != 0 || memcmp(reply, their_reply, (size_t)(a & 0xffff)) != 0)
             stop("a line", i);
     }
     for (unsigned i = 0; i < STATES; i++) {

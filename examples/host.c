@@ -1,4 +1,4 @@
-/* host.c: a small host. It reads a block and shows what stands in it, plays three lines on the stand-in, and writes the sheet. */
+/* host.c: a small host. It reads a block and shows what stands in it, plays four lines on the stand-in, and writes the sheet. */
 #include "gsi.h"
 
 int printf(const char *, ...);
@@ -6,12 +6,15 @@ size_t strlen(const char *);
 
 static uint8_t image[2048];
 
-/* One line on the image, with its reply shown. */
+/* One line on the image, with its reply shown, and of a PUT that breaks a rule which one it is and where. */
 static void play(size_t n, const char *line)
 {
     uint8_t reply[GSI_REPLY_MOST];
     uint64_t answer = gsi_line(image, n, (const uint8_t *)line, strlen(line), reply, sizeof reply);
-    printf("%.*s -> %u, %.*s\n", (int)strlen(line) - 1, line, GSI_NUMBER(answer), GSI_TOLD(answer) < 2 ? 0 : (int)GSI_TOLD(answer) - 2, (const char *)reply);
+    int n_reply = GSI_REPLY(answer) < 2 ? 0 : (int)GSI_REPLY(answer) - 2;
+    printf("%.*s -> %u, %.*s\n", (int)strlen(line) - 1, line, GSI_NUMBER(answer), n_reply, (const char *)reply);
+    if (GSI_WHICH(answer) != 0)
+        printf("%*s^ %u\n", (int)GSI_BYTE(answer), "", GSI_WHICH(answer));
 }
 
 int main(void)
@@ -33,6 +36,7 @@ int main(void)
     play(n, "PUT/88...0+00001550 \r");
     play(n, "GET/I/WI88\r");
     play(n, "SET/40/3\r");
+    play(n, "PUT/88...0+0000A550 \r");
 
     uint8_t sheet[GSI_SHEET_MOST];
     answer = gsi_sheet_write(image, n, sheet, sizeof sheet);

@@ -54,7 +54,9 @@ enum { GSI_BLOCK_MOST = 771, GSI_REPLY_MOST = 459, GSI_SHEET_MOST = 441 };
 
 /* Reads the total station's block at the start of n bytes into a list of so many places.
    Read (0): tells GSI_USED, GSI_WORDS, GSI_IS_WIDE and GSI_IS_CRLF; records beyond the words are as before, bytes after the terminator aren't looked at.
-   Refused (1 to 11): tells the place; the whole list is as before. 10 is an angle out of its range, and nothing else. */
+   Refused (1 to 11, 15): tells the byte of the input, from 0; the whole list is as before. 5 (an index that isn't digits), 6 (information), 7 (sign),
+   8 (data) and 9 (separator) tell the first byte that breaks the rule; 10, an angle out of its range and nothing else, tells the first data byte;
+   15, digits that are no index of the table, tells the start of the word. They are judged in the order 5, 15, 6 to 10. */
 uint64_t gsi_read(const uint8_t *block, size_t n, gsi_word *list, size_t places);
 
 /* Writes so many records as one block of a total station into the room; wide and crlf: 0 is no, any other number is yes.
@@ -63,8 +65,9 @@ uint64_t gsi_read(const uint8_t *block, size_t n, gsi_word *list, size_t places)
    or on the mm of what is no pair included, 14 for a room shorter than the block (tells the bytes needed); the whole room is as before. */
 uint64_t gsi_write(const gsi_word *list, size_t words, uint64_t wide, uint64_t crlf, uint8_t *block, size_t room);
 
-/* The same two for a digital level's block (NA2002, NA3003). What a level's word can't be is refused as gsi_read refuses: 5 for an index that a
-   level doesn't have, a third digit included, 6 for positions 3-6 by the level's rules; 10 never comes. 13 is a record that no word of a level
+/* The same two for a digital level's block (NA2002, NA3003). What a level's word can't be is refused as gsi_read refuses: 15 for digits that
+   are no index of a level, three of them where position 3 has one, 6 for positions 3-6 (4-6 after an index of three digits) by the level's rules; 10
+   never comes. 13 is a record that no word of a level
    gives: one whose index a level doesn't have, an index of three digits with info[0] other than 0, one of two digits (but 11 and 41) without the
    dot at info[0]. */
 uint64_t gsi_read_level(const uint8_t *block, size_t n, gsi_word *list, size_t places);
@@ -79,9 +82,16 @@ uint64_t gsi_image_size_300(void);
 uint64_t gsi_factory(uint8_t *image, size_t n);
 uint64_t gsi_factory_300(uint8_t *image, size_t n);
 
+/* What gsi_line tells: the reply's bytes, and of 26 which rule of a word the PUT breaks, 6 to 10 as gsi_read numbers them, and the byte of the line, from
+   0 (the word starts at 4). With every other answer the last two are 0. */
+#define GSI_REPLY(answer) ((size_t)((answer) & 0xffff))
+#define GSI_WHICH(answer) ((unsigned)((answer) >> 16 & 0xff))
+#define GSI_BYTE(answer) ((size_t)((answer) >> 24 & 0xff))
+
 /* Runs one line, its CR or CR LF included, on the image, and writes its reply into the room.
-   Accepted (0): tells the reply's bytes; the image is that of the next state; room beyond the reply is as before.
-   Refused by 20 to 29 or 38 (a SET of a number that can only be asked for): the same with `@W127` for the reply, and the image as before.
+   Accepted (0): tells GSI_REPLY; the image is that of the next state; room beyond the reply is as before.
+   Refused by 20 to 29, 38 (a SET of a number that can only be asked for) or 39: the same with `@W127` for the reply, and the image as before; 26 tells
+   GSI_WHICH and GSI_BYTE too. 22 is a line that starts with none of SET, CONF, PUT, GET, UNDO and KEEP; 39 one that does, with a wrong remainder.
    30 (the reply is longer than the room) and 31 (the bytes are no image): tells 0, and nothing is written or changed. */
 uint64_t gsi_line(uint8_t *image, size_t n, const uint8_t *line, size_t m, uint8_t *reply, size_t room);
 

@@ -1,7 +1,8 @@
-/* driver.c: sweeps the words and records of both families, minus nought wherever it may stand, and the settings, sheets and
-   images of both series, makes cases by seed and compares the library (gsi_*) with the second implementation (ref_*): the
-   answer and every lent byte. Usage: driver CASES SEED, the sweeps not counted. Status 0 when there is no difference and every
-   number was seen, minus nought in each function that may have it, and wide replies. */
+/* driver.c: sweeps the words and records of both families, minus nought wherever it may stand, the place that each refusal
+   tells, and the settings, lines, sheets and images of both series, makes cases by seed and compares the library (gsi_*) with
+   the second implementation (ref_*): the answer, what it tells and every lent byte. Usage: driver CASES SEED, the sweeps not
+   counted. Status 0 when there is no difference and every number was seen, each byte of a word told, each rule that a PUT can
+   break, minus nought in each function that may have it, and wide replies. */
 #include "reference.h"
 
 int printf(const char *, ...);
@@ -185,6 +186,10 @@ static const char *const names[FUNCTIONS] = {
     "sheet_load", "TPS300 sheet_load"};
 
 static uint64_t wanted, cases, seed, seen[FUNCTIONS][41], with_nought[FUNCTIONS], wide_replies;
+
+/* The refusals 5 to 10 by the byte of the word that they tell, in either width; the PUTs that 26 refuses by the rule that they
+   break and by the byte of the line. */
+static uint64_t told_at[FAMILIES][2][24], broken_rule[SERIES][11], broken_at[SERIES][20];
 static const char *kind_name;
 static uint64_t *kind_count;
 static int sweeping;
@@ -276,7 +281,7 @@ static int bytes_have_nought(const uint8_t *p, size_t n)
 /* Whether a minus nought was accepted in the case: among the records read or written, in the line or its reply, in the sheet. */
 static int has_nought(uint64_t ours)
 {
-    size_t told = ours & 0xFFFFFFFF;
+    size_t told = ours & 0xFFFFFFFF; /* of a line that is accepted the reply's bytes alone */
     if (ours >> 32 != 0)
         return 0;
     switch (now.function) {
@@ -300,6 +305,20 @@ static int has_nought(uint64_t ours)
     }
 }
 
+/* Counts where a refusal of the reader, or a PUT's, was told. */
+static void count_place(uint64_t ours)
+{
+    unsigned number = (unsigned)(ours >> 32), rule = ours >> 16 & 255, byte = ours >> 24 & 255;
+    if (now.function < READ + FAMILIES && number >= 5 && number <= 10) {
+        size_t wide = block.before[block.start] == '*', at = (ours & 0xFFFFFFFF) - wide;
+        told_at[now.function - READ][wide][at % (wide ? 24 : 16)]++;
+    }
+    if (now.function >= LINE && now.function < LINE + SERIES && number == 26 && rule < 11 && byte < 20) {
+        broken_rule[now.function - LINE][rule]++;
+        broken_at[now.function - LINE][byte]++;
+    }
+}
+
 static void compare(uint64_t theirs, uint64_t ours)
 {
     cases += !sweeping;
@@ -313,6 +332,8 @@ static void compare(uint64_t theirs, uint64_t ours)
         seen[now.function][ours >> 32] += !sweeping;
     if (!sweeping)
         with_nought[now.function] += (uint64_t)has_nought(ours);
+    if (!sweeping)
+        count_place(ours);
     if (!sweeping && now.function == LINE + TPS300 && ours >> 32 == 0)
         wide_replies += reply.ours[reply.start] == '*';
     if (cases == wanted)
@@ -662,6 +683,83 @@ static const struct form *form_of(char kind)
     return 0;
 }
 
+/* What is wrong first in a word. 104: "Refusals 5 to 10 tell the exact byte: the first that breaks the rule, and for 10 the first
+   data byte"; 15 tells "the start of the word". The rows and forms above say it here once more, so that a place which both
+   sides miss is seen too. */
+
+static const char figures[] = "0123456789", dot_or_figure[] = ".0123456789";
+
+static int among(const char *characters, uint8_t b)
+{
+    for (; *characters; characters++)
+        if ((uint8_t)*characters == b)
+            return 1;
+    return 0;
+}
+
+static int out_of_range(uint8_t unit, const uint8_t *p, unsigned width)
+{
+    uint64_t v = 0;
+    for (unsigned i = 0; i < width; i++)
+        v = v * 10 + (uint64_t)(p[i] - '0');
+    if (unit != '4')
+        return v >= angle_limit(unit);
+    return v / 100000 >= 360 || v / 1000 % 100 >= 60 || v / 10 % 100 >= 60;
+}
+
+/* From the sign on: 7 to 10, or 0, and the byte from the word's start. */
+static unsigned blame_rest(char kind, const uint8_t *w, unsigned width, size_t *byte)
+{
+    int is_text = kind == 'n' || kind == 't';
+    *byte = 6;
+    if (!among(is_text ? "+" : "+-", w[6]))
+        return 7;
+    for (*byte = 7; *byte < 7 + width; ++*byte) {
+        uint8_t b = w[*byte];
+        if (is_text ? b < 33 || b > 126 : !among(kind == 'p' && *byte == 7 + width - 4 ? "+-" : figures, b))
+            return 8;
+    }
+    if (w[*byte] != ' ')
+        return 9;
+    *byte = 7;
+    return kind == 'a' && out_of_range(w[5], w + 7, width) ? 10 : 0;
+}
+
+/* The whole word of the family: 5, 15, 6 to 10, or 0. */
+static unsigned blame(unsigned of, const uint8_t *w, unsigned width, size_t *byte)
+{
+    const struct form *form;
+    unsigned index, taken = 2;
+    char kind;
+
+    for (*byte = 0; *byte < 2; ++*byte)
+        if (!among(figures, w[*byte]))
+            return 5;
+    *byte = 0;
+    index = (w[0] - '0') * 10u + (w[1] - '0');
+    kind = kind_of(of, index);
+    if (of == LEVEL && kind != 'n' && among(figures, w[2])) {
+        index = index * 10 + (w[2] - '0');
+        kind = index < 100 ? 0 : kind_of(of, index);
+        taken = 3;
+    }
+    if (!kind)
+        return 15;
+    form = form_of(kind);
+    for (*byte = taken; *byte < 6; ++*byte) {
+        const char *may = dot_or_figure;
+        if (kind == 'n')
+            may = w[2] == '.' ? "." : figures;
+        else if (*byte == 2)
+            may = ".";
+        else if (form)
+            may = *byte == 3 ? form->fourth : *byte == 4 ? form->fifth : form->units;
+        if (!among(may, w[*byte]))
+            return 6;
+    }
+    return blame_rest(kind, w, width, byte);
+}
+
 /* Minus nought in the word of a number: for a pair in either half or in both. */
 static void lay_nought(uint8_t *w, unsigned width, char kind)
 {
@@ -866,6 +964,33 @@ static void swap(uint8_t *a, uint8_t *b, size_t n)
         a[i] = b[i];
         b[i] = t;
     }
+}
+
+/* One to three bytes of one word changed, so that the order of its refusals and their places count; at times in a later word
+   too. */
+static void read_wrong_places(void)
+{
+    size_t each, word;
+    make_block(some_words(), 4);
+    each = block_wide ? 24 : 16;
+    word = below(block_words);
+    for (unsigned i = 1 + below(3); i > 0; i--) {
+        uint8_t *w = src + word_start(word);
+        switch (below(4)) {
+        case 0: /* the index, or position 3 */
+            change(w, 3);
+            break;
+        case 1:
+            change_to(w + 2, 4, "0123456789./:x");
+            break;
+        default:
+            change(w + 2, each - 2);
+            break;
+        }
+        if (one_in(8))
+            word = below(block_words);
+    }
+    check_read(len, some_places());
 }
 
 /* Words exchanged, or one field of two words; often with a wrong word among them. */
@@ -1215,25 +1340,32 @@ static void lay_word(unsigned two, char third)
     len = block_wide + width + 10;
 }
 
-/* Each value of one byte of the block in src. What is lent stays from value to value, until a reading alters the list. */
+/* Reads the block in src with the value at one place. What is lent stays from value to value, until a reading alters the list
+   and it is stale. */
+static uint64_t read_value(size_t at, unsigned b, int *stale)
+{
+    enum { PLACES = 3 };
+    uint64_t read;
+    src[at] = (uint8_t)b;
+    if (*stale) {
+        lend(&block, src, len, IN);
+        lend(&list, 0, PLACES * sizeof(ref_word), ALIGNED);
+    }
+    block.before[block.start + at] = block.theirs[block.start + at] = block.ours[block.start + at] = (uint8_t)b;
+    read = read_lent(family, PLACES);
+    *stale = read >> 32 == 0;
+    if (*stale)
+        write_back(family, read);
+    return read;
+}
+
+/* Each value of one byte of the block in src. */
 static void sweep_byte(size_t at)
 {
-    enum { PLACES = 2 };
     uint8_t old = src[at];
     int stale = 1;
-    for (unsigned b = 0; b < 256; b++) {
-        uint64_t read;
-        src[at] = (uint8_t)b;
-        if (stale) {
-            lend(&block, src, len, IN);
-            lend(&list, 0, PLACES * sizeof(ref_word), ALIGNED);
-        }
-        block.before[block.start + at] = block.theirs[block.start + at] = block.ours[block.start + at] = (uint8_t)b;
-        read = read_lent(family, PLACES);
-        stale = read >> 32 == 0;
-        if (stale)
-            write_back(family, read);
-    }
+    for (unsigned b = 0; b < 256; b++)
+        read_value(at, b, &stale);
     src[at] = old;
 }
 
@@ -1390,6 +1522,17 @@ static void put_word(uint8_t *w, unsigned place, int edge)
         if (one_in(8))
             lay_nought(w, 8, kind);
     }
+}
+
+/* What is wrong first in the word of a PUT: 6 to 10, or 0, and the byte from the word's start. "A PUT word has dots at 3-5 (3-6
+   for text) and otherwise obeys the block rules"; 104: "The unit of a stored value belongs to 6." */
+static unsigned blame_put(unsigned place, const uint8_t *w, size_t *byte)
+{
+    static const char *const units[] = {".", "234", "01"};
+    for (*byte = 2; *byte < 6; ++*byte)
+        if (!among(*byte < 5 ? "." : units[place < 2 ? 0 : place < 4 ? 1 : 2], w[*byte]))
+            return 6;
+    return blame_rest(stored_kind(place), w, 8, byte);
 }
 
 /* The 11 bytes of a value that was put. */
@@ -1681,7 +1824,7 @@ static size_t near_room(const struct lent *image)
     static uint8_t trial[MOST_IMAGE + 1], room[MOST_REPLY];
     size_t n = image->len < MOST_IMAGE ? image->len : MOST_IMAGE, told;
     memcpy(trial, image->theirs + image->start, n);
-    told = (size_t)(ref_line(trial, n, src, len, room, sizeof room) & 0xFFFFFFFF);
+    told = (size_t)(ref_line(trial, n, src, len, room, sizeof room) & 0xFFFF);
     told += below(3);
     return told ? told - 1 : 0;
 }
@@ -1970,6 +2113,28 @@ static void line_put(void)
     check_line(image, len, some_room(image));
 }
 
+/* One to three bytes of a PUT's word changed, most often past the index, so that 26 tells each of its rules and bytes. */
+static void line_put_places(void)
+{
+    struct lent *image = some_image();
+    len = 0;
+    say_put(below(VALUES), one_in(2));
+    for (unsigned i = 1 + below(3); i > 0; i--)
+        switch (below(6)) {
+        case 0:
+            change_to(src + 6, 4, "0123456789./:x");
+            break;
+        case 1:
+            change(src + 4, 16);
+            break;
+        default:
+            change(src + 6, 14);
+            break;
+        }
+    say_end();
+    check_line(image, len, some_room(image));
+}
+
 static void line_get(void)
 {
     struct lent *image = some_image();
@@ -2054,6 +2219,35 @@ static void line_shapes(void)
     say(PICK(bodies));
     if (one_in(8))
         say(PICK(bodies));
+    say_end();
+    check_line(image, len, some_room(image));
+}
+
+/* 104: "22 for a line that starts with no keyword (SET, CONF, PUT, GET, UNDO, KEEP); 39 for a known keyword with a wrong
+   remainder, right after 22". What may follow a keyword, most of it another's. */
+static const char *const keywords[] = {"SET", "CONF", "PUT", "GET", "UNDO", "KEEP"};
+static const char *const remainders[] = {"", "/", "//", "/30", "/30/", "/30/1", "/30/1/", "/73/1", "/73/01", "/073/1", "/73/12345", "/73",
+    "/103", "/0103", "/12345", "/103/", "/I", "/I/", "/I/WI", "/I/WI8", "/I/WI88", "/I/WI888", "/I/WI88/", "/I/WI88/WI11", "/M/WI11",
+    "/M", "/88...0+00001550 ", "/88...0+00001550", "/88...0+00001550  ", "88...0+00001550 ", " ", "1", "0", "TLE", "OUT", "ER",
+    "IG/70", "SET", "CONF", "PUT", "GET", "UNDO", "KEEP", "/SET/73/1", "\t", ".", "*"};
+
+/* A keyword, at times one byte off or cut, and what may follow it. */
+static void line_keywords(void)
+{
+    struct lent *image = some_image();
+    size_t n;
+    len = 0;
+    say(PICK(keywords));
+    n = len;
+    if (one_in(4))
+        change(src, n);
+    else if (one_in(6))
+        len -= 1 + below(2);
+    else if (one_in(12))
+        change_to(src, n, "SETCONFPUGDK");
+    say(PICK(remainders));
+    if (one_in(6))
+        say_byte(telling_byte('/'));
     say_end();
     check_line(image, len, some_room(image));
 }
@@ -2808,7 +3002,7 @@ static void sweep_noughts_refused(void)
                 ask_number(1, &numbers[i], signs, 0, 0);
                 digits(src + word_start(1) + 7, width, beyond[k].data);
                 end_block(2, 0);
-                ask_refusal(10, word_start(1));
+                ask_refusal(10, word_start(1) + 7);
             }
     for (const struct row *row = rows[family]; row->kind; row++)
         for (unsigned i = 0; !form_of(row->kind) && i < row->count; i++)
@@ -2820,7 +3014,7 @@ static void sweep_noughts_refused(void)
                 if (noughts)
                     src[word_start(1) + 7] = '0';
                 end_block(2, 0);
-                ask_refusal(7, word_start(1));
+                ask_refusal(7, word_start(1) + 6);
             }
 }
 
@@ -2923,6 +3117,15 @@ static int is_wide(const struct lent *image)
     return shape->of_137 < shape->settings && image->theirs[image->start + 1 + shape->of_137];
 }
 
+/* What 26 is to tell besides the reply's bytes. 104: "reply bytes + 2^16 * which + 2^24 * byte; for every other answer, 30
+   included, the two are 0". */
+static uint64_t asked_where;
+
+static void ask_where(unsigned rule, size_t byte)
+{
+    asked_where = (uint64_t)rule << 16 | (uint64_t)byte << 24;
+}
+
 /* Plays the line in src, whose end it has; its number and reply are these, or 30 where the room is shorter than the reply. */
 static void ask_reply(struct lent *image, unsigned number, const void *answered, size_t n, size_t room)
 {
@@ -2933,7 +3136,7 @@ static void ask_reply(struct lent *image, unsigned number, const void *answered,
             unasked("the room is too short", got);
         return;
     }
-    if (got != ((uint64_t)number << 32 | need))
+    if (got != ((uint64_t)number << 32 | (number == 26 ? asked_where : 0) | need))
         unasked("the line is answered otherwise", got);
     if (number != 31 && (memcmp(reply.theirs + reply.start, answered, n) != 0 || memcmp(reply.theirs + reply.start + n, "\r\n", end) != 0))
         unasked("the reply is another", got);
@@ -2977,9 +3180,13 @@ static const uint8_t *value_word(unsigned place, int put, char unit, char sign, 
 
 static void ask_put(struct lent *image, unsigned number, unsigned place, char unit, char sign, const char *data)
 {
+    size_t byte;
+    unsigned rule;
     len = 0;
     say("PUT/");
     memcpy(src + len, value_word(place, 1, unit, sign, data), 16);
+    rule = blame_put(place, src + len, &byte);
+    ask_where(rule, len + byte);
     len += 16;
     ask_said(image, number);
 }
@@ -3220,6 +3427,317 @@ static void sweep_noughts_of_lines(void)
             ask_put(run, 26, place, '4', sign, "00000600");
         }
     ask_same(run, factory_state, shape->image);
+    len = 0;
+}
+
+/* Sweeps of places: each value of each byte of a word of each kind and unit, of a PUT's word, and of a line of each shape. What is
+   wrong first is asked of blame and its like too. */
+
+static uint64_t swept_places[FAMILIES], swept_puts[SERIES], swept_lines[SERIES];
+
+/* A right word of each kind and unit: 11 and 41 with dots and with a block number, text, the units in their order. */
+static const char *const samples[FAMILIES][19] = {
+    {"11....+A-~!*x.0", "410014+!~!~!~!~", "13....+ABCDEFGH", "79.9.0+00000003", "21.102+39999999", "22.323-00000000", "24.004+35959599",
+     "21...5-63999999", "31..00+00265965", "82...1-00000000", "33..46+99999999", "34..17-00010198", "88..38+00010198", "58..06+00000345",
+     "59...6-00000345", "51..1.+0009-034"},
+    {"11....+A-~!*x.0", "110006+00003000", "419999+!~!~!~!~", "42....+10842V02", "52.999+00000003", "57.1.9+ABCDEFGH", "521...+10842V02",
+     "32..00+00016380", "83.1.1-00000000", "32...6+99999999", "83..27-00016380", "32.148+00016380", "83..59+00016380", "330..0+00010198",
+     "331161-00010198", "336106+99999999", "374.77-00000000", "571108+00010198", "574..9+00010198"},
+};
+
+/* Lays the word, 16 wide with noughts on the left of its data. */
+static void lay_sample(uint8_t *w, const char *sample)
+{
+    unsigned more = block_wide ? 8 : 0;
+    memcpy(w, sample, 7);
+    memset(w + 7, '0', more);
+    memcpy(w + 7 + more, sample + 7, 8);
+    w[15 + more] = ' ';
+}
+
+/* Whether a block in src that reads but for one word is refused as that word is. A CR where it would start ends the block, and
+   the block's first byte may make it wide: these are left to the comparison. */
+static void ask_place(uint64_t read, size_t word)
+{
+    size_t byte;
+    unsigned number = blame(family, src + word, block_wide ? 16 : 8, &byte);
+    if (src[word] == CR || (src[0] == '*') != (int)block_wide)
+        return;
+    if (number ? read != ((uint64_t)number << 32 | (word + byte)) : read >> 32 != 0)
+        unasked("the refusal is another", read);
+}
+
+/* What a byte is changed to where two are at once: one that is wrong everywhere, a digit and a sign. */
+static const uint8_t wrong_bytes[] = {127, '9', '-'};
+
+/* Each value of each byte of the word. */
+static void sweep_word(size_t word)
+{
+    size_t each = block_wide ? 24 : 16;
+    for (size_t at = word; at < word + each; at++) {
+        uint8_t old = src[at];
+        int stale = 1;
+        for (unsigned b = 0; b < 256; b++)
+            ask_place(read_value(at, b, &stale), word);
+        src[at] = old;
+    }
+}
+
+/* Any two bytes of it wrong at once, so that the order counts. */
+static void sweep_two(size_t word)
+{
+    size_t end = word + (block_wide ? 24 : 16);
+    for (size_t first = word; first < end; first++) {
+        uint8_t old = src[first];
+        for (size_t i = 0; i < COUNT_OF(wrong_bytes); i++) {
+            src[first] = wrong_bytes[i];
+            for (size_t at = first + 1; at < end; at++) {
+                uint8_t other = src[at];
+                int stale = 1;
+                for (size_t k = 0; k < COUNT_OF(wrong_bytes); k++)
+                    ask_place(read_value(at, wrong_bytes[k], &stale), word);
+                src[at] = other;
+            }
+        }
+        src[first] = old;
+    }
+}
+
+/* Each sample as the first of two words and as the last of three, in either width. */
+static void sweep_places(void)
+{
+    kind_name = "sweep of places";
+    kind_count = &swept_places[family];
+    for (block_wide = 0; block_wide < 2; block_wide++)
+        for (unsigned i = 0; i < COUNT_OF(samples[0]) && samples[family][i]; i++)
+            for (unsigned words = 2; words < 4; words++) {
+                unsigned place = words == 2 ? 0 : 2;
+                for (unsigned other = 0; other < words; other++)
+                    lay_sample(src + word_start(other), samples[family][other == place ? i : (i + other + 5) % 15]);
+                end_block(words, (int)(i & 1));
+                sweep_word(word_start(place));
+                if (place)
+                    sweep_two(word_start(place));
+            }
+    block_wide = 0;
+}
+
+/* Whether the n bytes have the pattern: `#` is a number ("1 to 4 digits and no leading zero, save `0` itself"), `%` a digit, `?` any
+   byte, another its own. */
+static int has_pattern(const char *pattern, const uint8_t *p, size_t n)
+{
+    for (; *pattern; pattern++) {
+        size_t taken = 1;
+        if (*pattern == '#') {
+            for (taken = 0; taken < n && among(figures, p[taken]);)
+                taken++;
+            if (taken == 0 || taken > 4 || (taken > 1 && p[0] == '0'))
+                return 0;
+        } else if (n == 0 || (*pattern == '%' ? !among(figures, *p) : *pattern != '?' && (uint8_t)*pattern != *p)) {
+            return 0;
+        }
+        p += taken;
+        n -= taken;
+    }
+    return n == 0;
+}
+
+/* What is wrong with a line, short of what it asks for: 20, 21, 22 or 39, or 0 where it has one of the shapes. */
+static unsigned blame_line(const uint8_t *p, size_t n)
+{
+    char get[120] = "GET/I";
+    int known = 0;
+    if (n > 0 && p[n - 1] == LF)
+        n--;
+    if (n == 0 || p[--n] != CR)
+        return 20;
+    for (size_t i = 0; i < n; i++)
+        if (p[i] == CR || p[i] == LF)
+            return 20;
+    if (n > 100)
+        return 21;
+    for (size_t i = 0; i < COUNT_OF(keywords); i++)
+        known |= n >= strlen(keywords[i]) && memcmp(p, keywords[i], strlen(keywords[i])) == 0;
+    if (!known)
+        return 22;
+    for (size_t i = 5; i + 5 <= n || i == 5; i += 5) /* as many indexes as the line has place for */
+        memcpy(get + i, "/WI%%", 6);
+    if (has_pattern("SET/#/#", p, n) || has_pattern("CONF/#", p, n) || has_pattern("PUT/????????????????", p, n) ||
+        has_pattern(get, p, n) || has_pattern("UNDO", p, n) || has_pattern("KEEP", p, n))
+        return 0;
+    return 39;
+}
+
+/* Plays the line in src, its end included, on the state at hand, and sees that it is refused as blame_line says; a PUT by 25, or by
+   26 and where. 28 and 29 don't come: the state has an entry, and room for more. */
+static void ask_line_place(void)
+{
+    static const char stored_names[] = "1116212434838485868788";
+    unsigned number = blame_line(src, len), place = 0;
+    uint64_t got, where = 0;
+    size_t byte;
+    if (number == 0 && src[0] == 'P') {
+        while (place < VALUES && memcmp(src + 4, stored_names + 2 * place, 2) != 0)
+            place++;
+        number = place == VALUES ? 25 : 0;
+        if (number == 0) {
+            unsigned rule = blame_put(place, src + 4, &byte);
+            number = rule ? 26 : 0;
+            where = rule ? (uint64_t)rule << 16 | (uint64_t)(4 + byte) << 24 : 0;
+        }
+    }
+    got = check_line(&spare, len, shape->reply);
+    if (number && got != ((uint64_t)number << 32 | where | (5 + end_length(&spare))))
+        unasked("the refusal is another", got);
+    if (!number && (got >> 32 == 20 || got >> 32 == 21 || got >> 32 == 22 || got >> 32 == 39 || (got >> 32 != 0 && src[0] == 'P')))
+        unasked("the line is refused", got);
+    if (got >> 32 == 0)
+        lend_state(shape->image);
+}
+
+/* The state with minus nought in every value, which the sweep of these left, with one entry standing, and CR LF for an end, or
+   CR. */
+static void lend_for_lines(int crlf)
+{
+    memset(state, 0, sizeof state);
+    memcpy(state, nought_state, shape->image);
+    empty_undo();
+    state[1 + shape->of_73] = (uint8_t)crlf;
+    state[shape->count + 1] = 1;
+    state[shape->entries] = 1;
+    state[shape->entries + 1] = (uint8_t)shape->of_73;
+    lend_state(shape->image);
+}
+
+/* A PUT of each stored value with each of its units: each value of each of the word's 16 positions, and any two of them wrong
+   at once. */
+static void sweep_puts(void)
+{
+    static const char *const data[] = {"PNC0058A", "!~!~!~!~", "35959599", "00000000", "00001550", "99999999"};
+    kind_name = "sweep of PUT places";
+    kind_count = &swept_puts[series];
+    for (unsigned place = 0; place < VALUES; place++)
+        for (unsigned which = 0; which < (place < 2 ? 1u : place < 4 ? 3u : 2u); which++) {
+            unsigned n = place < 2 ? place : place < 4 ? 2 + which % 2 : 4 + which;
+            lend_for_lines((int)which & 1);
+            len = 0;
+            say("PUT/");
+            memcpy(src + len, value_word(place, 1, unit_for(place, which), place > 2 && which % 2 ? '-' : '+', data[n]), 16);
+            len += 16;
+            say(which & 1 ? "\r\n" : "\r");
+            for (size_t at = 4; at < 20; at++) {
+                uint8_t old = src[at];
+                for (unsigned b = 0; b < 256; b++) {
+                    src[at] = (uint8_t)b;
+                    ask_line_place();
+                }
+                for (size_t i = 0; i < COUNT_OF(wrong_bytes); i++) {
+                    src[at] = wrong_bytes[i];
+                    for (size_t later = at + 1; later < 20; later++) {
+                        uint8_t other = src[later];
+                        for (size_t k = 0; k < COUNT_OF(wrong_bytes); k++) {
+                            src[later] = wrong_bytes[k];
+                            ask_line_place();
+                        }
+                        src[later] = other;
+                    }
+                }
+                src[at] = old;
+            }
+        }
+    /* 30 in the place of 26 tells nothing, whatever the rule; with just the room, all of it. */
+    for (size_t at = 6; at < 20; at++) {
+        len = 0;
+        say("PUT/21...2+39999999 \r");
+        src[at] = at == 11 ? '4' : 'x';
+        ask_where(at < 10 ? 6 : at == 10 ? 7 : at == 11 ? 10 : at < 19 ? 8 : 9, at);
+        for (size_t room = 0; room < 10; room++)
+            ask_reply(&spare, 26, "@W127", 5, room);
+    }
+    /* With 64 entries 26 comes before 28. */
+    for (unsigned i = 0; i < ENTRIES; i++) {
+        state[shape->entries + ENTRY * i] = 1;
+        state[shape->entries + ENTRY * i + 1] = (uint8_t)shape->of_73;
+    }
+    state[shape->count + 1] = ENTRIES;
+    lend_state(shape->image);
+    ask_put(&spare, 28, 5, '0', '+', "00000000");
+    ask_put(&spare, 26, 5, '2', '+', "00000000");
+    ask_put(&spare, 26, 5, '0', '*', "00000000");
+    ask_put(&spare, 26, 5, '0', '+', "000A5320");
+    ask_put(&spare, 26, 2, '4', '+', "00060000");
+    len = 0;
+}
+
+/* Lines of each shape, some of which ask for what isn't there: each beginning, each value of each byte, each byte left out, others
+   put in before it; every keyword with remainders one after another, and with any byte and two after it. */
+static void sweep_lines(void)
+{
+    static const char *const shaped[] = {"SET/73/1", "SET/33/1", "SET/90/9", "CONF/103", "CONF/1", "PUT/88...0+00001550 ", "GET/I/WI88",
+                                         "GET/I/WI11/WI21", "GET/I/WI12/WI88", "UNDO", "KEEP"};
+    static const char put_in_bytes[] = "/0123456789 .+-SETCONFPUGIWDK\r\n\t*x";
+    kind_name = "sweep of lines";
+    kind_count = &swept_lines[series];
+    for (size_t i = 0; i < COUNT_OF(shaped); i++) {
+        size_t n = strlen(shaped[i]);
+        lend_for_lines((int)i & 1);
+        for (size_t cut = 0; cut <= n; cut++) {
+            len = 0;
+            say(shaped[i]);
+            len = cut;
+            say(cut & 1 ? "\r\n" : "\r");
+            ask_line_place();
+        }
+        len = 0;
+        say(shaped[i]);
+        say("\r\n");
+        for (size_t at = 0; at < len; at++) {
+            uint8_t old = src[at];
+            for (unsigned b = 0; b < 256; b++) {
+                src[at] = (uint8_t)b;
+                ask_line_place();
+            }
+            splice(at, 1, "", 0);
+            ask_line_place();
+            splice(at, 0, &old, 1);
+            splice(at, 0, &old, 1);
+            for (size_t k = 0; k < sizeof put_in_bytes; k++) {
+                src[at] = (uint8_t)put_in_bytes[k];
+                ask_line_place();
+            }
+            splice(at, 1, "", 0);
+        }
+    }
+    for (size_t k = 0; k < COUNT_OF(keywords); k++) {
+        for (size_t i = 0; i < COUNT_OF(remainders); i++)
+            for (size_t more = 0; more < COUNT_OF(remainders); more += 1 + i % 5) {
+                len = 0;
+                say(keywords[k]);
+                say(remainders[i]);
+                say(remainders[more]);
+                say("\r");
+                ask_line_place();
+            }
+        for (unsigned b = 0; b < 256; b++)
+            for (unsigned two = 0; two < 2; two++) {
+                len = 0;
+                say(keywords[k]);
+                say_byte((uint8_t)b);
+                say(two ? "0\r" : "\r");
+                ask_line_place();
+            }
+        /* The longest line that isn't 21, and one more. */
+        for (size_t n = 99; n < 103; n++) {
+            len = 0;
+            say(keywords[k]);
+            while (len < n)
+                say("0");
+            say("\r\n");
+            ask_line_place();
+            src[0]++;
+            ask_line_place();
+        }
+    }
     len = 0;
 }
 
@@ -3589,11 +4107,14 @@ static void sweep(void)
         sweep_infos();
         sweep_records();
         sweep_noughts_of_blocks();
+        sweep_places();
     }
     family = STATION;
     for (unsigned of = 0; of < SERIES; of++) {
         turn_to(of);
         sweep_noughts_of_lines();
+        sweep_puts();
+        sweep_lines();
         sweep_settings();
         sweep_replies();
         sweep_sheets();
@@ -3616,6 +4137,7 @@ static struct { const char *name; void (*make)(void); unsigned weight, by; uint6
     {"block with one byte wrong", read_one_wrong, 6, BY_FAMILY, {0}},
     {"block with each value of a byte", read_each_value, 6, BY_FAMILY, {0}},
     {"block information", read_info, 4, BY_FAMILY, {0}},
+    {"block with wrong places", read_wrong_places, 6, BY_FAMILY, {0}},
     {"block cut", read_cut, 4, BY_FAMILY, {0}},
     {"block words exchanged", read_exchanged, 2, BY_FAMILY, {0}},
     {"block of 33 words", read_33, 2, BY_FAMILY, {0}},
@@ -3649,10 +4171,12 @@ static struct { const char *name; void (*make)(void); unsigned weight, by; uint6
     {"line with each value of a byte", line_each_value, 5, BY_SERIES, {0}},
     {"line numbers", line_numbers, 4, BY_SERIES, {0}},
     {"line PUT", line_put, 5, BY_SERIES, {0}},
+    {"line PUT with wrong places", line_put_places, 5, BY_SERIES, {0}},
     {"line GET", line_get, 3, BY_SERIES, {0}},
     {"line ends and lengths", line_ends, 4, BY_SERIES, {0}},
     {"line rooms", line_rooms, 3, BY_SERIES, {0}},
     {"line shapes", line_shapes, 2, BY_SERIES, {0}},
+    {"line keywords", line_keywords, 4, BY_SERIES, {0}},
     {"line random", line_random, 1, BY_SERIES, {0}},
     {"sheet rooms", sheet_rooms, 1, BY_SERIES, {0}},
     {"sheet written", sheet_written, 2, BY_SERIES, {0}},
@@ -3669,9 +4193,9 @@ static struct { const char *name; void (*make)(void); unsigned weight, by; uint6
 /* The numbers each function can answer, as bits; a level's reader has no 10, TPS100 no read-only setting. */
 #define BITS(from, to) ((((uint64_t)2 << (to)) - 1) & ~(((uint64_t)1 << (from)) - 1))
 static const uint64_t possible[FUNCTIONS] = {
-    BITS(0, 11), BITS(0, 9) | BITS(11, 11), 1 | BITS(12, 14), 1 | BITS(12, 14), 1 | BITS(31, 31), 1 | BITS(31, 31),
-    1 | BITS(20, 31), 1 | BITS(20, 31) | BITS(38, 38), 1 | BITS(30, 31), 1 | BITS(30, 31), 1 | BITS(31, 31) | BITS(40, 40),
-    1 | BITS(31, 31) | BITS(40, 40)};
+    BITS(0, 11) | BITS(15, 15), BITS(0, 9) | BITS(11, 11) | BITS(15, 15), 1 | BITS(12, 14), 1 | BITS(12, 14), 1 | BITS(31, 31),
+    1 | BITS(31, 31), 1 | BITS(20, 31) | BITS(39, 39), 1 | BITS(20, 31) | BITS(38, 39), 1 | BITS(30, 31), 1 | BITS(30, 31),
+    1 | BITS(31, 31) | BITS(40, 40), 1 | BITS(31, 31) | BITS(40, 40)};
 
 /* Whether a minus nought may stand in what the function is lent or gives. */
 static int may_have_nought(unsigned function)
@@ -3697,6 +4221,19 @@ static uint64_t seen_of_series(unsigned of)
     return sum;
 }
 
+/* How many of the counts aren't 0, and the least of these. */
+static void print_counts(const char *name, const uint64_t *counts, unsigned n, unsigned of)
+{
+    uint64_t least = UINT64_MAX;
+    unsigned some = 0;
+    for (unsigned i = 0; i < n; i++)
+        if (counts[i]) {
+            some++;
+            least = counts[i] < least ? counts[i] : least;
+        }
+    printf("%s %u of %u (the least %llu)", name, some, of, (unsigned long long)(some ? least : 0));
+}
+
 static void finish(void)
 {
     int missing = 0;
@@ -3713,6 +4250,9 @@ static void finish(void)
     printf("\nsweeps of minus nought: station %llu, level %llu, lines and sheets %llu, TPS300 lines and sheets %llu",
            (unsigned long long)swept_noughts[STATION], (unsigned long long)swept_noughts[LEVEL],
            (unsigned long long)swept_noughts[FAMILIES + TPS100], (unsigned long long)swept_noughts[FAMILIES + TPS300]);
+    printf("\nsweeps of places: station %llu, level %llu, PUT %llu, TPS300 PUT %llu, lines %llu, TPS300 lines %llu",
+           (unsigned long long)swept_places[STATION], (unsigned long long)swept_places[LEVEL], (unsigned long long)swept_puts[TPS100],
+           (unsigned long long)swept_puts[TPS300], (unsigned long long)swept_lines[TPS100], (unsigned long long)swept_lines[TPS300]);
     printf("\nsweeps of series:");
     for (unsigned of = 0; of < SERIES; of++)
         for (unsigned part = 0; part < PARTS; part++)
@@ -3722,6 +4262,18 @@ static void finish(void)
         if (may_have_nought(f))
             printf("%s %s %llu", f ? "," : "", names[f], (unsigned long long)with_nought[f]);
     printf("\nwide replies: %llu", (unsigned long long)wide_replies);
+    printf("\nbytes of a word told:");
+    for (unsigned of = 0; of < FAMILIES; of++)
+        for (unsigned wide = 0; wide < 2; wide++)
+            print_counts(of ? wide ? ", level wide" : ", level" : wide ? ", station wide" : " station", told_at[of][wide],
+                         wide ? 24 : 16, wide ? 24 : 16);
+    printf("\nbytes of a PUT told:");
+    for (unsigned of = 0; of < SERIES; of++)
+        print_counts(of ? ", TPS300" : " TPS100", broken_at[of], 20, 14);
+    printf("\nPUT by rule:");
+    for (unsigned of = 0; of < SERIES; of++)
+        for (unsigned rule = 6; rule <= 10; rule++)
+            printf("%s %s%u %llu", of || rule > 6 ? "," : "", sorts[BY_SERIES][of], rule, (unsigned long long)broken_rule[of][rule]);
     printf("\nby number:");
     for (unsigned number = 0; number <= 40; number++) {
         uint64_t sum = 0;
@@ -3742,6 +4294,24 @@ static void finish(void)
             printf("%s never had a minus nought\n", names[f]);
             missing = 1;
         }
+    for (unsigned of = 0; of < FAMILIES; of++)
+        for (unsigned at = 0; at < 16 + 24; at++)
+            if (told_at[of][at >= 16][at < 16 ? at : at - 16] == 0) {
+                printf("%s never told byte %u of a %s word\n", names[READ + of], at < 16 ? at : at - 16, at < 16 ? "narrow" : "wide");
+                missing = 1;
+            }
+    for (unsigned of = 0; of < SERIES; of++) {
+        for (unsigned rule = 6; rule <= 10; rule++)
+            if (broken_rule[of][rule] == 0) {
+                printf("%s never told rule %u of a PUT\n", names[LINE + of], rule);
+                missing = 1;
+            }
+        for (unsigned at = 6; at < 20; at++)
+            if (broken_at[of][at] == 0) {
+                printf("%s never told byte %u of a PUT\n", names[LINE + of], at);
+                missing = 1;
+            }
+    }
     if (wide_replies == 0) {
         printf("no reply was wide\n");
         missing = 1;

@@ -1,4 +1,4 @@
-/* reference.c: a second implementation of document 01 and document 02's requests 101 to 103 in plain C: the block of
+/* reference.c: a second implementation of document 01 and document 02's requests 101 to 104 in plain C: the block of
    either family, the line machine and the sheet of either series. What stands in quotes is the documents' own sentence;
    the image's bytes are those of IMAGE.md. */
 #include "reference.h"
@@ -42,6 +42,14 @@ static int same(const uint8_t *p, const char *string, size_t n)
     return 1;
 }
 
+static size_t length_of(const char *string)
+{
+    size_t n = 0;
+    while (string[n])
+        n++;
+    return n;
+}
+
 /* Writes the n bytes of the string and answers the place after them. */
 static uint8_t *lay(uint8_t *restrict to, const char *restrict string, size_t n)
 {
@@ -55,17 +63,26 @@ static int is_digit(uint8_t b)
     return b >= '0' && b <= '9';
 }
 
-/* "Digits are all 0-9." Answers 0 when one isn't, else 1 and their number (up to 16 digits). */
-static int read_digits(const uint8_t *p, size_t n, uint64_t *value)
+/* "Digits are all 0-9." Answers the place of the first that isn't; or n, with their number (up to 16 digits). */
+static size_t read_digits(const uint8_t *p, size_t n, uint64_t *value)
 {
     uint64_t v = 0;
     for (size_t i = 0; i < n; i++) {
         if (!is_digit(p[i]))
-            return 0;
+            return i;
         v = v * 10 + (uint64_t)(p[i] - '0');
     }
     *value = v;
-    return 1;
+    return n;
+}
+
+/* "Text is bytes 33 to 126". Answers the place of the first that isn't, or n. */
+static size_t read_text(const uint8_t *p, size_t n)
+{
+    size_t i = 0;
+    while (i < n && p[i] >= 33 && p[i] <= 126)
+        i++;
+    return i;
 }
 
 static void write_digits(uint8_t *p, size_t n, uint64_t value)
@@ -122,20 +139,17 @@ static int has_three_digits(unsigned index)
     return index >= 100;
 }
 
-/* The index that a word begins with, or INDEXES when it has none. */
+/* The index that a word of two digits begins with, or INDEXES where a level's three digits are none. */
 static unsigned index_at(unsigned family, const uint8_t *word)
 {
-    unsigned index;
+    unsigned index = (unsigned)(word[0] - '0') * 10 + (unsigned)(word[1] - '0');
 
-    if (!is_digit(word[0]) || !is_digit(word[1]))
-        return INDEXES;
-    index = (unsigned)(word[0] - '0') * 10 + (unsigned)(word[1] - '0');
     if (family == STATION || !is_digit(word[2]))
         return index;
     /* "110-119 and 410-419 are index 11 or 41 with a block number" */
     if (index == 11 || index == 41)
         return index;
-    /* "any other index, a digit at position 3 included, is 5": `042` isn't 42. */
+    /* 101: "any other index, a digit at position 3 included": `042` isn't 42. */
     index = index * 10 + (unsigned)(word[2] - '0');
     return has_three_digits(index) ? index : INDEXES;
 }
@@ -150,36 +164,59 @@ static int dot_or_digit(uint8_t b)
     return b == '.' || is_digit(b);
 }
 
-/* A record's information: positions 3-6, as the table's third column has them. A three-digit index takes position 3, so
-   that the first byte is one "its word doesn't use" and is 0. */
-static int info_right(unsigned kind, unsigned index, const uint8_t *info)
+/* Whether byte i of a record's information is right: positions 3-6, as the table's third column has them. A three-digit
+   index takes position 3, so that the first byte is one "its word doesn't use" and is 0. */
+static int info_byte_right(unsigned kind, unsigned index, const uint8_t *info, size_t i)
 {
-    uint8_t a = info[0], b = info[1], c = info[2], d = info[3];
-    uint8_t first = has_three_digits(index) ? 0 : '.';
-    /* "Mode is a dot or 0-4." */
-    int mode = c == '.' || (c >= '0' && c <= '4');
+    uint8_t b = info[i];
 
+    /* "four digits (block number) or four dots"; 104: "the first byte chooses between digits and dots, and is itself wrong
+       if it is neither" */
+    if (kind == NUMBERED)
+        return info[0] == '.' ? b == '.' : is_digit(b);
+    /* "000 says position 3 has no significance; here it is a dot except for 11 and 41." */
+    if (i == 0)
+        return b == (has_three_digits(index) ? 0 : '.');
     switch (kind) {
-    case NUMBERED: /* "four digits (block number) or four dots" */
-        if (a == '.')
-            return b == '.' && c == '.' && d == '.';
-        return is_digit(a) && is_digit(b) && is_digit(c) && is_digit(d);
     case TEXT: /* "dot, then three of dot or digit"; 101: "the rest of positions 4-6 dots or digits" */
-        return a == first && dot_or_digit(b) && dot_or_digit(c) && dot_or_digit(d);
+        return dot_or_digit(b);
     case LEVELLED: /* 101: "position 4 is a dot or 1, 5 a dot, 0-2 or 4-7, 6 a unit: 0, 1 or 6-9" */
-        return a == first && (b == '.' || b == '1') && (c == '.' || (c >= '0' && c <= '7' && c != '3')) &&
-               (d == '0' || d == '1' || (d >= '6' && d <= '9'));
-    case ANGLE: /* "dot; dot, 0, 1 or 3; mode; unit 2-5" */
-        return a == '.' && (b == '.' || b == '0' || b == '1' || b == '3') && mode && d >= '2' && d <= '5';
-    case LENGTH: /* "dot; dot; mode; unit 0, 1, 6, 7 or 8" */
-        return a == '.' && b == '.' && mode && (d == '0' || d == '1' || (d >= '6' && d <= '8'));
-    case CONSTANT: /* "dot; dot; mode; 6" */
-        return a == '.' && b == '.' && mode && d == '6';
-    case PAIR: /* "dot; dot; mode; dot" */
-        return a == '.' && b == '.' && mode && d == '.';
+        if (i == 1)
+            return b == '.' || b == '1';
+        if (i == 2)
+            return b == '.' || (b >= '0' && b <= '7' && b != '3');
+        return b == '0' || b == '1' || (b >= '6' && b <= '9');
+    default:
+        break;
+    }
+    /* "dot, 0, 1 or 3" of an angle; "dot" of the others */
+    if (i == 1)
+        return b == '.' || (kind == ANGLE && (b == '0' || b == '1' || b == '3'));
+    /* "Mode is a dot or 0-4." */
+    if (i == 2)
+        return b == '.' || (b >= '0' && b <= '4');
+    switch (kind) {
+    case ANGLE: /* "unit 2-5" */
+        return b >= '2' && b <= '5';
+    case LENGTH: /* "unit 0, 1, 6, 7 or 8" */
+        return b == '0' || b == '1' || (b >= '6' && b <= '8');
+    case CONSTANT:
+        return b == '6';
+    case PAIR:
+        return b == '.';
     default:
         return 0;
     }
+}
+
+/* The place of the first byte of the information that "breaks its rule" (104), or 4 when it is right. */
+enum { INFO = 4 };
+static size_t info_wrong(unsigned kind, unsigned index, const uint8_t *info)
+{
+    size_t i = 0;
+    while (i < INFO && info_byte_right(kind, index, info, i))
+        i++;
+    return i;
 }
 
 /* Angles */
@@ -228,67 +265,108 @@ static uint64_t angle_digits(uint8_t unit, uint64_t size)
 
 /* The block's reader */
 
-/* Judges one whole word with its blank: "then 5 to 10 in order". Answers that number, or 0 with the record filled. */
-static unsigned read_word(unsigned family, const uint8_t *word, size_t width, ref_word *record)
+/* What a word is refused for: the number, 0 when it is right, and the byte that it tells, from the word's start. 104:
+   "Refusals 5 to 10 tell the exact byte: the first that breaks the rule, and for 10 the first data byte." */
+struct refusal {
+    unsigned number;
+    size_t byte;
+};
+
+static struct refusal refuse(unsigned number, size_t byte)
 {
-    const uint8_t *data = word + 7;
-    unsigned index = index_at(family, word), kind = kind_of(family, index);
-    uint8_t info[4];
-    uint64_t size = 0, mm = 0;
-    int minus, mm_minus = 0;
+    struct refusal refusal = {number, byte};
+    return refusal;
+}
 
-    /* 5: "index isn't two digits or isn't in the table" */
-    if (kind == NONE)
-        return 5;
+/* The bytes of a word: position p is byte p - 1. */
+enum { INFO_AT = 2, SIGN_AT = 6, DATA_AT = 7 };
 
-    /* 6: "information wrong" */
-    copy(info, word + 2, 4);
-    if (has_three_digits(index))
-        info[0] = 0;
-    if (!info_right(kind, index, info))
-        return 6;
+/* The place of the first wrong byte of a pair's data, or the width with both sizes: "A pair is 4 digits (12 when wide), a
+   sign, 3 digits: ppm, then mm". */
+static size_t read_pair(const uint8_t *data, size_t width, uint64_t *ppm, uint64_t *mm)
+{
+    size_t inner = width - 4, wrong = read_digits(data, inner, ppm);
+    if (wrong < inner)
+        return wrong;
+    if (data[inner] != '+' && data[inner] != '-')
+        return inner;
+    return inner + 1 + read_digits(data + inner + 1, 3, mm);
+}
+
+/* Judges a word from its sign on, by 7 to 10; the sizes of its data where it has them. */
+static struct refusal judge_rest(unsigned kind, const uint8_t *word, size_t width, uint64_t *size, uint64_t *mm)
+{
+    const uint8_t *data = word + DATA_AT;
+    size_t wrong;
 
     /* 7: "sign wrong (position 7)"; text has "sign `+` only" */
-    minus = word[6] == '-';
-    if (word[6] != '+' && (!minus || is_text(kind)))
-        return 7;
+    if (word[SIGN_AT] != '+' && (word[SIGN_AT] != '-' || is_text(kind)))
+        return refuse(7, SIGN_AT);
 
-    /* 8: "data characters wrong, a pair's inner sign included" */
-    if (is_text(kind)) {
-        /* "Text is bytes 33 to 126" */
-        for (size_t i = 0; i < width; i++)
-            if (data[i] < 33 || data[i] > 126)
-                return 8;
-    } else if (kind == PAIR) {
-        /* "A pair is 4 digits (12 when wide), a sign, 3 digits: ppm, then mm" */
-        const uint8_t *inner = data + width - 4;
-        mm_minus = *inner == '-';
-        if (!read_digits(data, width - 4, &size) || (*inner != '+' && !mm_minus) || !read_digits(inner + 1, 3, &mm))
-            return 8;
-    } else if (!read_digits(data, width, &size)) {
-        return 8;
-    }
+    /* 8: "data characters wrong, a pair's inner sign included"; 104: "the first wrong data byte" */
+    if (is_text(kind))
+        wrong = read_text(data, width);
+    else if (kind == PAIR)
+        wrong = read_pair(data, width, size, mm);
+    else
+        wrong = read_digits(data, width, size);
+    if (wrong < width)
+        return refuse(8, DATA_AT + wrong);
 
     /* 9: "separator isn't a blank" */
     if (data[width] != ' ')
-        return 9;
+        return refuse(9, DATA_AT + width);
 
-    /* #102: "10 now means angle out of range alone": a level's word has none. */
-    if (kind == ANGLE && !angle_size(word[5], size, &size))
-        return 10;
+    /* #102: "10 now means angle out of range alone": a level's word has none. 104: "for 10 the first data byte" */
+    if (kind == ANGLE && !angle_size(word[INFO_AT + 3], *size, size))
+        return refuse(10, DATA_AT);
+    return refuse(0, 0);
+}
+
+/* Judges one whole word with its blank. 104: "Order: 5, 15, 6 to 10." A right one's record is filled. */
+static struct refusal read_word(unsigned family, const uint8_t *word, size_t width, ref_word *record)
+{
+    unsigned index, kind;
+    uint8_t info[INFO];
+    uint64_t size = 0, mm = 0;
+    struct refusal rest;
+    size_t wrong;
+
+    /* 5: "index isn't two digits"; 104: "the first of positions 1-2 that is no digit" */
+    for (size_t i = 0; i < 2; i++)
+        if (!is_digit(word[i]))
+            return refuse(5, i);
+
+    /* 104: "15, no longer 5, for digits that are no listed index, right after 5, telling the start of the word" */
+    index = index_at(family, word);
+    kind = kind_of(family, index);
+    if (kind == NONE)
+        return refuse(15, 0);
+
+    /* 6: "information wrong"; 104: "the first of positions 3-6 (4-6 after a three-digit index) that breaks its rule" */
+    copy(info, word + INFO_AT, INFO);
+    if (has_three_digits(index))
+        info[0] = 0;
+    wrong = info_wrong(kind, index, info);
+    if (wrong < INFO)
+        return refuse(6, INFO_AT + wrong);
+
+    rest = judge_rest(kind, word, width, &size, &mm);
+    if (rest.number != 0)
+        return rest;
 
     /* "a value, mm or text byte its word doesn't use is 0"; #102: "keep the sign so that the bytes come back", before zero
        too. */
     record->index = (uint16_t)index;
-    copy(record->info, info, 4);
-    record->minus = (uint8_t)minus;
-    record->mm_minus = (uint8_t)mm_minus;
+    copy(record->info, info, INFO);
+    record->minus = word[SIGN_AT] == '-';
+    record->mm_minus = kind == PAIR && word[DATA_AT + width - 4] == '-';
     record->size = size;
     record->mm = mm;
     clear(record->text, 16);
     if (is_text(kind))
-        copy(record->text, data, width);
-    return 0;
+        copy(record->text, word + DATA_AT, width);
+    return rest;
 }
 
 static uint64_t read_block(unsigned family, const uint8_t *block, size_t n, ref_word *list, size_t places)
@@ -309,7 +387,7 @@ static uint64_t read_block(unsigned family, const uint8_t *block, size_t n, ref_
 
     /* "Words are judged left to right. Where a word would start the order is CR, 4, 2, 11, then 5 to 10 in order." */
     while (at >= n || block[at] != CR) {
-        unsigned number;
+        struct refusal refusal;
         /* 4: "no CR after the 32nd word" */
         if (words == MOST_WORDS)
             return answer(4, at);
@@ -319,9 +397,10 @@ static uint64_t read_block(unsigned family, const uint8_t *block, size_t n, ref_
         /* 11: "the lent list has no place for the word that would start" */
         if (words >= places)
             return answer(11, at);
-        number = read_word(family, block + at, width, &records[words]);
-        if (number != 0)
-            return answer(number, at);
+        /* 104: "Places are bytes of the input, from 0." */
+        refusal = read_word(family, block + at, width, &records[words]);
+        if (refusal.number != 0)
+            return answer(refusal.number, at + refusal.byte);
         words++;
         at += width + 8;
     }
@@ -360,16 +439,13 @@ static int record_right(unsigned family, const ref_word *r, size_t width)
 {
     unsigned kind = kind_of(family, r->index);
 
-    if (kind == NONE || !info_right(kind, r->index, r->info))
+    if (kind == NONE || info_wrong(kind, r->index, r->info) < INFO)
         return 0;
 
     if (is_text(kind)) {
         if (r->minus != 0 || r->mm_minus != 0 || r->size != 0 || r->mm != 0)
             return 0;
-        for (size_t i = 0; i < width; i++)
-            if (r->text[i] < 33 || r->text[i] > 126)
-                return 0;
-        return all_zero(r->text + width, 16 - width);
+        return read_text(r->text, width) == width && all_zero(r->text + width, 16 - width);
     }
 
     /* Signs are 0 or 1. #102: "Accept minus before zero in angles, lengths, constants and both halves of a pair", so that
@@ -392,11 +468,11 @@ static int record_right(unsigned family, const ref_word *r, size_t width)
 static void write_word(unsigned family, uint8_t *word, size_t width, const ref_word *r)
 {
     unsigned kind = kind_of(family, r->index);
-    uint8_t *data = word + 7;
+    uint8_t *data = word + DATA_AT;
 
-    copy(word + 2, r->info, 4);
+    copy(word + INFO_AT, r->info, INFO);
     write_digits(word, has_three_digits(r->index) ? 3 : 2, r->index);
-    word[6] = r->minus ? '-' : '+';
+    word[SIGN_AT] = r->minus ? '-' : '+';
     if (is_text(kind)) {
         copy(data, r->text, width);
     } else if (kind == PAIR) {
@@ -590,14 +666,10 @@ static int value_right(unsigned place, const uint8_t *v)
         return all_zero(v, VALUE_BYTES);
     if (v[0] != 1 || v[1] < values[place].unit_from || v[1] > values[place].unit_to || v[2] > 1)
         return 0;
-    if (kind == TEXT) {
-        for (size_t i = 0; i < 8; i++)
-            if (data[i] < 33 || data[i] > 126)
-                return 0;
-        return v[2] == 0;
-    }
+    if (kind == TEXT)
+        return read_text(data, 8) == 8 && v[2] == 0;
     /* #102: "Accept minus before zero ... in blocks, PUT words and sheets": the sign asks nothing of the digits. */
-    if (!read_digits(data, 8, &size))
+    if (read_digits(data, 8, &size) < 8)
         return 0;
     return kind != ANGLE || angle_size(v[1], size, &size);
 }
@@ -707,6 +779,8 @@ struct request {
     unsigned parameter; /* SET */
     const uint8_t *at;  /* PUT: the word; GET: the first `/WI` */
     size_t count;       /* GET: the number of indexes */
+    /* Of a PUT that 26 refuses; 104: "26 tells which of 6 to 10 it was and the byte in the line, from 0". */
+    struct refusal why;
 };
 
 /* "Numbers have 1 to 4 digits and no leading zero, save `0` itself." Answers the digits taken, 0 when it's no number. */
@@ -722,25 +796,25 @@ static size_t take_number(const uint8_t *p, size_t n, unsigned *number)
     return taken > 1 && p[0] == '0' ? 0 : taken;
 }
 
-/* Judges `SET/number/parameter` and `CONF/number` after their first slash, by 22 to 24, 38 and 28. */
+/* Judges `SET/number/parameter` and `CONF/number` after their first slash, by 39, 23, 38, 24 and 28. */
 static unsigned judge_setting(const struct series *of, const uint8_t *p, size_t n, unsigned entries, struct request *r)
 {
     unsigned number;
     size_t taken = take_number(p, n, &number);
 
     if (taken == 0)
-        return 22;
+        return 39;
     if (r->act == ACT_SET) {
         size_t slash = taken;
         if (slash == n || p[slash] != '/')
-            return 22;
+            return 39;
         taken = take_number(p + slash + 1, n - slash - 1, &r->parameter);
         if (taken == 0)
-            return 22;
+            return 39;
         taken += slash + 1;
     }
     if (taken != n)
-        return 22;
+        return 39;
 
     /* 23: "setting not in the list" */
     r->place = place_of_setting(of, number);
@@ -760,23 +834,40 @@ static unsigned judge_setting(const struct series *of, const uint8_t *p, size_t 
     return 0;
 }
 
-/* Judges the 16 characters of a PUT by 25, 26 and 28. 103: "Stored values and their units stay those of TPS100." */
-static unsigned judge_put(const uint8_t *word, unsigned entries, struct request *r)
+/* The line's first four bytes are `PUT/`. */
+enum { WORD_AT = 4 };
+
+/* Judges a PUT's word by 6 to 10. "A PUT word has dots at 3-5 (3-6 for text) and otherwise obeys the block rules", with the
+   value's units; 104: "The unit of a stored value belongs to 6." */
+static struct refusal judge_put_word(unsigned place, const uint8_t *word)
 {
-    ref_word record;
+    uint64_t size = 0, mm = 0;
+
+    for (size_t i = INFO_AT; i < INFO_AT + 3; i++)
+        if (word[i] != '.')
+            return refuse(6, i);
+    if (word[INFO_AT + 3] < values[place].unit_from || word[INFO_AT + 3] > values[place].unit_to)
+        return refuse(6, INFO_AT + 3);
+    return judge_rest(values[place].kind, word, 8, &size, &mm);
+}
+
+/* Judges the line of a PUT with its 16 characters by 25, 26 and 28. 103: "Stored values and their units stay those of
+   TPS100." */
+static unsigned judge_put(const uint8_t *line, unsigned entries, struct request *r)
+{
+    const uint8_t *word = line + WORD_AT;
     unsigned place = place_of_value(word);
+    struct refusal why;
 
     /* 25: "PUT or GET index not a stored value" */
     if (place == VALUES)
         return 25;
-    /* 26: "A PUT word has dots at 3-5 (3-6 for text) and otherwise obeys the block rules", with the value's units. #102:
-       "26 and 40 follow": a minus before zero breaks no rule. */
-    if (word[2] != '.' || word[3] != '.' || word[4] != '.')
+    /* 26: "PUT word breaks its rules". #102: "26 and 40 follow": a minus before zero breaks no rule. */
+    why = judge_put_word(place, word);
+    if (why.number != 0) {
+        r->why = refuse(why.number, WORD_AT + why.byte);
         return 26;
-    if (word[5] < values[place].unit_from || word[5] > values[place].unit_to)
-        return 26;
-    if (read_word(STATION, word, 8, &record) != 0)
-        return 26;
+    }
     if (entries == MOST_ENTRIES)
         return 28;
     r->place = place;
@@ -788,10 +879,10 @@ static unsigned judge_put(const uint8_t *word, unsigned entries, struct request 
 static unsigned judge_get(const struct series *of, const uint8_t *image, const uint8_t *p, size_t n, struct request *r)
 {
     if (n == 0 || n % 5 != 0)
-        return 22;
+        return 39;
     for (size_t i = 0; i < n; i += 5)
         if (!same(p + i, "/WI", 3) || !is_digit(p[i + 3]) || !is_digit(p[i + 4]))
-            return 22;
+            return 39;
     /* "GET judges its first index by 25 then 27, then the next likewise" */
     for (size_t i = 0; i < n; i += 5) {
         unsigned place = place_of_value(p + i + 3);
@@ -806,7 +897,19 @@ static unsigned judge_get(const struct series *of, const uint8_t *image, const u
     return 0;
 }
 
-/* Judges a line by 20 to 29, in their order, 38 after 23; answers 0 with the request filled when it is right. */
+/* 104: "22 for a line that starts with no keyword (SET, CONF, PUT, GET, UNDO, KEEP)" */
+static int has_keyword(const uint8_t *line, size_t n)
+{
+    static const char *const keywords[] = {"SET", "CONF", "PUT", "GET", "UNDO", "KEEP"};
+    for (size_t i = 0; i < sizeof keywords / sizeof *keywords; i++) {
+        size_t length = length_of(keywords[i]);
+        if (n >= length && same(line, keywords[i], length))
+            return 1;
+    }
+    return 0;
+}
+
+/* Judges a line by 20 to 29, in their order, 39 after 22 and 38 after 23; answers 0 with the request filled when it is right. */
 static unsigned judge_line(const struct series *of, const uint8_t *image, unsigned entries, const uint8_t *line, size_t m,
                            struct request *r)
 {
@@ -826,10 +929,11 @@ static unsigned judge_line(const struct series *of, const uint8_t *image, unsign
     if (n > 100)
         return 21;
 
-    /* 22: "none of the shapes above" */
-    if (n < 4)
+    if (!has_keyword(line, n))
         return 22;
-    if (same(line, "SET/", 4)) {
+
+    /* 104: "39 for a known keyword with a wrong remainder, right after 22": what makes none of 01's shapes. */
+    if (n >= 4 && same(line, "SET/", 4)) {
         r->act = ACT_SET;
         return judge_setting(of, line + 4, n - 4, entries, r);
     }
@@ -840,7 +944,7 @@ static unsigned judge_line(const struct series *of, const uint8_t *image, unsign
     if (n == 20 && same(line, "PUT/", 4)) {
         /* "`PUT/` and 16 characters: a word 8 wide with its blank" */
         r->act = ACT_PUT;
-        return judge_put(line + 4, entries, r);
+        return judge_put(line, entries, r);
     }
     if (n >= 5 && same(line, "GET/I", 5)) {
         r->act = ACT_GET;
@@ -855,7 +959,7 @@ static unsigned judge_line(const struct series *of, const uint8_t *image, unsign
         r->act = ACT_KEEP;
         return 0;
     }
-    return 22;
+    return 39;
 }
 
 /* The 15 characters of a value that was put: "GET/I answers text words with four dots, others as dot, dot, `1`, the
@@ -912,9 +1016,9 @@ static uint8_t *obey(const struct series *of, uint8_t *image, unsigned entries, 
         e[1] = (uint8_t)r->place;
         copy(e + 3, v, VALUE_BYTES);
         v[0] = 1;
-        v[1] = r->at[5];
-        v[2] = r->at[6] == '-';
-        copy(v + 3, r->at + 7, 8);
+        v[1] = r->at[INFO_AT + 3];
+        v[2] = r->at[SIGN_AT] == '-';
+        copy(v + 3, r->at + DATA_AT, 8);
         break;
     case ACT_UNDO:
         /* "UNDO takes the newest back, restoring "never put" too." "Freed entries are used again." */
@@ -979,21 +1083,15 @@ uint64_t ref_line(uint8_t *image, size_t n, const uint8_t *line, size_t m, uint8
     if (length > room)
         return answer(30, 0);
 
-    /* "A refused line replies `@W127`, with nothing else altered; reply room beyond the reply is untouched." */
+    /* "A refused line replies `@W127`, with nothing else altered; reply room beyond the reply is untouched."; 104: "the wire
+       reply stays `@W127`" */
     reply = number != 0 ? lay(reply, "@W127", 5) : obey(of, image, entries, &request, reply);
     lay(reply, "\r\n", ending);
-    return answer(number, length);
+    /* 104: "reply bytes + 2^16 * which + 2^24 * byte; for every other answer, 30 included, the two are 0" */
+    return answer(number, length | (uint64_t)request.why.number << 16 | (uint64_t)request.why.byte << 24);
 }
 
 /* The state sheet */
-
-static size_t length_of(const char *string)
-{
-    size_t n = 0;
-    while (string[n])
-        n++;
-    return n;
-}
 
 /* How many digits the number has: "numbers have no leading zeros". */
 static size_t digits_of(unsigned number)

@@ -1,4 +1,4 @@
-/* reference.h: a second implementation of document 01 and requests 101 to 103 in plain C, which the library is compared with.
+/* reference.h: a second implementation of document 01 and requests 101 to 104 in plain C, which the library is compared with.
    The functions and the record are those of the C interface, under the prefix ref_. */
 #ifndef REFERENCE_H
 #define REFERENCE_H

@@ -1,6 +1,6 @@
 /* selftest.c: checks the second implementation alone against the worked readings of document 01, the level's listing of
-   003, request 102's minus nought, request 103's TPS300 and what is easy to slip on. Prints `ok`, or the lines of this file
-   whose reading failed. */
+   003, request 102's minus nought, request 103's TPS300, request 104's places and what is easy to slip on. Prints `ok`, or
+   the lines of this file whose reading failed. */
 #include "reference.h"
 
 int printf(const char *, ...);
@@ -94,17 +94,17 @@ static void check_proved_blocks(void)
     writes_back(p3, 1, 1, 0);
     /* P4 */
     CHECK(reading("21.102+39999999 \r") == READ(17, 1, 0, 0) && list[0].size == 39999999);
-    CHECK(reading("21.102+40000000 \r") == ANSWER(10, 0));
+    CHECK(reading("21.102+40000000 \r") == ANSWER(10, 7));
     /* P5 */
     CHECK(reading("21.104+35959599 \r") == READ(17, 1, 0, 0) && list[0].size == 12959999);
     writes_back("21.104+35959599 \r", 1, 0, 0);
-    CHECK(reading("21.104+00060000 \r") == ANSWER(10, 0));
+    CHECK(reading("21.104+00060000 \r") == ANSWER(10, 7));
     /* P6; #102: "Case P6's second half changes." */
     CHECK(reading("82..00-00213159 \r") == READ(17, 1, 0, 0) && list[0].size == 213159 && list[0].minus == 1);
     CHECK(reading("82..00-00000000 \r") == READ(17, 1, 0, 0) && list[0].size == 0 && list[0].minus == 1);
     writes_back("82..00-00000000 \r", 1, 0, 0);
-    /* P7 */
-    CHECK(reading("331106+00010198 \r") == ANSWER(6, 0));
+    /* P7; 104: "the first of positions 3-6 ... that breaks its rule": position 3 of index 33 is a dot. */
+    CHECK(reading("331106+00010198 \r") == ANSWER(6, 2));
     /* "000's `17920860` is 179.20860 gon" */
     CHECK(reading("21.102+17920860 \r") == READ(17, 1, 0, 0) && list[0].size == 17920860);
 }
@@ -119,13 +119,13 @@ static void check_block_slips(void)
     CHECK(reading("31..00+00000001 ") == ANSWER(2, 16));
     /* 15 bytes and no more; a CR as the 16th byte. */
     CHECK(reading("31..00+00000001") == ANSWER(2, 0));
-    CHECK(reading("31..00+00000001\r") == ANSWER(9, 0));
-    CHECK(reading("31..00+00000001\r\n") == ANSWER(9, 0));
+    CHECK(reading("31..00+00000001\r") == ANSWER(9, 15));
+    CHECK(reading("31..00+00000001\r\n") == ANSWER(9, 15));
     /* The `*` is the first byte only; places count it. */
     CHECK(reading("*\r") == ANSWER(3, 0));
     CHECK(reading("**1....+000000000PNC0058 \r") == ANSWER(5, 1));
     CHECK(reading("31..00+00000001 *1..00+00000001 \r") == ANSWER(5, 16));
-    CHECK(reading("*31..00+0000000000000001 31..00+000000000000000x \r") == ANSWER(8, 25));
+    CHECK(reading("*31..00+0000000000000001 31..00+000000000000000x \r") == ANSWER(8, 47));
     /* 32 words and no CR; fewer places; a CR first with no place. */
     for (size_t i = 0; i < 33; i++)
         memcpy(many + i * 16, "31..00+00000001 ", 16);
@@ -144,49 +144,52 @@ static void check_block_slips(void)
     /* LF where a word would start, a CR inside a word, and the terminators. */
     CHECK(reading("31..00+00000001 \n") == ANSWER(2, 16));
     CHECK(reading("31..00+00000001 \n123456789012345\r") == ANSWER(5, 16));
-    CHECK(reading("31..00+000\r0001 \r") == ANSWER(8, 0));
+    CHECK(reading("31..00+000\r0001 \r") == ANSWER(8, 10));
     CHECK(reading("31..00+00000001 \r\r\n") == READ(17, 1, 0, 0));
     CHECK(reading("31..00+00000001 \r\n\n") == READ(18, 1, 0, 1));
     /* The order within a word. */
-    CHECK(reading("00abcd*xxxxxxxxx\r") == ANSWER(5, 0));
-    CHECK(reading("1xabcd*xxxxxxxxx\r") == ANSWER(5, 0));
-    CHECK(reading("31..02*xxxxxxxxx\r") == ANSWER(6, 0));
-    CHECK(reading("31..00*xxxxxxxxx\r") == ANSWER(7, 0));
-    CHECK(reading("31..00-0000000xx\r") == ANSWER(8, 0));
-    CHECK(reading("31..00-00000000x\r") == ANSWER(9, 0));
-    CHECK(reading("21.102+40000000x\r") == ANSWER(9, 0));
-    CHECK(reading("51..1.+0009*00x \r") == ANSWER(8, 0));
-    CHECK(reading("51..1.+000x+000 \r") == ANSWER(8, 0));
+    CHECK(reading("00abcd*xxxxxxxxx\r") == ANSWER(15, 0));
+    CHECK(reading("1xabcd*xxxxxxxxx\r") == ANSWER(5, 1));
+    CHECK(reading("31..02*xxxxxxxxx\r") == ANSWER(6, 5));
+    CHECK(reading("31..00*xxxxxxxxx\r") == ANSWER(7, 6));
+    CHECK(reading("31..00-0000000xx\r") == ANSWER(8, 14));
+    CHECK(reading("31..00-00000000x\r") == ANSWER(9, 15));
+    CHECK(reading("21.102+40000000x\r") == ANSWER(9, 15));
+    CHECK(reading("51..1.+0009*00x \r") == ANSWER(8, 11));
+    CHECK(reading("51..1.+000x+000 \r") == ANSWER(8, 10));
     CHECK(reading("51..1.-0009-002 \r") == READ(17, 1, 0, 0) && list[0].minus == 1 && list[0].mm_minus == 1 &&
           list[0].size == 9 && list[0].mm == 2);
     CHECK(reading("*51..1.+123456789012-345 \r") == READ(26, 1, 1, 0) && list[0].size == 123456789012 && list[0].mm == 345);
-    CHECK(reading("11....-00000003 \r") == ANSWER(7, 0));
-    CHECK(reading("11....+0000 003 \r") == ANSWER(8, 0));
+    CHECK(reading("11....-00000003 \r") == ANSWER(7, 6));
+    CHECK(reading("11....+0000 003 \r") == ANSWER(8, 11));
     CHECK(reading("11....+!~000003 \r") == READ(17, 1, 0, 0));
+    /* A minus in text is no sign of mm. */
+    CHECK(reading("11....+0009-002 \r") == READ(17, 1, 0, 0) && list[0].minus == 0 && list[0].mm_minus == 0 && list[0].mm == 0);
+    CHECK(reading("*13....+000000000009-002 \r") == READ(26, 1, 1, 0) && list[0].minus == 0 && list[0].mm_minus == 0);
     /* 11 and 41 have no mixture; the three after a text's dot are free. */
-    CHECK(reading("110.14+00000003 \r") == ANSWER(6, 0));
-    CHECK(reading("41...4+00000003 \r") == ANSWER(6, 0));
+    CHECK(reading("110.14+00000003 \r") == ANSWER(6, 3));
+    CHECK(reading("41...4+00000003 \r") == ANSWER(6, 5));
     CHECK(reading("419999+00000003 \r") == READ(17, 1, 0, 0));
     CHECK(reading("42.9.0+00000003 \r") == READ(17, 1, 0, 0));
-    CHECK(reading("4209.0+00000003 \r") == ANSWER(6, 0));
+    CHECK(reading("4209.0+00000003 \r") == ANSWER(6, 2));
     /* A unit may never be missing. */
-    CHECK(reading("21.10.+00000003 \r") == ANSWER(6, 0));
-    CHECK(reading("31..0.+00000003 \r") == ANSWER(6, 0));
-    CHECK(reading("58..0.+00000003 \r") == ANSWER(6, 0));
+    CHECK(reading("21.10.+00000003 \r") == ANSWER(6, 5));
+    CHECK(reading("31..0.+00000003 \r") == ANSWER(6, 5));
+    CHECK(reading("58..0.+00000003 \r") == ANSWER(6, 5));
     CHECK(reading("59..06-00000003 \r") == READ(17, 1, 0, 0));
     /* "Size": a negative angle is right. Wide angles have the same limits. */
     CHECK(reading("22..02-39999999 \r") == READ(17, 1, 0, 0) && list[0].minus == 1);
-    CHECK(reading("22..02-40000000 \r") == ANSWER(10, 0));
+    CHECK(reading("22..02-40000000 \r") == ANSWER(10, 7));
     CHECK(reading("24.333+35999999 \r") == READ(17, 1, 0, 0));
-    CHECK(reading("24.333+36000000 \r") == ANSWER(10, 0));
+    CHECK(reading("24.333+36000000 \r") == ANSWER(10, 7));
     CHECK(reading("24.3.5+63999999 \r") == READ(17, 1, 0, 0));
-    CHECK(reading("24.3.5+64000000 \r") == ANSWER(10, 0));
+    CHECK(reading("24.3.5+64000000 \r") == ANSWER(10, 7));
     CHECK(reading("*24.3.5+0000000063999999 \r") == READ(26, 1, 1, 0));
-    CHECK(reading("*24.3.5+0000000100000000 \r") == ANSWER(10, 1));
+    CHECK(reading("*24.3.5+0000000100000000 \r") == ANSWER(10, 8));
     CHECK(reading("*24.3.4-0000000035959599 \r") == READ(26, 1, 1, 0) && list[0].size == 12959999);
-    CHECK(reading("*24.3.4+0000000036000000 \r") == ANSWER(10, 1));
-    CHECK(reading("*24.3.4+0000000100000000 \r") == ANSWER(10, 1));
-    CHECK(reading("*24.3.4+0000000000000600 \r") == ANSWER(10, 1));
+    CHECK(reading("*24.3.4+0000000036000000 \r") == ANSWER(10, 8));
+    CHECK(reading("*24.3.4+0000000100000000 \r") == ANSWER(10, 8));
+    CHECK(reading("*24.3.4+0000000000000600 \r") == ANSWER(10, 8));
     CHECK(reading("*31..00-9999999999999999 \r") == READ(26, 1, 1, 0) && list[0].size == 9999999999999999);
 }
 
@@ -341,22 +344,22 @@ static void check_levels(void)
         word[1] = (char)('0' + index / 10 % 10);
         word[2] = (char)('0' + index % 10);
         family = &level;
-        CHECK(reading_in(word, 16, 32) == (known ? ANSWER(2, 16) : ANSWER(5, 0)));
+        CHECK(reading_in(word, 16, 32) == (known ? ANSWER(2, 16) : ANSWER(15, 0)));
     }
-    CHECK(numbers("329106+00010198 ", 6, 5) && numbers("330106+00010198 ", 6, 0) && numbers("336106+00010198 ", 6, 0));
-    CHECK(numbers("337106+00010198 ", 6, 5) && numbers("373106+00010198 ", 5, 5) && numbers("374106+00010198 ", 5, 0));
-    CHECK(numbers("375106+00010198 ", 5, 5) && numbers("520...+00010198 ", 6, 5) && numbers("521...+00010198 ", 6, 0));
-    CHECK(numbers("522...+00010198 ", 6, 5) && numbers("570106+00010198 ", 5, 5) && numbers("571106+00010198 ", 5, 0));
-    CHECK(numbers("574106+00010198 ", 5, 0) && numbers("575106+00010198 ", 5, 5) && numbers("331106+00010198 ", 6, 0));
-    CHECK(numbers("420...+00010198 ", 6, 5) && numbers("321106+00010198 ", 6, 5) && numbers("32100.+00010198 ", 6, 5));
-    CHECK(numbers("042...+00010198 ", 5, 5) && numbers("011106+00010198 ", 5, 5) && numbers("000106+00010198 ", 5, 5));
+    CHECK(numbers("329106+00010198 ", 6, 15) && numbers("330106+00010198 ", 6, 0) && numbers("336106+00010198 ", 6, 0));
+    CHECK(numbers("337106+00010198 ", 6, 15) && numbers("373106+00010198 ", 15, 15) && numbers("374106+00010198 ", 15, 0));
+    CHECK(numbers("375106+00010198 ", 15, 15) && numbers("520...+00010198 ", 6, 15) && numbers("521...+00010198 ", 6, 0));
+    CHECK(numbers("522...+00010198 ", 6, 15) && numbers("570106+00010198 ", 15, 15) && numbers("571106+00010198 ", 15, 0));
+    CHECK(numbers("574106+00010198 ", 15, 0) && numbers("575106+00010198 ", 15, 15) && numbers("331106+00010198 ", 6, 0));
+    CHECK(numbers("420...+00010198 ", 6, 15) && numbers("321106+00010198 ", 6, 15) && numbers("32100.+00010198 ", 6, 15));
+    CHECK(numbers("042...+00010198 ", 15, 15) && numbers("011106+00010198 ", 15, 15) && numbers("000106+00010198 ", 15, 15));
 
     /* Two digits with no digit after them: position 3 is information, and a dot. */
-    CHECK(numbers("33.106+00010198 ", 6, 5) && numbers("33..06+00010198 ", 0, 5) && numbers("31..06+00010198 ", 0, 5));
-    CHECK(numbers("51..1.+0009+000 ", 0, 5) && numbers("12....+00000001 ", 0, 5) && numbers("21.102+00000001 ", 0, 5));
-    CHECK(numbers("57....+00000001 ", 5, 0) && numbers("52....+00000001 ", 0, 0) && numbers("53....+00000001 ", 0, 5));
-    CHECK(numbers("32x.06+00010198 ", 6, 6) && numbers("33x106+00010198 ", 6, 5) && numbers("52/...+00010198 ", 6, 6));
-    CHECK(numbers("32:.06+00010198 ", 6, 6) && numbers("57:...+00010198 ", 5, 6) && numbers("42 ...+00010198 ", 6, 6));
+    CHECK(numbers("33.106+00010198 ", 6, 15) && numbers("33..06+00010198 ", 0, 15) && numbers("31..06+00010198 ", 0, 15));
+    CHECK(numbers("51..1.+0009+000 ", 0, 15) && numbers("12....+00000001 ", 0, 15) && numbers("21.102+00000001 ", 0, 15));
+    CHECK(numbers("57....+00000001 ", 15, 0) && numbers("52....+00000001 ", 0, 0) && numbers("53....+00000001 ", 0, 15));
+    CHECK(numbers("32x.06+00010198 ", 6, 6) && numbers("33x106+00010198 ", 6, 15) && numbers("52/...+00010198 ", 6, 6));
+    CHECK(numbers("32:.06+00010198 ", 6, 6) && numbers("57:...+00010198 ", 15, 6) && numbers("42 ...+00010198 ", 6, 6));
     /* Fewer than two digits. */
     CHECK(numbers("x31106+00010198 ", 5, 5) && numbers("3x1106+00010198 ", 5, 5) && numbers("331x06+00010198 ", 6, 6));
     CHECK(numbers("3/1106+00010198 ", 5, 5) && numbers(":31106+00010198 ", 5, 5));
@@ -369,7 +372,7 @@ static void check_levels(void)
     /* "52, 57 and 521 are text, the rest of positions 4-6 dots or digits." */
     CHECK(numbers("521999+ABC~!xyz ", 6, 0) && numbers("521.0.+00000003 ", 6, 0) && numbers("521..x+00000003 ", 6, 6));
     CHECK(numbers("521/..+00000003 ", 6, 6) && numbers("521...-00000003 ", 6, 7) && numbers("521...+0000 003 ", 6, 8));
-    CHECK(numbers("57.3.9+00000003 ", 5, 0) && numbers("52.999+ABCDEFGH ", 0, 0) && numbers("52..:.+00000003 ", 6, 6));
+    CHECK(numbers("57.3.9+00000003 ", 15, 0) && numbers("52.999+ABCDEFGH ", 0, 0) && numbers("52..:.+00000003 ", 6, 6));
 
     /* "position 4 is a dot or 1, 5 a dot, 0-2 or 4-7, 6 a unit: 0, 1 or 6-9" */
     for (int b = 0; b < 256; b++) {
@@ -377,21 +380,21 @@ static void check_levels(void)
         int digit = b >= '0' && b <= '9' ? b - '0' : -1;
         family = &level;
         w[3] = (char)b;
-        CHECK(reading_in(w, 16, 32) == (b == '.' || digit == 1 ? ANSWER(2, 16) : ANSWER(6, 0)));
+        CHECK(reading_in(w, 16, 32) == (b == '.' || digit == 1 ? ANSWER(2, 16) : ANSWER(6, 3)));
         w[3] = '1';
         w[4] = (char)b;
-        CHECK(reading_in(w, 16, 32) == (b == '.' || (digit >= 0 && digit <= 7 && digit != 3) ? ANSWER(2, 16) : ANSWER(6, 0)));
+        CHECK(reading_in(w, 16, 32) == (b == '.' || (digit >= 0 && digit <= 7 && digit != 3) ? ANSWER(2, 16) : ANSWER(6, 4)));
         w[4] = '0';
         w[5] = (char)b;
-        CHECK(reading_in(w, 16, 32) == (digit == 0 || digit == 1 || digit >= 6 ? ANSWER(2, 16) : ANSWER(6, 0)));
+        CHECK(reading_in(w, 16, 32) == (digit == 0 || digit == 1 || digit >= 6 ? ANSWER(2, 16) : ANSWER(6, 5)));
     }
     CHECK(numbers("32..09+00010198 ", 6, 0) && numbers("83..09+00010198 ", 6, 0) && numbers("32.1.8+00010198 ", 6, 0));
     CHECK(numbers("32..03+00010198 ", 6, 6) && numbers("32..30+00010198 ", 0, 6) && numbers("32..40+00010198 ", 0, 0));
     CHECK(numbers("32..50+00010198 ", 6, 0) && numbers("83.070+00010198 ", 6, 6) && numbers("83..0.+00010198 ", 6, 6));
 
     /* The order within a word. */
-    CHECK(numbers("337xxx*xxxxxxxxx", 6, 5) && numbers("331105*xxxxxxxxx", 6, 6) && numbers("331106*xxxxxxxxx", 6, 7));
-    CHECK(numbers("331106-0000000xx", 6, 8) && numbers("331106-00000000x", 6, 9) && numbers("573..0-00000001 ", 5, 0));
+    CHECK(numbers("337xxx*xxxxxxxxx", 6, 15) && numbers("331105*xxxxxxxxx", 6, 6) && numbers("331106*xxxxxxxxx", 6, 7));
+    CHECK(numbers("331106-0000000xx", 6, 8) && numbers("331106-00000000x", 6, 9) && numbers("573..0-00000001 ", 15, 0));
     CHECK(numbers("331106+99999999 ", 6, 0) && numbers("331106+0001+198 ", 6, 8) && numbers("331106+00010198\r", 6, 9));
 
     /* Wide words, and what a block has in common. */
@@ -400,7 +403,7 @@ static void check_levels(void)
     CHECK(list[0].size == 9999999999999999 && list[0].minus == 1 && memcmp(list[0].info, "\000.79", 4) == 0);
     CHECK(list[1].index == 521 && memcmp(list[1].info, "\0...", 4) == 0 && memcmp(list[1].text, "ABCDEFGHIJKLMNOP", 16) == 0);
     writes_back("*331.79-9999999999999999 521...+ABCDEFGHIJKLMNOP 110007+0000000000004000 \r", 3, 1, 0);
-    CHECK(reading("331106+00010198 337106+00010198 \r") == ANSWER(5, 16));
+    CHECK(reading("331106+00010198 337106+00010198 \r") == ANSWER(15, 16));
     CHECK(reading("331106+00010198 ") == ANSWER(2, 16) && reading("331106+00010198") == ANSWER(2, 0) && reading("\r") == ANSWER(3, 0));
     CHECK(reading_in("331106+00010198 331106+00010198 \r", 33, 1) == ANSWER(11, 16) && reading("") == ANSWER(1, 0));
 
@@ -546,22 +549,22 @@ static void check_minus_nought(void)
     writes_back("110008+00004000 573..0-00000000 574..0+00000000 83..06-00000000 \r\n", 4, 0, 1);
 
     /* "10 now means angle out of range alone": with a minus too, and never a level's. */
-    CHECK(numbers("21.102-39999999 ", 0, 5) && numbers("21.102-40000000 ", 10, 5) && numbers("21.102-99999999 ", 10, 5));
-    CHECK(numbers("22.103-35999999 ", 0, 5) && numbers("22.103-36000000 ", 10, 5) && numbers("24.105-63999999 ", 0, 5));
-    CHECK(numbers("24.105-64000000 ", 10, 5) && numbers("21.104-35959599 ", 0, 5) && numbers("21.104-36000000 ", 10, 5));
-    CHECK(numbers("21.104-00060000 ", 10, 5) && numbers("21.104-00000600 ", 10, 5) && numbers("21.104-00000599 ", 0, 5));
-    CHECK(numbers("*21.102-0000000040000000 ", 10, 5) && numbers("*21.102-1000000000000000 ", 10, 5));
-    CHECK(numbers("*21.104-0000000100000000 ", 10, 5) && numbers("*21.104-0000000036000000 ", 10, 5));
-    CHECK(numbers("573..0-00000000 ", 5, 0) && numbers("573..0-99999999 ", 5, 0) && numbers("*573..0-9999999999999999 ", 5, 0));
+    CHECK(numbers("21.102-39999999 ", 0, 15) && numbers("21.102-40000000 ", 10, 15) && numbers("21.102-99999999 ", 10, 15));
+    CHECK(numbers("22.103-35999999 ", 0, 15) && numbers("22.103-36000000 ", 10, 15) && numbers("24.105-63999999 ", 0, 15));
+    CHECK(numbers("24.105-64000000 ", 10, 15) && numbers("21.104-35959599 ", 0, 15) && numbers("21.104-36000000 ", 10, 15));
+    CHECK(numbers("21.104-00060000 ", 10, 15) && numbers("21.104-00000600 ", 10, 15) && numbers("21.104-00000599 ", 0, 15));
+    CHECK(numbers("*21.102-0000000040000000 ", 10, 15) && numbers("*21.102-1000000000000000 ", 10, 15));
+    CHECK(numbers("*21.104-0000000100000000 ", 10, 15) && numbers("*21.104-0000000036000000 ", 10, 15));
+    CHECK(numbers("573..0-00000000 ", 15, 0) && numbers("573..0-99999999 ", 15, 0) && numbers("*573..0-9999999999999999 ", 15, 0));
     CHECK(numbers("83..06-00000000 ", 0, 0) && numbers("32..00-00000000 ", 0, 0) && numbers("331106-00000000 ", 6, 0));
     /* What stands before 10 is as it was. */
-    CHECK(numbers("31..02-00000000 ", 6, 5) && numbers("31..00*00000000 ", 7, 5) && numbers("31..00--0000000 ", 8, 5));
-    CHECK(numbers("31..00-0000000. ", 8, 5) && numbers("31..00-00000000x", 9, 5) && numbers("31..00-00000000\r", 9, 5));
-    CHECK(numbers("51..1.-0000x000 ", 8, 5) && numbers("51..1.-0000-00- ", 8, 5) && numbers("51..1.-0000-000x", 9, 5));
+    CHECK(numbers("31..02-00000000 ", 6, 15) && numbers("31..00*00000000 ", 7, 15) && numbers("31..00--0000000 ", 8, 15));
+    CHECK(numbers("31..00-0000000. ", 8, 15) && numbers("31..00-00000000x", 9, 15) && numbers("31..00-00000000\r", 9, 15));
+    CHECK(numbers("51..1.-0000x000 ", 8, 15) && numbers("51..1.-0000-00- ", 8, 15) && numbers("51..1.-0000-000x", 9, 15));
     /* Text has `+` only as before. */
     CHECK(numbers("11....-00000000 ", 7, 7) && numbers("410001-00000000 ", 7, 7) && numbers("42....-00000000 ", 7, 7));
-    CHECK(numbers("13....-00000000 ", 7, 5) && numbers("52....-00000000 ", 7, 7) && numbers("79....-00000000 ", 7, 5));
-    CHECK(numbers("57....-00000000 ", 5, 7) && numbers("521...-00000000 ", 6, 7) && numbers("*71....-0000000000000000 ", 7, 5));
+    CHECK(numbers("13....-00000000 ", 7, 15) && numbers("52....-00000000 ", 7, 7) && numbers("79....-00000000 ", 7, 15));
+    CHECK(numbers("57....-00000000 ", 15, 7) && numbers("521...-00000000 ", 6, 7) && numbers("*71....-0000000000000000 ", 7, 15));
 
     /* The same as records for the writer. */
     family = &station;
@@ -628,6 +631,366 @@ static void check_minus_nought(void)
     CHECK(family->write(list, 3, 0, 0, room, sizeof room) == ANSWER(13, 0));
 }
 
+/* Places in blocks */
+
+/* 104: "Refusals 5 to 10 tell the exact byte: the first that breaks the rule, and for 10 the first data byte"; "15, no longer
+   5, for digits that are no listed index, right after 5, telling the start of the word". Each row is a word, refused so by its
+   family: the number, and the byte from the word's start. */
+static const struct place { const struct family *of; const char *word; unsigned number, byte; } places[] = {
+    /* 5: "the first of positions 1-2 that is no digit", before 15 and the others. */
+    {&station, "x1..00+00000001 ", 5, 0}, {&station, "3x..00+00000001 ", 5, 1}, {&station, "xx..00+00000001 ", 5, 0},
+    {&station, "/1..00+00000001 ", 5, 0}, {&station, ":1..00+00000001 ", 5, 0}, {&station, "3/..00+00000001 ", 5, 1},
+    {&station, "3:..00+00000001 ", 5, 1}, {&station, ".1..00+00000001 ", 5, 0}, {&station, "3...00+00000001 ", 5, 1},
+    {&station, " 31..00+0000001 ", 5, 0}, {&station, "\n1..00+00000001 ", 5, 0}, {&station, "3\r..00+00000001 ", 5, 1},
+    {&station, "9xxxxx*xxxxxxxxx", 5, 1}, {&station, "x9xxxx*xxxxxxxxx", 5, 0}, {&station, "xxxxxxxxxxxxxxxx", 5, 0},
+    {&level, "x31106+00010198 ", 5, 0}, {&level, "3x1106+00010198 ", 5, 1}, {&level, "3/1106+00010198 ", 5, 1},
+    {&level, ":31106+00010198 ", 5, 0}, {&level, "3..106+00010198 ", 5, 1}, {&level, "xx1106+00010198 ", 5, 0},
+    {&level, "9x9xxx*xxxxxxxxx", 5, 1}, {&level, "x99xxx*xxxxxxxxx", 5, 0},
+    /* 15: two digits, or three in the level's family where position 3 is one; before 6 to 10. */
+    {&station, "35..00+00000001 ", 15, 0}, {&station, "00....+00000001 ", 15, 0}, {&station, "99xxxx*xxxxxxxxx", 15, 0},
+    {&station, "10....+00000001 ", 15, 0}, {&station, "14....+00000001 ", 15, 0}, {&station, "57....+00000001 ", 15, 0},
+    {&station, "374106+00010198 ", 15, 0}, {&station, "035.00+00000001 ", 15, 0}, {&station, "89..00+00000001 ", 15, 0},
+    {&station, "23.102+00000001 ", 15, 0}, {&station, "80..00-00000000x", 15, 0}, {&station, "40..x0x0000000x ", 15, 0},
+    {&level, "337106+00010198 ", 15, 0}, {&level, "329106+00010198 ", 15, 0}, {&level, "33x106+00010198 ", 15, 0},
+    {&level, "33.106+00010198 ", 15, 0}, {&level, "042...+00010198 ", 15, 0}, {&level, "420...+00010198 ", 15, 0},
+    {&level, "520...+00010198 ", 15, 0}, {&level, "832.06+00010198 ", 15, 0}, {&level, "21.102+00000001 ", 15, 0},
+    {&level, "570106+00010198 ", 15, 0}, {&level, "575106+00010198 ", 15, 0}, {&level, "51..1.+0009+000 ", 15, 0},
+    {&level, "99xxxx*xxxxxxxxx", 15, 0}, {&level, "999xxx*xxxxxxxxx", 15, 0}, {&level, "12....+00000001 ", 15, 0},
+    /* 6: "the first of positions 3-6 ... that breaks its rule", kind by kind. */
+    {&station, "31x.00+00000001 ", 6, 2}, {&station, "31.x00+00000001 ", 6, 3}, {&station, "31..x0+00000001 ", 6, 4},
+    {&station, "31..0x+00000001 ", 6, 5}, {&station, "31xxxx*xxxxxxxxx", 6, 2}, {&station, "31.xxx*xxxxxxxxx", 6, 3},
+    {&station, "31..xx*xxxxxxxxx", 6, 4}, {&station, "31...x*xxxxxxxxx", 6, 5}, {&station, "31.0.0+00000001 ", 6, 3},
+    {&station, "31..50+00000001 ", 6, 4}, {&station, "31..02+00000001 ", 6, 5}, {&station, "31..09+00000001 ", 6, 5},
+    {&station, "331106+00010198 ", 6, 2}, {&station, "33.106+00010198 ", 6, 3}, {&station, "34..5.+00010198 ", 6, 4},
+    {&station, "21x102+00000001 ", 6, 2}, {&station, "211102+00000001 ", 6, 2}, {&station, "21.202+00000001 ", 6, 3},
+    {&station, "21.402+00000001 ", 6, 3}, {&station, "21.152+00000001 ", 6, 4}, {&station, "21.101+00000001 ", 6, 5},
+    {&station, "21.106+00000001 ", 6, 5}, {&station, "22.3..+00000001 ", 6, 5}, {&station, "24.256+99999999 ", 6, 3},
+    {&station, "58..07+00000001 ", 6, 5}, {&station, "58.106+00000001 ", 6, 3}, {&station, "59..56+00000001 ", 6, 4},
+    {&station, "591.06+00000001 ", 6, 2}, {&station, "59..0.+00000001 ", 6, 5}, {&station, "58..00+00000001 ", 6, 5},
+    {&station, "51..16+0009+000 ", 6, 5}, {&station, "51..5.+0009+000 ", 6, 4}, {&station, "51.11.+0009+000 ", 6, 3},
+    {&station, "511.1.+0009+000 ", 6, 2}, {&station, "511111+0009+000 ", 6, 2},
+    {&station, "13x...+00000001 ", 6, 2}, {&station, "130...+00000001 ", 6, 2}, {&station, "13.x..+00000001 ", 6, 3},
+    {&station, "13..x.+00000001 ", 6, 4}, {&station, "13...x+00000001 ", 6, 5}, {&station, "42.12/+00000001 ", 6, 5},
+    {&station, "79.1:2+00000001 ", 6, 4}, {&station, "52.-..+00000001 ", 6, 3}, {&station, "42...+00000001 x", 6, 5},
+    {&level, "32x106+00010198 ", 6, 2}, {&level, "32.x06+00010198 ", 6, 3}, {&level, "32..x6+00010198 ", 6, 4},
+    {&level, "32..0x+00010198 ", 6, 5}, {&level, "83/.06+00010198 ", 6, 2}, {&level, "83.0.6+00010198 ", 6, 3},
+    {&level, "83..36+00010198 ", 6, 4}, {&level, "83..0.+00010198 ", 6, 5}, {&level, "83.235*xxxxxxxxx", 6, 3},
+    {&level, "331x06+00010198 ", 6, 3}, {&level, "3311x6+00010198 ", 6, 4}, {&level, "33110x+00010198 ", 6, 5},
+    {&level, "331xxx*xxxxxxxxx", 6, 3}, {&level, "3311xx*xxxxxxxxx", 6, 4}, {&level, "331235+00010198 ", 6, 3},
+    {&level, "331.35+00010198 ", 6, 4}, {&level, "331.05+00010198 ", 6, 5}, {&level, "331...+00010198 ", 6, 5},
+    {&level, "374206+00010198 ", 6, 3}, {&level, "571186+00010198 ", 6, 4}, {&level, "574.02+00010198 ", 6, 5},
+    {&level, "521x..+00010198 ", 6, 3}, {&level, "521.x.+00010198 ", 6, 4}, {&level, "521..x+00010198 ", 6, 5},
+    {&level, "52x...+00010198 ", 6, 2}, {&level, "52.x..+00010198 ", 6, 3}, {&level, "57:...+00010198 ", 6, 2},
+    {&level, "57..x.+00010198 ", 6, 4}, {&level, "42 ...+00010198 ", 6, 2}, {&level, "49.99-+00010198 ", 6, 5},
+    {&level, "57xxxx*xxxxxxxxx", 6, 2}, {&level, "521/xx*xxxxxxxxx", 6, 3},
+    /* "for 11 and 41 the first byte chooses between digits and dots, and is itself wrong if it is neither" */
+    {&station, "11x...+00000003 ", 6, 2}, {&station, "11x014+00000003 ", 6, 2}, {&station, "11/014+00000003 ", 6, 2},
+    {&station, "11:014+00000003 ", 6, 2}, {&station, "41 ...+00000003 ", 6, 2}, {&station, "41-...+00000003 ", 6, 2},
+    {&station, "110...+00000003 ", 6, 3}, {&station, "1100..+00000003 ", 6, 4}, {&station, "11000.+00000003 ", 6, 5},
+    {&station, "110.14+00000003 ", 6, 3}, {&station, "1100.4+00000003 ", 6, 4}, {&station, "110x14+00000003 ", 6, 3},
+    {&station, "1100x4+00000003 ", 6, 4}, {&station, "11001x+00000003 ", 6, 5}, {&station, "4199x.+00000003 ", 6, 4},
+    {&station, "11.014+00000003 ", 6, 3}, {&station, "11..14+00000003 ", 6, 4}, {&station, "11...4+00000003 ", 6, 5},
+    {&station, "11.0..+00000003 ", 6, 3}, {&station, "11..0.+00000003 ", 6, 4}, {&station, "41.x..+00000003 ", 6, 3},
+    {&station, "41..x.+00000003 ", 6, 4}, {&station, "41...x+00000003 ", 6, 5}, {&station, "41.9.9+00000003 ", 6, 3},
+    {&level, "11x006+00000003 ", 6, 2}, {&level, "110x06+00000003 ", 6, 3}, {&level, "1100x6+00000003 ", 6, 4},
+    {&level, "11000x+00000003 ", 6, 5}, {&level, "110...+00000003 ", 6, 3}, {&level, "419.99+00000003 ", 6, 3},
+    {&level, "4199.9+00000003 ", 6, 4}, {&level, "41999.+00000003 ", 6, 5}, {&level, "11.006+00000003 ", 6, 3},
+    {&level, "11..06+00000003 ", 6, 4}, {&level, "11...6+00000003 ", 6, 5}, {&level, "41/...+00000003 ", 6, 2},
+    {&level, "41:999+00000003 ", 6, 2},
+    /* 7: "position 7" */
+    {&station, "31..00*00000001 ", 7, 6}, {&station, "31..00000000001 ", 7, 6}, {&station, "31..00*xxxxxxxxx", 7, 6},
+    {&station, "11....-00000001 ", 7, 6}, {&station, "110014-xxxxxxx\nx", 7, 6}, {&station, "13....-00000001 ", 7, 6},
+    {&station, "21.102 99999999 ", 7, 6}, {&station, "51..1.*0009*000 ", 7, 6}, {&station, "58..06,00000001 ", 7, 6},
+    {&level, "331106*00010198 ", 7, 6}, {&level, "32..06 xxxxxxxxx", 7, 6}, {&level, "110006-00003000 ", 7, 6},
+    {&level, "521...-00010198 ", 7, 6}, {&level, "42....-00010198 ", 7, 6},
+    /* 8: "the first wrong data byte", "a pair's inner sign included" */
+    {&station, "83..10+000A5320 ", 8, 10}, {&station, "31..00+x0000001 ", 8, 7}, {&station, "31..00-0000000x ", 8, 14},
+    {&station, "31..00+000x0x0xx", 8, 10}, {&station, "31..00+xxxxxxxxx", 8, 7}, {&station, "31..00+0000 001 ", 8, 11},
+    {&station, "31..00++0000001 ", 8, 7}, {&station, "31..00+0000/:01 ", 8, 11}, {&station, "31..00+00000:/1 ", 8, 12},
+    {&station, "21.102+4000000x ", 8, 14}, {&station, "21.104+99x99999 ", 8, 9}, {&station, "58..06+0.000001 ", 8, 8},
+    {&station, "59..06-000001.0x", 8, 13}, {&station, "22.103+3600000\r ", 8, 14},
+    {&station, "11....+ 0000003 ", 8, 7}, {&station, "11....+0000000  ", 8, 14}, {&station, "110014+0\0170 \017003 ", 8, 8},
+    {&station, "13....+~!\177!~!~! ", 8, 9}, {&station, "13....+~!~ ~!~\177x", 8, 10}, {&station, "79....+ABCDE\200GHx", 8, 12},
+    {&station, "51..1.+x009+000 ", 8, 7}, {&station, "51..1.+0x09+000 ", 8, 8}, {&station, "51..1.+00x9+000 ", 8, 9},
+    {&station, "51..1.+000x+000 ", 8, 10}, {&station, "51..1.+0009x000 ", 8, 11}, {&station, "51..1.+0009+x00 ", 8, 12},
+    {&station, "51..1.+0009+0x0 ", 8, 13}, {&station, "51..1.+0009+00x ", 8, 14}, {&station, "51..1.+00090000 ", 8, 11},
+    {&station, "51..1.+000++000 ", 8, 10}, {&station, "51..1.+0009--00 ", 8, 12}, {&station, "51..1.-0009x0x0 ", 8, 11},
+    {&station, "51..1.-00x9x0x0x", 8, 9}, {&station, "51..1.-0009-x-xx", 8, 12}, {&station, "51..1.+0009 000 ", 8, 11},
+    {&station, "51..1.+00+9+000 ", 8, 9}, {&station, "51..1.+0009+0+0 ", 8, 13},
+    {&level, "331106+0001x198 ", 8, 11}, {&level, "331106-0000000xx", 8, 14}, {&level, "32..06+x0010198 ", 8, 7},
+    {&level, "573..0-000-0880 ", 8, 10}, {&level, "331106+0001+198 ", 8, 11}, {&level, "83..09+0001019. ", 8, 14},
+    {&level, "110006+0000 000 ", 8, 11}, {&level, "521...+\0370010198 ", 8, 7}, {&level, "42....+0001019\177 ", 8, 14},
+    /* 9: "the separator", before 10 */
+    {&station, "31..00+00000001x", 9, 15}, {&station, "31..00-00000000\r", 9, 15}, {&station, "21.102+40000000x", 9, 15},
+    {&station, "11....+00000001!", 9, 15}, {&station, "51..1.+0009+0000", 9, 15}, {&station, "58..06+00000001\n", 9, 15},
+    {&level, "331106+00010198\r", 9, 15}, {&level, "32..06+00010198.", 9, 15}, {&level, "521...+00010198x", 9, 15},
+    {&level, "110006+00010198\t", 9, 15},
+    /* 10: "the first data byte", whatever the unit and the sign */
+    {&station, "21.102+40000000 ", 10, 7}, {&station, "22.103-36000000 ", 10, 7}, {&station, "24.105+64000000 ", 10, 7},
+    {&station, "21.104+36000000 ", 10, 7}, {&station, "21.104+00060000 ", 10, 7}, {&station, "21.104-00000600 ", 10, 7},
+    {&station, "24...2-99999999 ", 10, 7},
+};
+
+/* The words as 16 wide ones, with eight characters put in on the left of the data that are right there: noughts, which are text
+   too. The byte told lies eight further on where it is in the data past the first, or is the separator. */
+static size_t widen(char *to, const char *word, unsigned number, size_t byte)
+{
+    memcpy(to, word, 7);
+    memset(to + 7, '0', 8);
+    memcpy(to + 15, word + 7, 9);
+    return number == 8 || number == 9 ? byte + 8 : byte;
+}
+
+/* Reads a block of so many right words, the word, one that is wrong at its start, and CR. */
+static uint64_t reading_after(const struct family *of, const char *word, int wide, size_t before)
+{
+    static const char right[] = "11....+0000000000000003 ";
+    char block[1 + 8 * 24 + 1];
+    size_t each = wide ? 24 : 16, n = 0;
+    family = of;
+    if (wide)
+        block[n++] = '*';
+    for (size_t i = 0; i < before; i++, n += each) {
+        memcpy(block + n, right, each);
+        block[n + each - 1] = ' ';
+    }
+    memcpy(block + n, word, each);
+    n += each;
+    memcpy(block + n, "?xxxxx*xxxxxxxxxxxxxxxxx", each);
+    n += each;
+    block[n++] = '\r';
+    return reading_in(block, n, 32);
+}
+
+static void check_places(void)
+{
+    for (size_t i = 0; i < sizeof places / sizeof *places; i++)
+        for (size_t before = 0; before < 4; before++) {
+            const struct place *p = &places[i];
+            char wide[24];
+            size_t byte = widen(wide, p->word, p->number, p->byte);
+            uint64_t narrow_asked = ANSWER(p->number, before * 16 + p->byte), wide_asked = ANSWER(p->number, 1 + before * 24 + byte);
+            CHECK(strlen(p->word) == 16);
+            if (reading_after(p->of, p->word, 0, before) != narrow_asked || reading_after(p->of, wide, 1, before) != wide_asked) {
+                printf("row %u of the places: %.16s after %u\n", (unsigned)i, p->word, (unsigned)before);
+                failures++;
+            }
+        }
+    family = &station;
+
+    /* Some of them counted by hand in their blocks. */
+    CHECK(reading("83..10+000A5320 \r") == ANSWER(8, 10) && reading("*83..10+00000000000A5320 \r") == ANSWER(8, 19));
+    CHECK(reading("110014+00000003 331106+00010198 \r") == ANSWER(6, 18));
+    CHECK(reading("110014+00000003 3x1106+00010198 \r") == ANSWER(5, 17));
+    CHECK(reading("110014+00000003 351106+00010198 \r") == ANSWER(15, 16));
+    CHECK(reading("110014+00000003 x51106+00010198 \r") == ANSWER(5, 16));
+    CHECK(reading("110014+00000003 31..00*00010198 \r") == ANSWER(7, 22));
+    CHECK(reading("110014+00000003 31..00+00010198\r\r") == ANSWER(9, 31));
+    CHECK(reading("110014+00000003 21.102+40000000 \r") == ANSWER(10, 23));
+    CHECK(reading("110014+00000003 51..1.+0009.000 \r") == ANSWER(8, 27));
+    CHECK(reading("*110014+0000000000000003 31..0x+0000000000000000 \r") == ANSWER(6, 30));
+    CHECK(reading("*110014+0000000000000003 35..00+0000000000000000 \r") == ANSWER(15, 25));
+    CHECK(reading("*110014+0000000000000003 3x..00+0000000000000000 \r") == ANSWER(5, 26));
+    CHECK(reading("*110014+0000000000000003 31..00x0000000000000000 \r") == ANSWER(7, 31));
+    CHECK(reading("*110014+0000000000000003 51..1.+000000000009.000 \r") == ANSWER(8, 44));
+    CHECK(reading("*110014+0000000000000003 51..1.+000000000009+00. \r") == ANSWER(8, 47));
+    CHECK(reading("*110014+0000000000000003 51..1.+00000000000.+000 \r") == ANSWER(8, 43));
+    CHECK(reading("*110014+0000000000000003 31..00+0000000000000000x\r") == ANSWER(9, 48));
+    CHECK(reading("*110014+0000000000000003 21.104-0000000036000000 \r") == ANSWER(10, 32));
+    CHECK(reading("*51..1.x000000000009+000 \r") == ANSWER(7, 7) && reading("*51..1.+000000000009x000 \r") == ANSWER(8, 20));
+    /* The first word that is wrong counts, whatever its number. */
+    CHECK(reading("31..00+0000000x 3x..00+00000000 \r") == ANSWER(8, 14));
+    CHECK(reading("21.102+40000000 x1..00+00000000 \r") == ANSWER(10, 7));
+    /* 2, 3, 4 and 11 as before: where the word would start. */
+    CHECK(reading("31..00+00000001 3x..00+0000000") == ANSWER(2, 16));
+    CHECK(reading_in("31..00+00000001 3x..00+00000000 ", 32, 1) == ANSWER(11, 16));
+    CHECK(reading("*31..00+0000000000000001 x1..00+00000000 \r") == ANSWER(2, 25) && reading("31..00+00000001 x") == ANSWER(2, 16));
+    family = &level;
+    CHECK(reading("110006+00003000 32..00+00016380 331306+00010198 \r") == ANSWER(6, 35));
+    CHECK(reading("110006+00003000 32..00+00016380 337106+00010198 \r") == ANSWER(15, 32));
+    CHECK(reading("110006+00003000 32..00+00016380 3.1106+00010198 \r") == ANSWER(5, 33));
+    CHECK(reading("110006+00003000 32..00+0001638x 3.1106+00010198 \r") == ANSWER(8, 30));
+    CHECK(reading("*110006+0000000000003000 331136+0000000000010198 \r") == ANSWER(6, 29));
+    CHECK(reading("*110.06+0000000000003000 331136+0000000000010198 \r") == ANSWER(6, 4));
+    family = &station;
+}
+
+/* Right words of each kind and unit: what may stand at positions 4 to 6, and the data, t for text, d for digits, a for an
+   angle's, p for a pair's. */
+#define FREE ".0123456789"
+#define DIGITS "0123456789"
+#define MODE ".01234"
+#define LEVELS "330 331 332 333 334 335 336 374 521 571 572 573 574"
+static const struct kind { const struct family *of; const char *word, *fourth, *fifth, *sixth; char data; } kinds[] = {
+    {&station, "11....+A-~!*x.0 ", ".", ".", ".", 't'},
+    {&station, "110014+A-~!*x.0 ", DIGITS, DIGITS, DIGITS, 't'},
+    {&station, "41....+00000003 ", ".", ".", ".", 't'},
+    {&station, "419999+00000003 ", DIGITS, DIGITS, DIGITS, 't'},
+    {&station, "13....+ABCDEFGH ", FREE, FREE, FREE, 't'},
+    {&station, "42.9.0+ABCDEFGH ", FREE, FREE, FREE, 't'},
+    {&station, "21.102+00000000 ", ".013", MODE, "2345", 'a'},
+    {&station, "22.323-35959599 ", ".013", MODE, "2345", 'a'},
+    {&station, "24.004+35959599 ", ".013", MODE, "2345", 'a'},
+    {&station, "21...5-12345600 ", ".013", MODE, "2345", 'a'},
+    {&station, "31..00+00265965 ", ".", MODE, "01678", 'd'},
+    {&station, "82...1-00000000 ", ".", MODE, "01678", 'd'},
+    {&station, "33..46+99999999 ", ".", MODE, "01678", 'd'},
+    {&station, "34..17-00010198 ", ".", MODE, "01678", 'd'},
+    {&station, "88..38+00010198 ", ".", MODE, "01678", 'd'},
+    {&station, "58..06+00000345 ", ".", MODE, "6", 'd'},
+    {&station, "59...6-00000345 ", ".", MODE, "6", 'd'},
+    {&station, "51..1.+0009-034 ", ".", MODE, ".", 'p'},
+    {&level, "11....+A-~!*x.0 ", ".", ".", ".", 't'},
+    {&level, "110006+00003000 ", DIGITS, DIGITS, DIGITS, 't'},
+    {&level, "419999+00003000 ", DIGITS, DIGITS, DIGITS, 't'},
+    {&level, "42....+10842V02 ", FREE, FREE, FREE, 't'},
+    {&level, "52.1.9+10842V02 ", FREE, FREE, FREE, 't'},
+    {&level, "57....+10842V02 ", FREE, FREE, FREE, 't'},
+    {&level, "521...+10842V02 ", FREE, FREE, FREE, 't'},
+    {&level, "32..00+00016380 ", ".1", ".0124567", "016789", 'd'},
+    {&level, "83.1.1-00000000 ", ".1", ".0124567", "016789", 'd'},
+    {&level, "32...6+00016380 ", ".1", ".0124567", "016789", 'd'},
+    {&level, "83..27+00016380 ", ".1", ".0124567", "016789", 'd'},
+    {&level, "32.148+00016380 ", ".1", ".0124567", "016789", 'd'},
+    {&level, "83..59+00016380 ", ".1", ".0124567", "016789", 'd'},
+    {&level, "330..0+00010198 ", ".1", ".0124567", "016789", 'd'},
+    {&level, "331161-00010198 ", ".1", ".0124567", "016789", 'd'},
+    {&level, "336106+00010198 ", ".1", ".0124567", "016789", 'd'},
+    {&level, "374.77-00000000 ", ".1", ".0124567", "016789", 'd'},
+    {&level, "571108+00010198 ", ".1", ".0124567", "016789", 'd'},
+    {&level, "574..9+99999999 ", ".1", ".0124567", "016789", 'd'},
+};
+
+/* The two-digit indexes of each family. */
+static const char two_of_station[] = "11 12 13 16 18 19 21 22 24 31 32 33 34 41 42 43 44 45 46 47 48 49 51 52 53 58 59 71 72 73 74 75 "
+                                     "76 77 78 79 81 82 83 84 85 86 87 88";
+static const char two_of_level[] = "11 32 41 42 43 44 45 46 47 48 49 52 57 83";
+
+static int in(const char *characters, int b)
+{
+    for (; *characters; characters++)
+        if ((unsigned char)*characters == b)
+            return 1;
+    return 0;
+}
+
+/* Whether the list, each entry with a blank after it, has the n characters. */
+static int in_list(const char *listed, const char *characters, size_t n)
+{
+    for (; strlen(listed) >= n; listed += n + 1) {
+        if (memcmp(listed, characters, n) == 0)
+            return 1;
+        if (!listed[n])
+            return 0;
+    }
+    return 0;
+}
+
+enum { RIGHT, ANYTHING = 1000 };
+
+/* What the kind's word gives with the byte at a place from its start: the number, with the byte told. ANYTHING where it is
+   another kind's word, which other rows have. */
+static unsigned asked_of(const struct kind *kind, const char *word, size_t width, size_t at, size_t *told)
+{
+    int b = (unsigned char)word[at], level_word = kind->of == &level, digit = in(DIGITS, b), numbered = in("14", word[0]) && word[1] == '1';
+    *told = at;
+    if (at < 2) {
+        if (!digit)
+            return 5;
+        *told = 0;
+        if (level_word && in(DIGITS, word[2]) && !(in("14", word[0]) && word[1] == '1'))
+            return in_list(LEVELS, word, 3) ? ANYTHING : 15;
+        return in_list(level_word ? two_of_level : two_of_station, word, 2) ? ANYTHING : 15;
+    }
+    if (at == 2) {
+        if (numbered) {
+            /* The first byte chooses, and then the next is the first that breaks the rule. */
+            if (digit || b == '.') {
+                *told = 3;
+                return in(DIGITS, word[3]) == digit ? RIGHT : 6;
+            }
+            return 6;
+        }
+        if (level_word && digit) {
+            *told = 0;
+            return in_list(LEVELS, word, 3) ? ANYTHING : 15;
+        }
+        if (level_word && !in_list(two_of_level, word, 2)) {
+            *told = 0;
+            return 15;
+        }
+        return b == '.' ? RIGHT : 6;
+    }
+    if (at < 6)
+        return in(at == 3 ? kind->fourth : at == 4 ? kind->fifth : kind->sixth, b) ? kind->data == 'a' ? ANYTHING : RIGHT : 6;
+    if (at == 6)
+        return b == '+' || (b == '-' && kind->data != 't') ? RIGHT : 7;
+    if (at == 7 + width)
+        return b == ' ' ? RIGHT : 9;
+    if (kind->data == 't')
+        return b >= 33 && b <= 126 ? RIGHT : 8;
+    if (kind->data == 'p' && at == 7 + width - 4)
+        return b == '+' || b == '-' ? RIGHT : 8;
+    return !digit ? 8 : kind->data == 'a' ? ANYTHING : RIGHT;
+}
+
+/* Each value of each byte of a word of each kind and unit, first and later, narrow and wide. */
+static void check_every_place(void)
+{
+    for (size_t i = 0; i < sizeof kinds / sizeof *kinds; i++)
+        for (int wide = 0; wide < 2; wide++) {
+            size_t each = wide ? 24 : 16, wrong = 0;
+            char word[24];
+            memcpy(word, kinds[i].word, 16);
+            if (wide)
+                widen(word, kinds[i].word, 0, 0);
+            for (size_t before = 0; before < 3; before += 2)
+                for (size_t at = 0; at < each; at++) {
+                    char old = word[at];
+                    for (int b = 0; b < 256; b++) {
+                        size_t start = (size_t)wide + before * each, byte;
+                        unsigned number;
+                        uint64_t got;
+                        word[at] = (char)b;
+                        /* Where a word would start a CR ends the block, and a `*` may be the block's own. */
+                        if (at == 0 && (b == '\r' || (b == '*' && start == 0)))
+                            continue;
+                        number = asked_of(&kinds[i], word, each - 8, at, &byte);
+                        got = reading_after(kinds[i].of, word, wide, before);
+                        /* A right word is followed by the wrong one, at its first byte; an angle may be out of range. */
+                        if (number == RIGHT)
+                            wrong += got != ANSWER(5, start + each);
+                        else if (number == ANYTHING && at > 2)
+                            wrong += got != ANSWER(5, start + each) && got != ANSWER(10, start + 7);
+                        else if (number == ANYTHING)
+                            wrong += got >> 32 == 15 || (got >> 32 == 5 && got != ANSWER(5, start + each));
+                        else
+                            wrong += got != ANSWER(number, start + byte);
+                    }
+                    word[at] = old;
+                }
+            if (wrong) {
+                printf("%s%s: %u wrong\n", wide ? "wide " : "", kinds[i].word, (unsigned)wrong);
+                failures++;
+            }
+        }
+    /* A digit in an angle's data that takes it out of range: 10, at the first data byte wherever the digit stands. */
+    for (size_t at = 7; at < 15; at++)
+        for (char unit = '2'; unit <= '5'; unit++)
+            for (char b = '0'; b <= '9'; b++) {
+                char word[] = "21.10.+00000000 ", least = ':';
+                if (at == 7)
+                    least = unit == '5' ? '7' : '4';
+                else if (unit == '4' && (at == 10 || at == 12)) /* tens of minutes and of seconds */
+                    least = '6';
+                word[5] = unit;
+                word[at] = b;
+                CHECK(reading_after(&station, word, 0, 0) == (b >= least ? ANSWER(10, 7) : ANSWER(5, 16)));
+                CHECK(reading_after(&station, word, 0, 2) == (b >= least ? ANSWER(10, 39) : ANSWER(5, 48)));
+            }
+    family = &station;
+}
+
 /* Lines */
 
 /* The image at hand and its length, which goes with its series; there is memory beyond either. */
@@ -649,7 +1012,9 @@ static void fresh_300(void)
     CHECK(ref_factory_300(image, bytes) == 0);
 }
 
-/* Plays one line; checks that only what was told is written, and that a refused line alters no byte of the state. */
+/* Plays one line; checks that only what was told is written, that a refused line alters no byte of the state, and that 26
+   alone tells which rule and a byte. 104: "`gsi_line` tells: reply bytes + 2^16 * which + 2^24 * byte; for every other answer,
+   30 included, the two are 0." */
 static uint64_t play_in(const char *line, size_t m, size_t room)
 {
     uint8_t before[1060];
@@ -658,7 +1023,11 @@ static uint64_t play_in(const char *line, size_t m, size_t room)
     memcpy(before, image, sizeof image);
     memset(reply, 0x5A, sizeof reply);
     got = ref_line(image, bytes, (const uint8_t *)line, m, reply, room);
-    told = (size_t)(got & 0xFFFFFFFF);
+    told = (size_t)(got & 0xFFFF);
+    if (got >> 32 == 26)
+        CHECK((got >> 16 & 0xFF) >= 6 && (got >> 16 & 0xFF) <= 10 && (got >> 24 & 0xFF) >= 6 && (got >> 24 & 0xFF) <= 19);
+    else
+        CHECK((got & 0xFFFF0000) == 0);
     CHECK(told <= room);
     for (size_t i = told; i < sizeof reply; i++)
         if (reply[i] != 0x5A) {
@@ -778,19 +1147,19 @@ static void check_line_slips(void)
     CHECK(play_in("KEEP\r\n", 6, 306) == ANSWER(0, 3));
 
     /* Shapes and numbers. */
-    CHECK(play("SET/030/0") == 22 && play("SET/30/00") == 22 && play("SET/00/0") == 22 && play("CONF/00030") == 22);
-    CHECK(play("SET/12345/0") == 22 && play("SET/30/12345") == 22 && play("CONF/12345") == 22 && play("CONF/030") == 22);
-    CHECK(play("SET/30") == 22 && play("SET/30/") == 22 && play("SET//0") == 22 && play("SET/30/0 ") == 22);
-    CHECK(play("SET/30/0/0") == 22 && play("CONF/") == 22 && play("CONF/70/5") == 22 && play("set/30/0") == 22);
-    CHECK(play(" KEEP") == 22 && play("KEEP ") == 22 && play("UNDO/") == 22 && play("Keep") == 22);
+    CHECK(play("SET/030/0") == 39 && play("SET/30/00") == 39 && play("SET/00/0") == 39 && play("CONF/00030") == 39);
+    CHECK(play("SET/12345/0") == 39 && play("SET/30/12345") == 39 && play("CONF/12345") == 39 && play("CONF/030") == 39);
+    CHECK(play("SET/30") == 39 && play("SET/30/") == 39 && play("SET//0") == 39 && play("SET/30/0 ") == 39);
+    CHECK(play("SET/30/0/0") == 39 && play("CONF/") == 39 && play("CONF/70/5") == 39 && play("set/30/0") == 22);
+    CHECK(play(" KEEP") == 22 && play("KEEP ") == 39 && play("UNDO/") == 39 && play("Keep") == 22);
     CHECK(play("SET/30/9999") == 24 && play("SET/0/0") == 23 && play("SET/9999/9999") == 23 && play("SET/30/0") == 0);
     CHECK(play("CONF/0") == 23 && play("CONF/9999") == 23 && play("CONF/137") == 23 && play("CONF/136") == 0);
     CHECK(replied("0136/0000\r\n"));
-    CHECK(play("GET/I") == 22 && play("GET/I/") == 22 && play("GET/I/WI8") == 22 && play("GET/I/WI8x") == 22);
-    CHECK(play("GET/M/WI88") == 22 && play("GET/I/WI88/") == 22 && play("GET/I/WI12/WI8x") == 22);
+    CHECK(play("GET/I") == 39 && play("GET/I/") == 39 && play("GET/I/WI8") == 39 && play("GET/I/WI8x") == 39);
+    CHECK(play("GET/M/WI88") == 39 && play("GET/I/WI88/") == 39 && play("GET/I/WI12/WI8x") == 39);
 
     /* PUT's shape is any 16 bytes; 25 before 26. */
-    CHECK(play("PUT/88...0+00001550") == 22 && play("PUT/88...0+00001550  ") == 22 && play("PUT/") == 22);
+    CHECK(play("PUT/88...0+00001550") == 39 && play("PUT/88...0+00001550  ") == 39 && play("PUT/") == 39);
     CHECK(play("PUT/88...0+00001550x") == 26 && play("PUT/xx...0+00001550 ") == 25 && play("PUT/82...0+0000155xx") == 25);
     CHECK(play("PUT/88..10+00001550 ") == 26 && play("PUT/88...6+00001550 ") == 26 && play("PUT/88...1+00001550 ") == 0);
     CHECK(play("PUT/11...0+00001550 ") == 26 && play("PUT/110000+00001550 ") == 26 && play("PUT/11....+A-~!*x.0 ") == 0);
@@ -1249,9 +1618,9 @@ static void check_lines_300(void)
         CHECK(play(other) == 23);
     }
     CHECK(play("SET/138/9999") == 23 && play("SET/0/0") == 23 && play("CONF/9999") == 23);
-    /* 22 comes before them, and 30 in the place of 38. */
-    CHECK(play("SET/090/0") == 22 && play("SET/90/00") == 22 && play("SET/90/") == 22 && play("SET/90") == 22);
-    CHECK(play("SET/90/12345") == 22 && play("set/90/0") == 22 && play("SET/90/0/0") == 22);
+    /* 22 and 39 come before them, and 30 in the place of 38. */
+    CHECK(play("SET/090/0") == 39 && play("SET/90/00") == 39 && play("SET/90/") == 39 && play("SET/90") == 39);
+    CHECK(play("SET/90/12345") == 39 && play("set/90/0") == 22 && play("SET/90/0/0") == 39);
     CHECK(play_in("SET/90/0\r", 9, 5) == ANSWER(30, 0) && play_in("SET/90/0\r", 9, 6) == ANSWER(38, 6));
 
     /* With 64 entries each keeps its own number. */
@@ -1292,8 +1661,8 @@ static void check_lines_300(void)
     CHECK(list[3].size == 12959999 && list[3].minus == 1 && memcmp(list[1].text, "00000000PNC0058A", 16) == 0);
     /* Nothing else is wide. */
     CHECK(play("CONF/137") == 0 && replied("0137/0001\r") && play("GET/I/WI16") == 27 && replied("@W127\r"));
-    CHECK(play("GET/I/WI11/WI12") == 25 && play("GET/I/WI11/WI16/WI12") == 27 && play("GET/I") == 22);
-    CHECK(play("PUT/16....+!~000000 ") == 0 && replied("?\r") && play("PUT/16....+0000000000000001 ") == 22);
+    CHECK(play("GET/I/WI11/WI12") == 25 && play("GET/I/WI11/WI16/WI12") == 27 && play("GET/I") == 39);
+    CHECK(play("PUT/16....+!~000000 ") == 0 && replied("?\r") && play("PUT/16....+0000000000000001 ") == 39);
     CHECK(play("GET/I/WI16") == 0 && replied("*16....+00000000!~000000 \r"));
     CHECK(play("UNDO") == 0 && play("GET/I/WI16") == 27 && play("UNDO") == 0);
     CHECK(play("GET/I/WI11") == 0 && replied("11....+PNC0058A \r"));
@@ -1504,6 +1873,279 @@ static void check_sheets_300(void)
     given = example;
 }
 
+/* Places in a PUT, and keywords */
+
+/* 26 with the rule that is broken and the byte of the line; at TPS100's factory the reply is 7 bytes, at TPS300's 6. */
+#define BROKEN(which, byte) ANSWER(26, (bytes == 1039 ? 7u : 6u) | (uint64_t)(which) << 16 | (uint64_t)(byte) << 24)
+#define TOLD(number) ANSWER(number, bytes == 1039 ? 7 : 6)
+
+/* Plays the line with CR LF and answers all that it tells. */
+static uint64_t play_all(const char *body)
+{
+    char line[400];
+    size_t n = strlen(body);
+    memcpy(line, body, n);
+    memcpy(line + n, "\r\n", 2);
+    return play_in(line, n + 2, 459);
+}
+
+/* 104: "26 tells which of 6 to 10 it was and the byte in the line, from 0 (`PUT/` is four bytes)." "The unit of a stored value
+   belongs to 6." Dots stand at 3-5, of text at 3-6. Position p of the word is byte p + 3 of the line. */
+static const struct { const char *line; unsigned which, byte; } broken[] = {
+    {"PUT/88..10+00001550 ", 6, 8}, {"PUT/88.1.0+00001550 ", 6, 7}, {"PUT/881..0+00001550 ", 6, 6}, {"PUT/88...6+00001550 ", 6, 9},
+    {"PUT/88...2+00001550 ", 6, 9}, {"PUT/88....+00001550 ", 6, 9}, {"PUT/88...x+00001550 ", 6, 9}, {"PUT/88x..x*xxxxxxxxx", 6, 6},
+    {"PUT/88.x.x*xxxxxxxxx", 6, 7}, {"PUT/88..xx*xxxxxxxxx", 6, 8}, {"PUT/88...x*xxxxxxxxx", 6, 9}, {"PUT/88xxxx*xxxxxxxxx", 6, 6},
+    {"PUT/34..00+00001550 ", 6, 8}, {"PUT/83...7+00001550 ", 6, 9}, {"PUT/84...8+00001550 ", 6, 9}, {"PUT/85.../+00001550 ", 6, 9},
+    {"PUT/86 ..0+00001550 ", 6, 6}, {"PUT/87. .0+00001550 ", 6, 7},
+    {"PUT/21...5+00001550 ", 6, 9}, {"PUT/21...1+00001550 ", 6, 9}, {"PUT/21....+00001550 ", 6, 9}, {"PUT/21.1.2+00001550 ", 6, 7},
+    {"PUT/21.102+00001550 ", 6, 7}, {"PUT/24..02+00001550 ", 6, 8}, {"PUT/24..05+99999999 ", 6, 8}, {"PUT/24...5+99999999x", 6, 9},
+    {"PUT/210..2+00001550 ", 6, 6},
+    {"PUT/11...0+00001550 ", 6, 9}, {"PUT/110000+00001550 ", 6, 6}, {"PUT/110014+00001550 ", 6, 6}, {"PUT/11.0..+00001550 ", 6, 7},
+    {"PUT/11..0.+00001550 ", 6, 8}, {"PUT/11x...+00001550 ", 6, 6}, {"PUT/11.014+00001550 ", 6, 7}, {"PUT/11...x-        x", 6, 9},
+    {"PUT/16..1.+00001550 ", 6, 8}, {"PUT/16.1..+00001550 ", 6, 7}, {"PUT/16...9+00001550 ", 6, 9}, {"PUT/160...+00001550 ", 6, 6},
+    {"PUT/88...0*00001550 ", 7, 10}, {"PUT/88...000001550  ", 7, 10}, {"PUT/88...0*xxxxxxxxx", 7, 10}, {"PUT/11....-00001550 ", 7, 10},
+    {"PUT/16....-       xx", 7, 10}, {"PUT/21...2 99999999x", 7, 10},
+    {"PUT/83...0+000A5320 ", 8, 14}, {"PUT/88...0+x0001550 ", 8, 11}, {"PUT/88...0-0000155xx", 8, 18}, {"PUT/88...0+00x0x550 ", 8, 13},
+    {"PUT/21...2+4000000x ", 8, 18}, {"PUT/24...4+9x999999x", 8, 12}, {"PUT/34...1+0000 550 ", 8, 15}, {"PUT/88...0+0001-550 ", 8, 15},
+    {"PUT/11....+ 0001550 ", 8, 11}, {"PUT/11....+0000155  ", 8, 18}, {"PUT/16....+000\17715 0 ", 8, 14}, {"PUT/16....+00001 50x", 8, 16},
+    {"PUT/88...0+00001550x", 9, 19}, {"PUT/88...0-00000000.", 9, 19}, {"PUT/21...2+40000000x", 9, 19}, {"PUT/11....+000015500", 9, 19},
+    {"PUT/24...4+00060000\t", 9, 19},
+    {"PUT/21...2+40000000 ", 10, 11}, {"PUT/21...2-40000000 ", 10, 11}, {"PUT/21...3+36000000 ", 10, 11}, {"PUT/24...4+36000000 ", 10, 11},
+    {"PUT/24...4-00060000 ", 10, 11}, {"PUT/24...4+00000600 ", 10, 11}, {"PUT/24...2+99999999 ", 10, 11},
+};
+
+/* The stored values with each of their units. */
+static const char *const stored_words[] = {
+    "11....+PNC0058A", "16....+!~!~!~!~", "21...2+39999999", "21...3-00000000", "21...4+35959599", "24...2-00000001", "24...3+35999999",
+    "24...4+00000000", "34...0+00001550", "34...1-00001550", "83...0+00000000", "83...1-00000000", "84...0+99999999", "84...1+00001550",
+    "85...0-99999999", "85...1+00001550", "86...0+00001550", "86...1+00001550", "87...0+00001550", "87...1+00001550", "88...0+00001550",
+    "88...1-00001550"};
+
+/* Each value of each of a PUT word's 16 positions. */
+static void check_every_put(const char *stored_word)
+{
+    uint8_t before[1060];
+    char put[] = "PUT/................\r\n";
+    int is_text = stored_word[0] == '1', is_angle = stored_word[0] == '2';
+    size_t wrong = 0;
+
+    memcpy(before, image, sizeof image);
+    memcpy(put + 4, stored_word, 15);
+    put[19] = ' ';
+    for (size_t at = 4; at < 20; at++) {
+        char old = put[at];
+        for (int b = 0; b < 256; b++) {
+            uint64_t got, asked = ANSWER(0, bytes == 1039 ? 3 : 2);
+            int digit = in(DIGITS, b), any = 0;
+            put[at] = (char)b;
+            memcpy(image, before, sizeof image);
+            got = play_in(put, 22, 459);
+            if (b == '\r' || b == '\n')
+                asked = TOLD(20);
+            else if (at < 6 && !in_list("11 16 21 24 34 83 84 85 86 87 88", put + 4, 2))
+                asked = TOLD(25);
+            else if (at < 6)
+                any = 1;
+            else if (at < 9 && b != '.')
+                asked = BROKEN(6, at);
+            else if (at == 9 && !in(is_text ? "." : is_angle ? "234" : "01", b))
+                asked = BROKEN(6, 9);
+            else if (at == 10 && b != '+' && (b != '-' || is_text))
+                asked = BROKEN(7, 10);
+            else if (at > 10 && at < 19 && (is_text ? b < 33 || b > 126 : !digit))
+                asked = BROKEN(8, at);
+            else if (at == 19 && b != ' ')
+                asked = BROKEN(9, 19);
+            /* Another value's index, and an angle's unit or digits: right, or out of range. */
+            if (any || (is_angle && (at == 9 || at > 10) && asked >> 32 == 0))
+                wrong += got != asked && (at < 6 ? got >> 32 != 26 : got != BROKEN(10, 11));
+            else
+                wrong += got != asked;
+        }
+        put[at] = old;
+    }
+    memcpy(image, before, sizeof image);
+    if (wrong) {
+        printf("%.20s: %u wrong\n", put, (unsigned)wrong);
+        failures++;
+    }
+}
+
+static void check_put_places(void)
+{
+    char line[] = "PUT/88...0+00001550 \r";
+
+    for (int series = 0; series < 2; series++) {
+        series ? fresh_300() : fresh();
+        for (size_t i = 0; i < sizeof broken / sizeof *broken; i++) {
+            CHECK(strlen(broken[i].line) == 20);
+            if (play_all(broken[i].line) != BROKEN(broken[i].which, broken[i].byte)) {
+                printf("row %u of the PUTs: %s\n", (unsigned)i, broken[i].line);
+                failures++;
+            }
+            CHECK(replied(series ? "@W127\r" : "@W127\r\n"));
+        }
+        for (size_t i = 0; i < sizeof stored_words / sizeof *stored_words; i++)
+            check_every_put(stored_words[i]);
+
+        /* 25 is judged first: "PUT whose first two characters aren't two digits of a stored value". It tells no byte. */
+        CHECK(play_all("PUT/xx...0+00001550 ") == TOLD(25) && play_all("PUT/82xxxx*xxxxxxxxx") == TOLD(25));
+        CHECK(play_all("PUT/12x...+00001550 ") == TOLD(25) && play_all("PUT/8x...0+00001550 ") == TOLD(25));
+        CHECK(play_all("PUT/35...0+00001550 ") == TOLD(25) && play_all("PUT/*88...0+0001550 ") == TOLD(25));
+        /* Nor do the others. */
+        CHECK(play_all("PUT/88...0+00001550") == TOLD(39) && play_all("PIT/88...0+00001550 ") == TOLD(22));
+        CHECK(play_all("GET/I/WI88") == TOLD(27) && play_all("SET/73/9") == TOLD(24) && play_all("UNDO") == TOLD(29));
+        CHECK(play_all("SET/1/9") == TOLD(23) && play_all("GET/I/WI12") == TOLD(25));
+
+        /* 30 tells 0, in the place of 26 too; 31 before all. */
+        line[9] = '2';
+        for (size_t room = 0; room < (series ? 6 : 7); room++)
+            CHECK(play_in(line, 21, room) == ANSWER(30, 0));
+        CHECK(play_in(line, 21, series ? 6 : 7) == BROKEN(6, 9) && play_in(line, 21, 400) == BROKEN(6, 9));
+        CHECK(ref_line(image, bytes - 1, (const uint8_t *)line, 21, reply, 400) == ANSWER(31, 0));
+        /* 26 comes before 28; what it tells doesn't hang on the list. */
+        for (int i = 0; i < 64; i++)
+            CHECK(play("PUT/88...0+00001550 ") == 0);
+        CHECK(play_all("PUT/88...0+00001550 ") == TOLD(28) && play_all("PUT/88...0+0000155x ") == BROKEN(8, 18));
+        CHECK(play_all("PUT/88...0+00001550x") == BROKEN(9, 19) && play_all("PUT/21...2+40000000 ") == BROKEN(10, 11));
+        CHECK(play_in(line, 21, series ? 5 : 6) == ANSWER(30, 0));
+        /* The reply's end goes by 73, and the bytes told with it: 6 where it is CR, 7 where it is CR LF. */
+        CHECK(play("KEEP") == 0 && play(series ? "SET/73/1" : "SET/73/0") == 0);
+        CHECK(play_all("PUT/88...2+00001550 ") == ANSWER(26, (series ? 7u : 6u) | 6u << 16 | 9u << 24));
+        CHECK(replied(series ? "@W127\r\n" : "@W127\r"));
+    }
+}
+
+/* 104: "22: the line starts with none of `SET`, `CONF`, `PUT`, `GET`, `UNDO`, `KEEP`. 39: it starts with one of them, and what
+   follows makes none of the shapes". */
+static const char *const without[] = {
+    "", "S", "SE", "C", "CO", "CON", "P", "PU", "G", "GE", "U", "UN", "UND", "K", "KE", "KEE", "set/30/1", "Set/30/1", "SeT/30/1",
+    "SEt/30/1", " SET/30/1", "/SET/30/1", "*SET/30/1", "0SET/30/1", "ET/30/1", "SE/30/1", "S/30/1", "SE T/30/1", "conf/70", "CONf/70",
+    "CON/70", "CONV/70", "CONG/70", "COnF/70", " CONF/70", "ONF/70", "put/88...0+00001550 ", "PUt/88...0+00001550 ",
+    "PU/88...0+00001550 ", "P/88...0+000001550 ", " PUT/88...0+0000155 ", "88...0+00001550 ", "get/I/WI88", "GEt/I/WI88", "GE/I/WI88",
+    "GT/I/WI88", "ET/I/WI88", "/WI88", "undo", "UNDo", "UNDP", "UNOD", "UND0", " UNDO", "keep", "KEEp", "KEEQ", "KEPE", " KEEP", "?",
+    "@W127", "a", "b", "c", "LET/30/1", "RESET/30/1", "*", "0", "\t", "\377", "TUP/88...0+00001550 "};
+static const char *const with_wrong_remainder[] = {
+    "SET", "SET/", "SET//", "SET///", "SET/30", "SET/30/", "SET/30//", "SET//1", "SET/30//1", "SET//30/1", "SET/30/1/", "SET/30/1 ",
+    "SET/30/1/1", "SET/030/1", "SET/30/01", "SET/30/00", "SET/00/0", "SET/00030/1", "SET/12345/0", "SET/30/12345", "SET/30/10000",
+    "SET/x/0", "SET/30/x", "SET/3x/0", "SET/30/1x", "SET/-1/0", "SET/+30/1", "SET/30/-0", "SET/30/ 1", "SET/ 30/1", "SET 30 1",
+    "SET30/1", "SET.30.1", "SETTLE", "SETOUT", "SETS/30/1", "SETSET/30/1", "SETCONF/70", "SET/SET/30/1", "SET/KEEP", "SET/70",
+    "SET\\30\\1", "SET ", "SET/30/1\t",
+    "CONF", "CONF/", "CONF//", "CONF/070", "CONF/0070", "CONF/00", "CONF/70/", "CONF/70/5", "CONF/70 ", "CONF/ 70", "CONF/12345",
+    "CONF/10000", "CONF/x", "CONF/7x", "CONF/-1", "CONF70", "CONF 70", "CONFIG/70", "CONFF/70", "CONF//70", "CONF/CONF/70", "CONFUNDO",
+    "PUT", "PUT/", "PUT/8", "PUT/88...0+0000155", "PUT/88...0+00001550", "PUT/88...0+00001550  ", "PUT/88...0+0000000000001550 ",
+    "PUT 88...0+00001550 ", "PUT88...0+00001550  ", "PUTT/88...0+0000155 ", "PUT//88...0+00001550 ", "PUT/12....+0000155", "PUT/ ",
+    "PUTOUT", "PUT/11....+PNC0058", "PUT/88...0+00001550 x",
+    "GET", "GET/", "GET/I", "GET/I/", "GET/I/W", "GET/I/WI", "GET/I/WI8", "GET/I/WI888", "GET/I/WI8x", "GET/I/WIx8", "GET/I/WI88/",
+    "GET/I/WI88/W", "GET/I/WI88/WI", "GET/I/WI88/WI8", "GET/I/WI88/WI8x", "GET/I/WI88WI88", "GET/I/WI88,WI11", "GET/I/WI88 ",
+    "GET/I//WI88", "GET/IWI88", "GET/I/wi88", "GET/i/WI88", "GET/M", "GET/M/WI11", "GET/M/WI88", "GET/M/WI12", "GET/J/WI88",
+    "GETI/WI88", "GET/WI88", "GET I/WI88", "GET/I/W188", "GETGET/I/WI88", "GET/I/WI12/W", "GET/I/WI331",
+    "UNDO1", "UNDO ", "UNDO/", "UNDO/1", "UNDOO", "UNDOUNDO", "UNDOKEEP", "UNDO0", "UNDO\t", "UNDO.",
+    "KEEP1", "KEEP ", "KEEP/", "KEEP/1", "KEEPP", "KEEPKEEP", "KEEPUNDO", "KEEPER", "KEEP\t", "KEEP."};
+
+static const char *const keywords[] = {"SET", "CONF", "PUT", "GET", "UNDO", "KEEP"};
+enum { KEYWORDS = sizeof keywords / sizeof *keywords };
+
+static int starts_with_keyword(const char *line)
+{
+    for (size_t i = 0; i < KEYWORDS; i++)
+        if (memcmp(line, keywords[i], strlen(keywords[i])) == 0)
+            return 1;
+    return 0;
+}
+
+static void check_keywords(void)
+{
+    /* A right line of each. */
+    static const char *const right_lines[] = {"SET/73/1", "CONF/103", "PUT/88...0+00001550 ", "GET/I/WI11", "UNDO", "KEEP"};
+    char line[120];
+
+    for (int series = 0; series < 2; series++) {
+        uint8_t start[1060];
+        series ? fresh_300() : fresh();
+        for (size_t i = 0; i < sizeof without / sizeof *without; i++)
+            if (play_all(without[i]) != TOLD(22)) {
+                printf("a line without a keyword: %s\n", without[i]);
+                failures++;
+            }
+        for (size_t i = 0; i < sizeof with_wrong_remainder / sizeof *with_wrong_remainder; i++)
+            if (play_all(with_wrong_remainder[i]) != TOLD(39)) {
+                printf("a line with a wrong remainder: %s\n", with_wrong_remainder[i]);
+                failures++;
+            }
+
+        /* Each keyword's beginning, and the keyword with one byte and with two after it. */
+        for (size_t k = 0; k < KEYWORDS; k++) {
+            size_t n = strlen(keywords[k]);
+            memset(line, 0, sizeof line);
+            memcpy(line, keywords[k], n);
+            for (size_t cut = 0; cut <= n; cut++) {
+                memcpy(line + cut, "\r", 1);
+                if (cut < n || k < 4)
+                    CHECK(play_in(line, cut + 1, 459) == TOLD(cut < n ? 22 : 39));
+                memcpy(line + cut, keywords[k] + cut, 1);
+            }
+            for (int b = 0; b < 256; b++) {
+                uint64_t asked = TOLD(b == '\n' || b == '\r' ? 20 : 39);
+                line[n] = (char)b;
+                line[n + 1] = '\r';
+                CHECK(play_in(line, n + 2, 459) == asked);
+                line[n + 1] = '0';
+                line[n + 2] = '\r';
+                if (k != 1 || b != '/') /* CONF/0 has a shape */
+                    CHECK(play_in(line, n + 3, 459) == asked);
+            }
+        }
+        CHECK(play("CONF/0") == 23);
+
+        /* Each byte of each right line's keyword changed; S and G make another keyword, with a wrong remainder. */
+        CHECK(play("PUT/11....+PNC0058A ") == 0);
+        memcpy(start, image, sizeof image);
+        for (size_t k = 0; k < KEYWORDS; k++) {
+            size_t n = strlen(right_lines[k]);
+            memcpy(line, right_lines[k], n);
+            line[n] = '\r';
+            CHECK(play_in(line, n + 1, 459) >> 32 == 0);
+            memcpy(image, start, sizeof image);
+            for (size_t at = 0; at < strlen(keywords[k]); at++)
+                for (int b = 0; b < 256; b++) {
+                    char old = line[at];
+                    line[at] = (char)b;
+                    if (b == '\r' || b == '\n')
+                        CHECK(play_in(line, n + 1, 459) == TOLD(20));
+                    else if (b != old)
+                        CHECK(play_in(line, n + 1, 459) == TOLD(starts_with_keyword(line) ? 39 : 22));
+                    line[at] = old;
+                }
+        }
+        CHECK(play("GET/73/1") == 39 && play("SET/I/WI11") == 39);
+
+        /* Order: 20, 21, 22, 39, then the others. */
+        memset(line, 'A', sizeof line);
+        memcpy(line, "SET", 3);
+        line[101] = '\r';
+        CHECK(play_in(line, 102, 459) == TOLD(21) && play_in(line, 101, 459) == TOLD(20));
+        line[100] = '\r';
+        CHECK(play_in(line, 101, 459) == TOLD(39));
+        line[0] = 'A';
+        CHECK(play_in(line, 101, 459) == TOLD(22));
+        CHECK(play_in("SET", 3, 459) == TOLD(20) && play_in("SET\rSET\r", 8, 459) == TOLD(20));
+        CHECK(play("SET/1/00") == 39 && play("SET/1/0") == 23 && play("CONF/1/") == 39 && play("CONF/1") == 23);
+        CHECK(play("SET/73/02") == 39 && play("SET/73/2") == 24 && play("GET/I/WI12/WI8x") == 39 && play("GET/I/WI12") == 25);
+        CHECK(play("PUT/12....+0000155") == 39 && play("PUT/12....+00001550 ") == 25 && play("GET/I/WI16/") == 39);
+        CHECK(play("KEEP") == 0 && play("UNDO ") == 39 && play("UNDO") == 29);
+        for (int i = 0; i < 64; i++)
+            CHECK(play(series ? "SET/73/0" : "SET/73/1") == 0);
+        CHECK(play("SET/73/01") == 39 && play("SET/73/1") == 28 && play("PUT/88...0+00001550") == 39 && play("SETTLE") == 39);
+        /* 30 replaces either. */
+        CHECK(play_in("SETTLE\r", 7, series ? 5 : 6) == ANSWER(30, 0) && play_in("SETTLE\r", 7, 7) == TOLD(39));
+        CHECK(play_in("settle\r", 7, series ? 5 : 6) == ANSWER(30, 0) && play_in("settle\r", 7, 7) == TOLD(22));
+    }
+    fresh_300();
+    CHECK(play("SET/90/00") == 39 && play("SET/90/0") == 38 && play("SET/090/0") == 39);
+    fresh();
+}
+
 int main(void)
 {
     check_proved_blocks();
@@ -1511,6 +2153,8 @@ int main(void)
     check_writer();
     check_levels();
     check_minus_nought();
+    check_places();
+    check_every_place();
     check_proved_lines();
     check_line_slips();
     check_states();
@@ -1520,6 +2164,8 @@ int main(void)
     check_lines_300();
     check_states_300();
     check_sheets_300();
+    check_put_places();
+    check_keywords();
     if (failures == 0)
         printf("ok\n");
     return failures != 0;

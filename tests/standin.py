@@ -16,6 +16,7 @@ CR = b"\r"
 CRLF = b"\r\n"
 WRONG = b"@W127\r\n"
 DONE = b"?\r\n"
+USAGE = b"usage: standin [--why] [TPS100 | TPS300 | SHEET]\n"
 
 checks = 0
 
@@ -248,9 +249,11 @@ def sheets(folder):
     missing = os.path.join(folder, "none")
     check("a sheet file that is missing", (b"", f"standin: {missing}: No such file or directory\n".encode()), run([missing], ask))
     check("a folder for a sheet file", (b"", f"standin: {folder}: Is a directory\n".encode()), run([folder], ask))
-    usage = b"usage: standin [TPS100 | TPS300 | SHEET]\n"
-    check("two arguments", (b"", usage), run([missing, missing], ask))
-    check("a series and a sheet file", (b"", usage), run(["TPS300", missing], ask))
+    for arguments in [
+        *[[missing, missing], ["TPS300", missing], ["--why", "TPS300", missing], ["TPS300", missing, "--why"], ["--why", "--why"]],
+        *[["--help"], ["--when"], ["--why", "--help"], ["--whyever"]],
+    ]:
+        check(f"the arguments {arguments}", (b"", USAGE), run(arguments, ask))
 
 
 # A TPS300's settings, from their lowest to their highest parameter; the factory's is the lowest.
@@ -380,6 +383,43 @@ def noughts(folder):
     s.hang_up()
 
 
+def why(folder):
+    """Why each line was refused, on standard error: its number, the refusal's, of a PUT word the rule and the byte, and the line with a caret."""
+    lines = b"SET/40/2\rPUT/83...0+00000001 \rSET/40/3\rPUT/83...0+000A5320 \r\nUNDO\r"
+    replies = DONE * 2 + WRONG * 2 + DONE
+    said = (
+        b"line=3 refused=24\nSET/40/3\n"
+        b"line=4 refused=26 which=8 byte=14\nPUT/83...0+000A5320 \n              ^\n"
+    )
+    check("standin without --why", (replies, b""), run([], lines))
+    check("standin --why", (replies, said), run(["--why"], lines))
+    check("standin --why TPS100", (replies, said), run(["--why", "TPS100"], lines))
+    check("standin TPS100 --why", (replies, said), run(["TPS100", "--why"], lines))
+    check("--why with a sheet file", (replies, said), run(["--why", file(folder, "why", example_sheet())], lines))
+    check("--why with a TPS300", (b"@W127\r", b"line=1 refused=38\nSET/90/1\n"), run(["TPS300", "--why"], b"SET/90/1\r"))
+    check("a file named --why", (replies, b""), run([file(folder, "--why", example_sheet())], lines))
+
+    # each refusal; the byte of 26 counts from the line's start, and the others tell none
+    full = b"SET/30/1\r" * 64
+    for before, line, told in [
+        *[(b"", b"SET/30\n/1", b"20"), (b"", b"A" * 101, b"21"), (b"", b"", b"22"), (b"", b"set/30/1", b"22"), (b"", b"UND", b"22")],
+        *[(b"", b"UNDO1", b"39"), (b"", b"SETTLE", b"39"), (b"", b"GET/M/WI11", b"39"), (b"", b"PUT/83...0+00000001", b"39")],
+        *[(b"", b"SET/33/0", b"23"), (b"", b"CONF/33", b"23"), (b"", b"PUT/82...0+00000001 ", b"25"), (b"", b"GET/I/WI88", b"27")],
+        *[(full, b"SET/30/1", b"28"), (b"", b"UNDO", b"29")],
+        *[(b"", b"PUT/83x..0+00000001 ", b"26 which=6 byte=6"), (b"", b"PUT/83..10+00000001 ", b"26 which=6 byte=8")],
+        *[(b"", b"PUT/83...2+00000001 ", b"26 which=6 byte=9"), (b"", b"PUT/11....-00000001 ", b"26 which=7 byte=10")],
+        *[(b"", b"PUT/83...0+0000000x ", b"26 which=8 byte=18"), (b"", b"PUT/83...0+00000001,", b"26 which=9 byte=19")],
+        *[(b"", b"PUT/21...2-40000000 ", b"26 which=10 byte=11"), (b"", b"PUT/16....+\x07bc\xc8efgh ", b"26 which=8 byte=11")],
+    ]:
+        number = before.count(b"\r") + 1
+        shown = bytes(b if 32 <= b <= 126 else ord(".") for b in line)
+        caret = b" " * int(told.split(b"=")[-1]) + b"^\n" if told.startswith(b"26") else b""
+        expected = b"line=%d refused=%s\n%s\n%s" % (number, told, shown, caret)
+        check(f"why {line[:40]!r} is refused", (DONE * (number - 1) + WRONG, expected), run(["--why"], before + line + b"\r"))
+    check("an over-long line", (WRONG, b"line=1 refused=21\n" + b"A" * 101 + b"\n"), run(["--why"], b"A" * 70_000 + b"\r"))
+    check("the last line, without CR, isn't run", (DONE, b""), run(["--why"], b"SET/30/1\rSET/30/9"))
+
+
 def input_ends():
     check("a last line without CR isn't run", (b"?\r\n", b""), run([], b"SET/30/1\rCONF/30"))
     check("no input", (b"", b""), run([]))
@@ -407,6 +447,7 @@ def main():
         sheets(folder)
         tps300(folder)
         noughts(folder)
+        why(folder)
     input_ends()
     output_fails()
     print(f"standin: {checks} checks passed")

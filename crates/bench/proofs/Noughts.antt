@@ -2,14 +2,14 @@
 use mathlib.Core.Path.{refl}
 use mathlib.Core.Bool.{Bool, true, false}
 use lib.ListN.{drop}
-use Rattle.figures.specs.Bytes.{among, every, startsWith}
+use Rattle.figures.specs.Bytes.{among, every, runOf, startsWith}
 use Rattle.figures.specs.Decimal.{numberFrom, digitsOf, placesBy}
 use Rattle.blocks.specs.Judging.{blockFrom}
 use Rattle.blocks.specs.Composing.{unlessWrong, wordsBytes}
 use Rattle.instrument.specs.Rows.{seek}
 use Rattle.instrument.specs.Settings.{rows100}
 use Rattle.instrument.specs.Values.{stored}
-use Rattle.lines.specs.Shapes.{slashAt, groupsRight}
+use Rattle.lines.specs.Shapes.{groupsRight}
 use Rattle.lines.specs.Verdicts.{getVerdict}
 use Rattle.lines.specs.Replies.{getWords}
 use Rattle.lines.specs.Demand.{after}
@@ -45,5 +45,5 @@ unfolding among every numberFrom digitsOf blockFrom unlessWrong wordsBytes
 beside-noughts = ((refl, refl, refl), ((refl, refl), ((refl, refl), ((refl, refl), tt))))
 
 pub stored-noughts : Stored
-unfolding among every startsWith numberFrom digitsOf placesBy seek rows100 stored slashAt groupsRight getVerdict getWords after sheetOf linesBy partBy saidBy
+unfolding among every startsWith numberFrom digitsOf placesBy seek rows100 stored runOf groupsRight getVerdict getWords after sheetOf linesBy partBy saidBy
 stored-noughts = record { done = refl; got = refl; undone = refl; undone-first = refl; held = refl; loads = refl }

@@ -1,21 +1,21 @@
 -- The claims: every reading of document 01's table holds, and of the level's two, by computing. Assumes nothing.
 use mathlib.Core.Path.{refl}
 use lib.ListN.{drop}
-use Rattle.figures.specs.Bytes.{among, every, startsWith}
+use Rattle.figures.specs.Bytes.{among, every, runOf, startsWith}
 use Rattle.figures.specs.Decimal.{numberFrom, digitsOf}
 use Rattle.blocks.specs.Judging.{blockFrom}
 use Rattle.blocks.specs.Composing.{unlessWrong, wordsBytes}
 use Rattle.instrument.specs.Rows.{seek}
 use Rattle.instrument.specs.Settings.{rows100}
 use Rattle.instrument.specs.Values.{stored}
-use Rattle.lines.specs.Shapes.{slashAt, groupsRight}
+use Rattle.lines.specs.Shapes.{groupsRight}
 use Rattle.lines.specs.Verdicts.{getVerdict}
 use Rattle.units.specs.declared.kinds.Family.the-variants.{Station, Level}
 use Rattle.bench.specs.Readings.{All, table}
 use Rattle.bench.specs.Levels.{listing, levels}
 
 pub readings : All Station table
-unfolding among every startsWith numberFrom digitsOf blockFrom unlessWrong wordsBytes seek rows100 stored slashAt groupsRight getVerdict
+unfolding among every runOf startsWith numberFrom digitsOf blockFrom unlessWrong wordsBytes seek rows100 stored groupsRight getVerdict
 readings =
     let later : All Station (drop 9 table) =
     ((refl, refl), ((refl, refl), ((refl, refl), ((refl, refl), ((refl, refl), ((refl, refl), ((refl, refl), tt))))))) in
@@ -29,7 +29,7 @@ level-listing =
     ((refl, refl), ((refl, refl), ((refl, refl), ((refl, refl), ((refl, refl), ((refl, refl), ((refl, refl), from7)))))))
 
 pub level-readings : All Level levels
-unfolding among every numberFrom blockFrom
+unfolding among every runOf numberFrom blockFrom
 level-readings =
     let from48 : All Level (drop 48 levels) = ((refl, refl), tt) in
     let from40 : All Level (drop 40 levels) =

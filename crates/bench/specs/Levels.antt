@@ -46,19 +46,16 @@ listing =
     ∷ block "110017+00003000 573..0+00002000 574..0+00150530 83..06+00187432 " (Text ∷ mm 2000 ∷ mm 150530 ∷ tenth-mm 187432 ∷ [])
     ∷ []
 
--- a word alone that gives a count, and one that is refused
+-- a word alone that gives a count
 abbrev pub counts : String → Count → Reading
 counts w c = accepted (word w) (one 17) (c ∷ [])
 
-abbrev pub refuses : ℕ → String → Reading
-refuses number w = refused (word w) number 0
-
--- positions 1-6 before `+00000001 `: each gives the count, or each is refused
+-- positions 1-6 before `+00000001 `: each gives the count, or each is refused, by a number and at a place
 abbrev pub eachCounts : Count → List String → List Reading
 eachCounts c heads = map (λ h. accepted (codes h ++ word "+00000001 ") (one 17) (c ∷ [])) heads
 
-abbrev pub eachRefuses : ℕ → List String → List Reading
-eachRefuses number heads = map (λ h. refused (codes h ++ word "+00000001 ") number 0) heads
+abbrev pub eachRefuses : ℕ → ℕ → List String → List Reading
+eachRefuses number place heads = map (λ h. refused (codes h ++ word "+00000001 ") number place) heads
 
 abbrev pub levels : List Reading
 levels =
@@ -66,11 +63,14 @@ levels =
     -- the indexes at their edges
     ++ (eachCounts (mm 1) ("330..0" ∷ "336..0" ∷ "374..0" ∷ "571..0" ∷ "574..0" ∷ [])
     ++ (eachCounts Text ("521..." ∷ "521159" ∷ "52...." ∷ "57.159" ∷ "42...." ∷ "49.123" ∷ [])
-    ++ (eachRefuses 5 ("329..0" ∷ "337..0" ∷ "373..0" ∷ "375..0" ∷ "520..0" ∷ "522..0" ∷ "570..0" ∷ "575..0" ∷ [])
-    ++ (eachRefuses 5 ("420..." ∷ "32100." ∷ "032..0" ∷ "33.106" ∷ "21.102" ∷ "3x1106" ∷ [])
+    ++ (eachRefuses 15 0 ("329..0" ∷ "337..0" ∷ "373..0" ∷ "375..0" ∷ "520..0" ∷ "522..0" ∷ "570..0" ∷ "575..0" ∷ [])
+    ++ (eachRefuses 15 0 ("420..." ∷ "32100." ∷ "032..0" ∷ "33.106" ∷ "21.102" ∷ [])
+    ++ (eachRefuses 5 1 ("3x1106" ∷ [])
     -- positions 3-6, unit by unit
-    ++ (eachRefuses 6 ("32x.00" ∷ "110.01" ∷ "11.001" ∷ "331006" ∷ "331136" ∷ "331186" ∷ [])
-    ++ (eachRefuses 6 ("331102" ∷ "331105" ∷ "33110." ∷ "83..3." ∷ "521x.." ∷ [])
+    ++ (eachRefuses 6 2 ("32x.00" ∷ [])
+    ++ (eachRefuses 6 3 ("110.01" ∷ "11.001" ∷ "331006" ∷ "521x.." ∷ [])
+    ++ (eachRefuses 6 4 ("331136" ∷ "331186" ∷ "83..3." ∷ [])
+    ++ (eachRefuses 6 5 ("331102" ∷ "331105" ∷ "33110." ∷ [])
     ++ (eachCounts (mm 1) ("331100" ∷ [])
     ++ (eachCounts (foot 3 1) ("331111" ∷ [])
     ++ (eachCounts (tenth-mm 1) ("331126" ∷ [])
@@ -79,7 +79,7 @@ levels =
     ++ (eachCounts (inch 1) ("331.59" ∷ [])
     -- "6 and 10 by the level's rules": a level has no angle, and so no 10
     ++ (counts "331106-99999999 " (Metre (record { 0 = whole 1 99999999; 1 = 4 }))
-    ∷ refuses 7 "521...-00000001 "
-    ∷ refuses 8 "331106+0001019a "
+    ∷ refused (word "521...-00000001 ") 7 6
+    ∷ refused (word "331106+0001019a ") 8 14
     ∷ accepted (word "*331106+0000000000010198 ") (read true false 1 26) (tenth-mm 10198 ∷ [])
-    ∷ [])))))))))))))
+    ∷ []))))))))))))))))

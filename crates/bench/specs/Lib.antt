@@ -1,3 +1,4 @@
 pub mod Readings
 pub mod Levels
 pub mod Noughts
+pub mod Told

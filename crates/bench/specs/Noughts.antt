@@ -80,9 +80,9 @@ level wide =
 abbrev pub beside : List Reading
 beside =
     returned (word "51..1.+0009-000 ") (one 17) (Pair (whole 0 9) minusNought ∷ [])
-    ∷ refused (word "21.102-40000000 ") 10 0
-    ∷ refused (word "21.104-00000600 ") 10 0
-    ∷ refused (word "11....-00000000 ") 7 0
+    ∷ refused (word "21.102-40000000 ") 10 7
+    ∷ refused (word "21.104-00000600 ") 10 7
+    ∷ refused (word "11....-00000000 ") 7 6
     ∷ []
 
 -- a fresh stand-in after lines, each with its CR and 306 bytes of room, and its reply to one more

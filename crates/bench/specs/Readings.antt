@@ -20,16 +20,17 @@ use Rattle.blocks.specs.declared.answers.Answer.the-variants.{Refused, Read}
 use Rattle.blocks.specs.declared.answers.Wrote.the-variants.{Written}
 use Rattle.instrument.specs.declared.settings.Series.the-variants.{Tps100}
 use Rattle.state.specs.Entries.{factoryState}
-use Rattle.lines.specs.Verdicts.{verdictNumber}
+use Rattle.lines.specs.Verdicts.{verdictNumber, verdictWhich, verdictByte}
 use Rattle.lines.specs.Machine.{Outcome, step}
 
 -- a block that is accepted, with its width, end, words and bytes, and its words' typed counts; one that is so accepted, and written back to the same
--- bytes; one that is refused, with number and place; a line, with its number and its reply
+-- bytes; one that is refused, with number and place; a line, with its number and its reply; one that is refused, with its number, and what 26 tells
 pub data Reading : Type 0 where
   accepted : List ℕ → Answer → List Count → Reading
   returned : List ℕ → Answer → List Count → Reading
   refused : List ℕ → ℕ → ℕ → Reading
   answered : List ℕ → ℕ → List ℕ → Reading
+  tells : List ℕ → ℕ → ℕ → ℕ → Reading
 
 abbrev pub answerNumber : Answer → ℕ
 answerNumber (Read r) = 0
@@ -59,6 +60,8 @@ Holds f (returned s answer counts) =
     (reading f s .answer ≡ answer) × (map (typedOf f) (reading f s .words) ≡ counts) × (back f s ≡ record { answer = Written (length s); room = s })
 Holds f (refused s number place) = (answerNumber (reading f s .answer) ≡ number) × (answerPlace (reading f s .answer) ≡ place)
 Holds f (answered line number r) = (verdictNumber (reply line .verdict) ≡ number) × (reply line .reply ≡ r)
+Holds f (tells line number which byte) =
+    let v = reply line .verdict in (verdictNumber v ≡ number) × (verdictWhich v ≡ which) × (verdictByte v ≡ byte)
 
 -- every reading of the list holds, of an instrument of the family
 abbrev pub All : Family → List Reading → Type 0
@@ -109,12 +112,12 @@ table =
     ∷ refused (codes "\r") 3 0  -- P2
     ∷ accepted (word "*11....+000000000PNC0058 ") (read true false 1 26) (Text ∷ [])  -- P3
     ∷ accepted (word "21.102+39999999 ") (one 17) (gon 39999999 ∷ [])  -- P4
-    ∷ refused (word "21.102+40000000 ") 10 0  -- P4
+    ∷ refused (word "21.102+40000000 ") 10 7  -- P4
     ∷ accepted (word "21.104+35959599 ") (one 17) (tenth 12959999 ∷ [])  -- P5
-    ∷ refused (word "21.104+00060000 ") 10 0  -- P5
+    ∷ refused (word "21.104+00060000 ") 10 7  -- P5
     ∷ accepted (word "82..00-00213159 ") (one 17) (minus-mm 213159 ∷ [])  -- P6
     ∷ returned (word "82..00-00000000 ") (one 17) (minus-mm 0 ∷ [])  -- P6, as request 102 has it
-    ∷ refused (word "331106+00010198 ") 6 0  -- P7
+    ∷ refused (word "331106+00010198 ") 6 2  -- P7, told at its byte as request 104 has it
     ∷ line "SET/40/2" 0 "?"  -- P8
     ∷ line "SET/40/3" 24 "@W127"  -- P8
     ∷ line "SET/33/0" 23 "@W127"  -- P8

@@ -60,7 +60,7 @@ through true short full a at stop next r ws e = inl (refl, e)
 through false true full a at stop next r ws e = absurd (never (Wrong Short at) r ws e)
 through false false true a at stop next r ws e = absurd (never (NoPlace at) r ws e)
 through false false false one.Judged.Right at stop next r ws e = inr (refl, refl, refl, refl, e)
-through false false false (one.Judged.Wrong f) at stop next r ws e = absurd (never (Wrong f at) r ws e)
+through false false false (one.Judged.Wrong f byte) at stop next r ws e = absurd (never (Wrong f (at + byte)) r ws e)
 
 at-is : (b : ℕ) (rest : List ℕ) → isAt b rest ≡ true → rest ≡ b ∷ drop 1 rest
 at-is b [] e = absurd (false≢true e)

@@ -13,7 +13,9 @@ use Rattle.words.specs.Reading.{wordSize, wordOf}
 use Rattle.units.specs.declared.kinds.Family.{Family}
 use Rattle.words.specs.declared.records.Word.{Word}
 use Rattle.words.specs.declared.reading.Judged as one
+use Rattle.words.specs.declared.reading.Fault.{Fault}
 use Rattle.words.specs.declared.reading.Fault.the-variants.{Short}
+use Rattle.words.proofs.Told.{told-within}
 use Rattle.blocks.specs.declared.answers.Refusal.{Refusal}
 use Rattle.blocks.specs.declared.answers.Refusal.the-variants.{Empty, Wrong, NoWord, NoEnd, NoPlace}
 use Rattle.blocks.specs.Answers.{refusalTells}
@@ -43,9 +45,9 @@ module _ (f : Family) (places : ℕ) (P : Judgement → Type 0) (refuses : (r : 
   cond-by true j k h h′ = h
   cond-by false j k h h′ = h′ refl
 
-  after-by : (at : ℕ) (a : one.Judged) (j : Judgement) → at ≤ 769 → P j → P (afterWord at a j)
+  after-by : (at : ℕ) (a : one.Judged) (j : Judgement) → ((x : Fault) (byte : ℕ) → a ≡ one.Judged.Wrong x byte → at + byte ≤ 769) → P j → P (afterWord at a j)
   after-by at one.Judged.Right j h p = p
-  after-by at (one.Judged.Wrong fault) j h p = refuses (Wrong fault at) h
+  after-by at (one.Judged.Wrong fault byte) j h p = refuses (Wrong fault (at + byte)) (h fault byte refl)
 
   from-by : (more : ℕ) (wide : Bool) (at : ℕ) (rest : List ℕ) (ws : List Word) → at + more * 24 ≤ 769 → length ws + more ≤ 32 → length ws ≤ places
       → P (blockFrom f more wide places at rest ws)
@@ -60,7 +62,8 @@ module _ (f : Family) (places : ℕ) (P : Judgement → Type 0) (refuses : (r : 
       let later = drop (wordSize wide) rest in
       let one-more : length (ws ++ (w ∷ [])) ≡ length ws + 1 = length-append ws (w ∷ []) in
       let free = leb-false places (length ws) e in
-      after-by at (wordOf f wide rest .answer) (blockFrom f more wide places next later (ws ++ (w ∷ []))) (omega arith)
+      after-by at (wordOf f wide rest .answer) (blockFrom f more wide places next later (ws ++ (w ∷ [])))
+      (λ x byte told. omega (arith, told-within f wide rest x byte told, size-le wide))
       (from-by more wide next later (ws ++ (w ∷ [])) (omega (arith, size-le wide)) (omega arith) (omega (arith, free))))))
 
   pub judged-by : (s : List ℕ) → P (judged f s places)

@@ -1,5 +1,5 @@
--- A block that a word's fault refuses: what stands at the place told has that fault. "10 now means angle out of range alone" (request 102): what stands
--- there is such an angle, and a level's block, which has none, is never refused so.
+-- A block that a word's fault refuses: one of its words has that fault, and the byte told is that word's. "10 now means angle out of range alone"
+-- (request 102): what is told is the first data byte of such an angle, and a level's block, which has none, is never refused so.
 use Prim.Native.Nat.{ℕ, zero, suc, _+_}
 use mathlib.Core.Path.{_≡_, refl, ap, _∙_}
 use mathlib.Core.Bool.{Bool, true, false, cond}
@@ -28,10 +28,10 @@ use Rattle.blocks.specs.declared.answers.Answer.{Answer}
 use Rattle.blocks.specs.declared.answers.Answer.the-variants.{Refused, Read}
 
 module _ (f : Family) (wide : Bool) (s : List ℕ) where
-  -- where a word's fault refuses, the word at that place has it
+  -- where a word's fault refuses, a word has it, and tells the byte
   abbrev Own : Refusal → Type 0
   Own Empty = Unit {0}
-  Own (Wrong x at) = wordOf f wide (drop at s) .answer ≡ one.Judged.Wrong x
+  Own (Wrong x at) = (start byte : ℕ) × (at ≡ start + byte) × (wordOf f wide (drop start s) .answer ≡ one.Judged.Wrong x byte)
   Own NoWord = Unit {0}
   Own (NoEnd at) = Unit {0}
   Own (NoPlace at) = Unit {0}
@@ -53,19 +53,19 @@ module _ (f : Family) (wide : Bool) (s : List ℕ) where
   from-here (suc more) places at rest ws is =
       let size = wordSize wide in
       let later = from-here more places (at + size) (drop size rest) (ws ++ (wordOf f wide rest .word ∷ [])) (ap (drop size) is ∙ drop-drop size at s) in
-      let short : ltb (length rest) size ≡ true → wordOf f wide rest .answer ≡ one.Judged.Wrong Short = λ e.
+      let short : ltb (length rest) size ≡ true → wordOf f wide rest .answer ≡ one.Judged.Wrong Short 0 = λ e.
       rw (lt-leb size (length rest) (ltb-true (length rest) size e)) in
       either (isAt 13 rest) _ _ (λ _. tt)
-      (either (ltb (length rest) size) _ _ (λ e. rw (← is) (short e))
+      (either (ltb (length rest) size) _ _ (λ e. (at, 0, omega arith, rw (← is) (short e)))
       (either (leb places (length ws)) _ _ (λ _. tt) (by-answer (wordOf f wide rest .answer) (rw (← is)) _ later)))
     where
       by-answer : (a : one.Judged) → wordOf f wide (drop at s) .answer ≡ a → (next : Judgement) → Sound (next .answer) → Sound (afterWord at a next .answer)
       by-answer one.Judged.Right e next later = later
-      by-answer (one.Judged.Wrong x) e next later = e
+      by-answer (one.Judged.Wrong x byte) e next later = (at, byte, refl, e)
 
--- refusals 2 and 5 to 10 are those of the word at the place told
+-- refusals 2, 5 to 10 and 15 are those of a word, and tell the byte that the word's own refusal does
 pub own-fault : (f : Family) (s : List ℕ) (places : ℕ) (x : Fault) (at : ℕ) → judged f s places .answer ≡ Refused (Wrong x at)
-    → wordOf f (isWide s) (drop at s) .answer ≡ one.Judged.Wrong x
+    → (start byte : ℕ) × (at ≡ start + byte) × (wordOf f (isWide s) (drop start s) .answer ≡ one.Judged.Wrong x byte)
 own-fault f s places x at is =
     let start = firstAt (isWide s) in
     let sound : Sound f (isWide s) s (judged f s places .answer) =
@@ -75,9 +75,10 @@ own-fault f s places x at is =
 
 -- refused by 10, a block is so by one of its words
 ten-own : (f : Family) (s : List ℕ) (places : ℕ) (r : Refusal) → judged f s places .answer ≡ Refused r → refusalNumber r ≡ 10
-    → (x : Fault) × (faultNumber x ≡ 10) × (wordOf f (isWide s) (drop (refusalTells r) s) .answer ≡ one.Judged.Wrong x)
+    → (x : Fault) × (faultNumber x ≡ 10)
+    × (start byte : ℕ) × (refusalTells r ≡ start + byte) × (wordOf f (isWide s) (drop start s) .answer ≡ one.Judged.Wrong x byte)
 ten-own f s places Empty is ten = absurd (omega arith)
-ten-own f s places (Wrong x at) is ten = (x, ten, own-fault f s places x at is)
+ten-own f s places (Wrong x at) is ten = let (start, byte, told, own) = own-fault f s places x at is in (x, ten, start, byte, told, own)
 ten-own f s places NoWord is ten = absurd (omega arith)
 ten-own f s places (NoEnd at) is ten = absurd (omega arith)
 ten-own f s places (NoPlace at) is ten = absurd (omega arith)
@@ -85,14 +86,16 @@ ten-own f s places Count is ten = absurd (omega arith)
 ten-own f s places (Record at) is ten = absurd (omega arith)
 ten-own f s places (Room bytes) is ten = absurd (omega arith)
 
+-- an angle out of its range, and its first data byte
 pub block-ten : (f : Family) (s : List ℕ) (places : ℕ) (r : Refusal) → judged f s places .answer ≡ Refused r → refusalNumber r ≡ 10
-    → let word = drop (refusalTells r) s in
-    (kindAt f word ≡ Angle) × (isCounted (angleAt (pos 6 word) 0 (numberOf (dataIn (isWide s) word))) ≡ false)
+    → (start : ℕ) × (refusalTells r ≡ start + 7)
+    × (let word = drop start s in (kindAt f word ≡ Angle) × (isCounted (angleAt (pos 6 word) 0 (numberOf (dataIn (isWide s) word))) ≡ false))
 block-ten f s places r is ten =
-    let (x, of, own) = ten-own f s places r is ten in
-    ten-angle f (isWide s) (drop (refusalTells r) s) x own of
+    let (x, of, start, byte, told, own) = ten-own f s places r is ten in
+    let (angle, out, seven) = ten-angle f (isWide s) (drop start s) x byte own of in
+    (start, omega arith, (angle, out))
 
 pub level-other : (s : List ℕ) (places : ℕ) (r : Refusal) → judged Level s places .answer ≡ Refused r → refusalNumber r ≡ 10 → ⊥
 level-other s places r is ten =
-    let (x, of, own) = ten-own Level s places r is ten in
-    level-ten (isWide s) (drop (refusalTells r) s) x own of
+    let (x, of, start, byte, told, own) = ten-own Level s places r is ten in
+    level-ten (isWide s) (drop start s) x byte own of

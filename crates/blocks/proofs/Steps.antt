@@ -97,7 +97,7 @@ went-more true u v ended more r s at o a = refl
 went-more false true v ended more r s at o a = refl
 went-more false false true ended more r s at o a = refl
 went-more false false false ended more r s at o one.Judged.Right = refl
-went-more false false false ended more r s at o (one.Judged.Wrong fault) = refl
+went-more false false false ended more r s at o (one.Judged.Wrong fault byte) = refl
 
 module _ (f : Family) (wide : Bool) (places n at : ℕ) (rest : List ℕ) (ws : List Word) (h : n ≤ 32) (hn : length ws ≡ n) where
   abbrev pub done : Judgement
@@ -153,7 +153,7 @@ ended-told false true v x at o a e = apart cc
 ended-told false false true x at o a e = apart cc
 ended-told false false false true at o a e = apart cc
 ended-told false false false false at o one.Judged.Right e = apart cc
-ended-told false false false false at o (one.Judged.Wrong fault) e = apart cc
+ended-told false false false false at o (one.Judged.Wrong fault byte) e = apart cc
 
 gone-told : (t u v x : Bool) (at : ℕ) (o : OneWord) (a : one.Judged) → steppedBy t u v x at o a .next ≡ Goes → (u ≡ false) × (v ≡ false)
 gone-told true u v x at o a e = apart cc

@@ -39,13 +39,13 @@ abbrev pub endedAt : Bool → ℕ → List ℕ → ℕ → Answer
 endedAt wide at rest n =
     Read (record { wide = wide; crlf = isAt 10 (drop 1 rest); words = n; used = cond (isAt 10 (drop 1 rest)) (at + 2) (at + 1) })
 
--- a word that was read is followed by what comes next, and a wrong one refuses the block
+-- a word that was read is followed by what comes next, and a wrong one refuses the block, telling its byte in the input
 abbrev pub afterWord : ℕ → one.Judged → Judgement → Judgement
 afterWord at one.Judged.Right next = next
-afterWord at (one.Judged.Wrong fault) next = refusedBy (Wrong fault at)
+afterWord at (one.Judged.Wrong fault byte) next = refusedBy (Wrong fault (at + byte))
 
 -- the block from a place on where a word would start, when `more` words may still come and the words before it are ws:
--- "Where a word would start the order is CR, 4, 2, 11, then 5 to 10 in order."
+-- "Where a word would start the order is CR, 4, 2, 11, then 5 to 10 in order", with 15 right after 5 (request 104)
 unfoldable pub blockFrom : Family → ℕ → Bool → ℕ → ℕ → List ℕ → List Word → Judgement
 blockFrom f zero wide places at rest ws = cond (isAt 13 rest) (record { answer = endedAt wide at rest (length ws); words = ws }) (refusedBy (NoEnd at))
 blockFrom f (suc more) wide places at rest ws =

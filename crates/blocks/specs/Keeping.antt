@@ -1,5 +1,5 @@
 -- How the code keeps what the other files define: records by value, a step of the walk through a block, and a block as it is composed.
-use Prim.Native.Nat.{ℕ}
+use Prim.Native.Nat.{ℕ, _+_}
 use mathlib.Core.Bool.{Bool, cond}
 use mathlib.Core.List.{List, _++_}
 use lib.Dec.{leb, ltb, eqb}
@@ -39,7 +39,7 @@ stopsBy r = record { next = Stops r; word = blank }
 
 abbrev pub stepOf : ℕ → OneWord → one.Judged → Stepped
 stepOf at o one.Judged.Right = record { next = Goes; word = o .word }
-stepOf at o (one.Judged.Wrong fault) = stopsBy (Wrong fault at)
+stepOf at o (one.Judged.Wrong fault byte) = stopsBy (Wrong fault (at + byte))
 
 -- `block-walk`, in proofs/Steps.antt, shows that this is the order of `blockFrom`
 abbrev pub nextOf : Family → Bool → ℕ → ℕ → ℕ → List ℕ → Stepped

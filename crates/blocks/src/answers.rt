@@ -4,7 +4,7 @@ ghost use Rattle.blocks.specs.Answers.{refusalNumber, refusalTells};
 use words::reading::Fault;
 use words::reading::fault_number;
 
-// Why a block or a list is refused. Wrong is one word's fault, with the word's start.
+// Why a block or a list is refused. Wrong is one word's fault, with the byte that it tells.
 pub enum Refusal {
     Empty,
     Wrong(Fault, usize),
@@ -35,7 +35,7 @@ pub enum Wrote {
     Written(usize),
 }
 
-// The number that document 01 has for a refusal.
+// The number that the rules have for a refusal.
 pub fn refusal_number(refusal: Refusal) -> u64
     ensures { λ r. ⌜ r ≡ refusalNumber refusal ⌝ }
 {

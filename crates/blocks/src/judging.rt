@@ -108,7 +108,7 @@ fn step(s: &[u8], family: Family, wide: bool, at: usize, count: usize, places: u
     let answer = one.answer;
     let word = one.word;
     match answer {
-        Judged::Wrong(fault) => stops(Refusal::Wrong(fault, at)),
+        Judged::Wrong(fault, byte) => stops(Refusal::Wrong(fault, at + byte)),
         Judged::Right => {
             let next = Next::Goes;
             Stepped {

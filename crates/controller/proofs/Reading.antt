@@ -1,25 +1,26 @@
 -- What a controller reads in the reply to a GET: the records of its indexes, whatever the width.
 use Prim.Native.Nat.{ℕ, zero, suc, _+_, _≤_}
 use mathlib.Core.Path.{_≡_, refl, sym, ap, subst, _∙_}
-use mathlib.Core.Bool.{Bool, true, false, cond, _&&_}
+use mathlib.Core.Bool.{Bool, true, false, cond}
 use mathlib.Core.List.{List, [], _∷_, _++_, append-assoc}
 use native.Mathlib.Nat.{zero-add}
 use native.Mathlib.Omega.{arith}
-use borrow.Author.Tests.{ne-eqb, leb-true, ltb-true}
-use lib.Dec.{eqb, leb, ltb}
-use lib.ListN.{length, getD, take, drop, length-drop}
+use borrow.Author.Tests.{ne-eqb, leb-true}
+use lib.Dec.{eqb, leb}
+use lib.ListN.{length, getD, drop, length-drop}
 use lib.Seq.{getD-set-same}
 use Rattle.figures.specs.Text.{codes, endBytes}
-use Rattle.figures.specs.Bytes.{every, startsWith, sameBytes}
+use Rattle.figures.specs.Bytes.{every, startsWith}
 use Rattle.figures.specs.Decimal.{isDigit}
 use Rattle.figures.proofs.Bytes.{within-bounds}
-use Rattle.figures.proofs.Tests.{both}
 use Rattle.units.specs.Kinds.{indexOf}
 use Rattle.words.specs.Reading.{pos, wordOf}
+use Rattle.words.specs.declared.reading.Judged.{Judged}
+use Rattle.words.specs.declared.reading.Judged.the-variants.{Right, Wrong}
 use Rattle.units.specs.declared.kinds.Family.the-variants.{Station}
 use Rattle.blocks.specs.Judging.{Judgement, judged}
 use Rattle.blocks.specs.Rules.{readAs, readingOf}
-use Rattle.instrument.specs.Values.{isPut, keptRight, putRight, putKept}
+use Rattle.instrument.specs.Values.{isPut, keptRight, putJudged, isRightWord, putRight, putKept}
 use Rattle.instrument.specs.declared.settings.Found.{Found}
 use Rattle.instrument.specs.declared.settings.Found.the-variants.{Nothing, At}
 use Rattle.instrument.specs.declared.values.Kept.{Kept}
@@ -27,18 +28,17 @@ use Rattle.instrument.specs.declared.values.Kept.the-variants.{Never}
 use Rattle.instrument.specs.declared.values.Value.{Value}
 use Rattle.state.specs.Entries.{valueOf, isState, valuesRight}
 use Rattle.state.specs.declared.entries.State.{State}
-use Rattle.lines.specs.Shapes.{textOf, isPlain, isEnded, slashAt, numberRight, groupsRight, groupsIn, orderOf}
-use Rattle.lines.specs.Shapes.{set-slash, conf-slash, put-slash, get-i, undo-word, keep-word}
-use Rattle.lines.specs.Verdicts.{isAccepted, fullVerdict, placeNamed, putVerdict, valueHeld, getBy, getVerdict, orderVerdict, lineVerdict}
+use Rattle.lines.specs.Shapes.{textOf, isPlain, isEnded, groupsRight, groupsIn, orderOf}
+use Rattle.lines.specs.Verdicts.{isAccepted, placeNamed, afterWord, putVerdict, valueHeld, getBy, getVerdict, orderVerdict, lineVerdict}
 use Rattle.lines.specs.Orders.{putOf, putNamed, doneOf}
 use Rattle.lines.specs.Replies.{endsLf, isWide, star, getWords, replyEnd, replyOf}
 use Rattle.lines.specs.Machine.{Outcome, run}
 use Rattle.lines.specs.declared.shapes.Order.{Order}
-use Rattle.lines.specs.declared.shapes.Order.the-variants.{Not, Set, Conf, Put, Get, Undo, Keep}
+use Rattle.lines.specs.declared.shapes.Order.the-variants.{Not, Set, Conf, Put, Get, Undo, Keep, Unknown}
 use Rattle.lines.specs.declared.verdicts.Verdict.{Verdict}
-use Rattle.lines.specs.declared.verdicts.Verdict.the-variants.{Accepted, Word, NeverPut}
+use Rattle.lines.specs.declared.verdicts.Verdict.the-variants.{Accepted, NeverPut}
 use Rattle.lines.proofs.Parts.{parts, values-at}
-use Rattle.lines.proofs.Shape.{order-put, order-get, groups-length}
+use Rattle.lines.proofs.Shape.{order-by, order-put, order-get, groups-length}
 use Rattle.lines.proofs.Lookups.{value-found, named}
 use Rattle.lines.proofs.Runs as runs
 use Rattle.lines.proofs.Runs.{PutRuns, put-runs}
@@ -106,27 +106,10 @@ Says t Put = Unit {0}
 Says t Get = 1 ≤ length (drop 5 t)
 Says t Undo = Unit {0}
 Says t Keep = Unit {0}
-
-either : (P : Order → Type 0) (b : Bool) (x y : Order) → (b ≡ true → P x) → P y → P (cond b x y)
-either P true x y px py = px refl
-either P false x y px py = py
-
-order-says : (t : List ℕ) → Says t (orderOf t)
-order-says t =
-    let P = Says t in
-    let s = drop 4 t in
-    let k = slashAt s in
-    let g = drop 5 t in
-    either P (startsWith set-slash t) _ _
-    (λ _. either P (ltb k (length s) && (numberRight (take k s) && numberRight (drop (k + 1) s))) _ _ (λ _. tt) tt)
-    (either P (startsWith conf-slash t) _ _ (λ _. either P (numberRight g) _ _ (λ _. tt) tt)
-    (either P (startsWith put-slash t) _ _ (λ _. either P (eqb (length t) 20) _ _ (λ _. tt) tt)
-    (either P (startsWith get-i t) _ _
-    (λ _. either P (ltb 0 (length g) && groupsRight (groupsIn g) g) _ _ (λ e. ltb-true 0 (length g) (both (ltb 0 (length g)) _ e .0)) tt)
-    (either P (sameBytes t undo-word) _ _ (λ _. tt) (either P (sameBytes t keep-word) _ _ (λ _. tt) tt)))))
+Says t Unknown = Unit {0}
 
 get-some : (t : List ℕ) → orderOf t ≡ Get → 1 ≤ length (drop 5 t)
-get-some t e = subst (Says t) e (order-says t)
+get-some t e = subst (Says t) e (order-by (Says t) t tt tt (λ _ n p. tt) (λ n. tt) (λ _ _. tt) (λ _ groups. groups .0) (λ _. tt) (λ _. tt))
 
 -- the groups of a GET of at most a hundred characters: one to nineteen
 get-few : (t : List ℕ) → orderOf t ≡ Get → length t ≤ 100 → (1 ≤ groupsIn (drop 5 t)) × (groupsIn (drop 5 t) ≤ 19)
@@ -216,11 +199,11 @@ ask-accepted s a b crlf p q i found is =
     rw (ask-ended a b crlf p q, ask-text a b crlf, ask-order a b p q) judge
 
 put-right : (count : ℕ) (b : List ℕ) (i : ℕ) → placeNamed (pos 1 b) (pos 2 b) ≡ At i → putVerdict count b ≡ Accepted → putRight i b ≡ true
-put-right count b i found e = by (putRight i b) (rw found at e)
+put-right count b i found e = by (putJudged i b) (rw found at e)
   where
-    by : (r : Bool) → cond r (fullVerdict count) Word ≡ Accepted → r ≡ true
-    by true e = refl
-    by false e = let z : _≡_ {A = ℕ} 0 1 = cc in absurd (omega arith)
+    by : (j : Judged) → afterWord count j ≡ Accepted → isRightWord j ≡ true
+    by Right e = refl
+    by (Wrong x at) e = let z : _≡_ {A = ℕ} 0 1 = cc in absurd (omega arith)
 
 module _ (s : State) (is : isState s ≡ true) (line : List ℕ) (v : lineVerdict s line ≡ Accepted) (o : orderOf (textOf line) ≡ Put) where
   abbrev t : List ℕ

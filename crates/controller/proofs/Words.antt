@@ -14,7 +14,7 @@ use Rattle.figures.specs.Decimal.{isDigit, numberFrom, numberOf}
 use Rattle.figures.proofs.Bytes.{within-bounds}
 use Rattle.figures.proofs.Tests.{both, by-test, Even, along}
 use Rattle.units.specs.Kinds.{stationKind, isListed, isTextual}
-use Rattle.units.specs.Information.{stationInfo, signByte, signRight}
+use Rattle.units.specs.Information.{stationMarks, allRight, signByte, signRight}
 use Rattle.units.specs.Counts.{whole, zeroWhole, degrees, minutes, seconds, tenthsOf, counted, angleAt, lengthOf, valueAt, firstOf, secondOf}
 use Rattle.units.proofs.Positions.{tensOf, onesOf, index-on, index-below, tens-digit, ones-digit, sign-on, sign-right}
 use Rattle.words.specs.Records.{width, isGraphic, isRight, recordOf}
@@ -88,16 +88,20 @@ length-sized u m n high =
     let size : whole m n ≡ whole m (sizeIn u n) = rw (ne-eqb u 52 (λ e. omega arith)) in
     record { count = lengthOf u x; counts = refl; first = plain .0 ∙ size; second = plain .1 }
 
+-- a total station's word has such a unit, after dots and that mode
+abbrev informs : Kind → ℕ → ℕ → Bool
+informs k mode u = allRight (stationMarks k 46 46 mode u)
+
 -- GET answers mode 1 for a number, and a PUT has a dot there
 abbrev modeIn : Bool → Stored → ℕ
 modeIn get r = cond (eqb (r .1) 46) 46 (cond get 49 46)
 
-length-units : (get : Bool) → Even (stationInfo kind.Length 46 46 (cond get 49 46)) true 48 50
+length-units : (get : Bool) → Even (informs kind.Length (cond get 49 46)) true 48 50
 unfolding among
 length-units true = refl
 length-units false = refl
 
-angle-units : (get : Bool) → Even (stationInfo kind.Angle 46 46 (cond get 49 46)) true 50 53
+angle-units : (get : Bool) → Even (informs kind.Angle (cond get 49 46)) true 50 53
 unfolding among
 angle-units true = refl
 angle-units false = refl
@@ -156,20 +160,20 @@ module _ (get wide : Bool) (u m : ℕ) (d : Eight) (small : m ≤ 1) where
 
   -- a value that the row holds
   abbrev Reads : Stored → Type 0
-  Reads r = r .1 ≤ u → u ≤ r .2 → heldBy r u m (eightBytes d) ≡ true → wordBy Station (places r) ≡ rightWord (rowGiven r)
+  Reads r = r .1 ≤ u → u ≤ r .2 → heldBy r u m (eightBytes d) ≡ true → wordBy Station wide (places r) ≡ rightWord (rowGiven r)
 
   abbrev Units : Stored → Type 0
-  Units r = Even (stationInfo (stationKind (r .0)) 46 46 (modeIn get r)) true (r .1) (suc (r .2))
+  Units r = Even (informs (stationKind (r .0)) (modeIn get r)) true (r .1) (suc (r .2))
 
   row-reads : (r : Stored) (c : Count) → isListed (stationKind (r .0)) ≡ true → Units r → r .1 ≤ u → u ≤ r .2
       → signRight (stationKind (r .0)) (signByte m) ≡ true → dataRight (stationKind (r .0)) letters ≡ true
       → valueAt (stationKind (r .0)) (r .0) u m (figuresIn (stationKind (r .0)) letters) ≡ Counted c
       → recordOf (r .0) (info r) c (textField (stationKind (r .0)) letters) ≡ rowGiven r
-      → wordBy Station (places r) ≡ rightWord (rowGiven r)
+      → wordBy Station wide (places r) ≡ rightWord (rowGiven r)
   row-reads r c listed units low high sign right value same =
       let i = r .0 in
       let k = stationKind i in
-      let informed = sym (along (stationInfo k 46 46 (modeIn get r)) (r .1) (suc (r .2)) units low (omega arith)) in
+      let informed = sym (along (informs k (modeIn get r)) (r .1) (suc (r .2)) units low (omega arith)) in
       rw (index-on i (index-below i listed), tens-digit i, ones-digit i, listed, sign-on m small, informed, sign, right, value) (ap rightWord same)
 
   by-text : (r : Stored) → isListed (stationKind (r .0)) ≡ true → Units r → isTextual (stationKind (r .0)) ≡ true → eqb (r .1) 46 ≡ true → Reads r

@@ -1,7 +1,7 @@
 -- Laws of byte strings: what every byte is, a string laid down in a room part by part, a string at the start of another.
 use Prim.Native.Nat.{ℕ, suc, _+_, _-_, _<_, _≤_}
 use mathlib.Core.Path.{_≡_, refl, sym, ap, _∙_}
-use mathlib.Core.Bool.{Bool, true, false, _&&_, false≢true, and-eq-true-iff}
+use mathlib.Core.Bool.{Bool, true, false, cond, _&&_, false≢true, and-eq-true-iff}
 use mathlib.Core.List.{List, [], _∷_, _++_, append-assoc, append-nil}
 use native.Mathlib.Numerals.{add-one}
 use native.Mathlib.Omega.{arith}
@@ -10,7 +10,7 @@ use borrow.Rule.Slice.PartMut.{putMid, midOf}
 use lib.Dec.{eqb, leb}
 use lib.ListN.{length, getD, set, take, drop, drop-of-length-le, length-drop, length-append}
 use lib.Seq.{drop-cons, take-suc, set-at, append-snoc, length-take-le, take-at, drop-at, take-all, drop-drop, take-nil, take-length, drop-length}
-use Rattle.figures.specs.Bytes.{within, every, laid, startsWith, sameBytes}
+use Rattle.figures.specs.Bytes.{within, every, runOf, isOther, laid, startsWith, sameBytes}
 
 -- every byte
 
@@ -48,6 +48,58 @@ every-not p s i h e = rw (drop-cons s i 0 h, e)
 pub every-all : (p : ℕ → Bool) (s : List ℕ) (i : ℕ) → length s ≤ i → every p (drop i s) ≡ true
 unfolding every
 every-all p s i h = rw (drop-of-length-le s h)
+
+-- the run at the start, while a loop goes along it
+
+pub run-more : (p : ℕ → Bool) (s : List ℕ) (i : ℕ) → i < length s → p (getD s i 0) ≡ true → i + runOf p (drop i s) ≡ i + 1 + runOf p (drop (i + 1) s)
+unfolding runOf
+run-more p s i h e = rw (drop-cons s i 0 h, e, add-one i) (omega arith)
+
+pub run-here : (p : ℕ → Bool) (s : List ℕ) (i : ℕ) → i < length s → p (getD s i 0) ≡ false → runOf p (drop i s) ≡ 0
+unfolding runOf
+run-here p s i h e = rw (drop-cons s i 0 h, e)
+
+pub run-none : (p : ℕ → Bool) (s : List ℕ) (i : ℕ) → length s ≤ i → runOf p (drop i s) ≡ 0
+unfolding runOf
+run-none p s i h = rw (drop-of-length-le s h)
+
+pub is-other : (x b : ℕ) → (b ≡ x → ⊥) → isOther x b ≡ true
+is-other x b h = rw (ne-eqb b x h)
+
+pub not-other : (x b : ℕ) → b ≡ x → isOther x b ≡ false
+not-other x b h = rw (eq-eqb b x h)
+
+pub run-most : (p : ℕ → Bool) (s : List ℕ) → runOf p s ≤ length s
+unfolding runOf
+run-most p [] = omega arith
+run-most p (b ∷ s) = by (p b) (run-most p s)
+  where
+    by : (t : Bool) → runOf p s ≤ length s → cond t (suc (runOf p s)) 0 ≤ suc (length s)
+    by true h = omega arith
+    by false h = omega arith
+
+-- it is the whole where every byte is so, and otherwise shorter
+
+pub run-every : (p : ℕ → Bool) (s : List ℕ) → every p s ≡ true → runOf p s ≡ length s
+unfolding runOf every
+run-every p [] e = refl
+run-every p (b ∷ s) e = let parts = and-eq-true-iff (p b) (every p s) .0 e in rw (parts .0) (ap suc (run-every p s (parts .1)))
+
+pub run-other : (p : ℕ → Bool) (s : List ℕ) → every p s ≡ false → runOf p s < length s
+unfolding runOf every
+run-other p [] e = absurd (false≢true (sym e))
+run-other p (b ∷ s) e = by (p b) e (run-other p s)
+  where
+    by : (t : Bool) → t && every p s ≡ false → (every p s ≡ false → runOf p s < length s) → cond t (suc (runOf p s)) 0 < suc (length s)
+    by true h later = omega (arith, later h)
+    by false h later = omega arith
+
+pub run-all : (p : ℕ → Bool) (s : List ℕ) → eqb (runOf p s) (length s) ≡ every p s
+run-all p s = by (every p s) refl
+  where
+    by : (t : Bool) → every p s ≡ t → eqb (runOf p s) (length s) ≡ t
+    by true e = eq-eqb (runOf p s) (length s) (run-every p s e)
+    by false e = ne-eqb (runOf p s) (length s) (λ q. omega (arith, run-other p s e))
 
 -- laid down
 

@@ -1,13 +1,14 @@
 -- Promises that are equations determine what comes out; those of this crate's public functions are.
 use mathlib.Core.Path.{_≡_, sym, _∙_}
 use mathlib.Core.Bool.{Bool}
-use mathlib.Core.List.{List}
-use Prim.Native.Nat.{ℕ, _+_, min}
+use mathlib.Core.List.{List, map}
+use Prim.Native.Nat.{ℕ, _+_, _≤_, min}
 use lib.ListN.{length}
 use Rattle.figures.specs.Promises.{Determined}
-use Rattle.figures.specs.Bytes.{within, every, laid, startsWith, sameBytes}
+use Rattle.figures.specs.Bytes.{within, every, runOf, isOther, laid, startsWith, sameBytes}
 use Rattle.figures.specs.Decimal.{isDigit, numberIn, digitsOf, decimalOf}
 use Rattle.figures.specs.Rooms.{putAt, Puts}
+use Rattle.figures.specs.Pointing.{shown, caretText}
 use Rattle.figures.specs.declared.Said.{Said}
 
 -- one equation: the answer, or the one thing that is lent
@@ -42,6 +43,12 @@ put-number-determined = by-equation (ℕ × List ℕ) (List ℕ) (λ i. digitsOf
 pub all-within-determined : Determined (ℕ × ℕ × List ℕ) Bool (λ i r. r ≡ every (within (i .0) (i .1)) (i .2))
 all-within-determined = by-equation (ℕ × ℕ × List ℕ) Bool (λ i. every (within (i .0) (i .1)) (i .2))
 
+pub run-within-determined : Determined (ℕ × ℕ × List ℕ) ℕ (λ i r. (r ≡ runOf (within (i .0) (i .1)) (i .2)) × (r ≤ length (i .2)))
+run-within-determined i a b p q = p .0 ∙ sym (q .0)
+
+pub run-before-determined : Determined (ℕ × List ℕ) ℕ (λ i r. (r ≡ runOf (isOther (i .0)) (i .1)) × (r ≤ length (i .1)))
+run-before-determined i a b p q = p .0 ∙ sym (q .0)
+
 pub lay-determined : Determined (List ℕ × List ℕ) (List ℕ) (λ i room. room ≡ laid (i .0) (i .1))
 lay-determined = by-equation (List ℕ × List ℕ) (List ℕ) (λ i. laid (i .0) (i .1))
 
@@ -58,6 +65,12 @@ put-determined =
 
 pub put-decimal-determined : Determined (List ℕ × ℕ × ℕ) (ℕ × List ℕ) (λ i o. Puts (i .0) (i .1) (decimalOf (i .2)) (o .0) (o .1))
 put-decimal-determined i = put-determined (i .0, i .1, decimalOf (i .2))
+
+pub put-shown-determined : Determined (List ℕ × ℕ × List ℕ) (ℕ × List ℕ) (λ i o. Puts (i .0) (i .1) (map shown (i .2)) (o .0) (o .1))
+put-shown-determined i = put-determined (i .0, i .1, map shown (i .2))
+
+pub put-caret-determined : Determined (List ℕ × ℕ × ℕ) (ℕ × List ℕ) (λ i o. Puts (i .0) (i .1) (caretText (i .2)) (o .0) (o .1))
+put-caret-determined i = put-determined (i .0, i .1, caretText (i .2))
 
 -- `wide`, `place_of`, `figure`, `wide_index` and `wide_count`: the same number
 pub cast-determined : Determined ℕ ℕ (λ n r. r ≡ n)

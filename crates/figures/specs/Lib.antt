@@ -3,3 +3,4 @@ pub mod Bytes
 pub mod Decimal
 pub mod Rooms
 pub mod Promises
+pub mod Pointing

@@ -1,11 +1,13 @@
 // Decimal figures in bytes, and byte strings laid down or compared: what every layer above reads and writes with.
 pub mod casts;
+pub mod pointing;
 pub mod rooms;
 
 ghost use mathlib.Core.Path.{_≡_};
+ghost use Prim.Native.Nat.{_≤_};
 ghost use lib.ListN.{length};
 ghost use Rattle.figures.specs.Decimal.{numberIn, digitsOf, isDigit};
-ghost use Rattle.figures.specs.Bytes.{laid, startsWith, sameBytes, every, within};
+ghost use Rattle.figures.specs.Bytes.{laid, startsWith, sameBytes, every, runOf, isOther, within};
 use crate::casts::wide;
 
 // What digits say; Not where a byte is no digit, or there are more of them than a word can have.
@@ -56,22 +58,43 @@ pub fn put_number(n: u64, out: &mut [u8])
     }
 }
 
-// Whether every byte is from low to high.
-pub fn all_within(s: &[u8], low: u8, high: u8) -> bool
-    ensures { λ r. ⌜ r ≡ every (within low high) (now (s .entry)) ⌝ }
+// How many bytes at the start are from low to high: the place of the first that isn't, or the length.
+pub fn run_within(s: &[u8], low: u8, high: u8) -> usize
+    ensures { λ r. ⌜ (r ≡ runOf (within low high) (now (s .entry))) × (r ≤ length (now (s .entry))) ⌝ }
 {
     let mut i = 0;
     while i < s.len() {
         let b = s[i];
         if b < low {
-            return false;
+            return i;
         }
         if high < b {
-            return false;
+            return i;
         }
         i += 1;
     }
-    true
+    i
+}
+
+// Whether every byte is from low to high.
+pub fn all_within(s: &[u8], low: u8, high: u8) -> bool
+    ensures { λ r. ⌜ r ≡ every (within low high) (now (s .entry)) ⌝ }
+{
+    run_within(s, low, high) == s.len()
+}
+
+// How many bytes come before the first b: its place, or the length.
+pub fn run_before(s: &[u8], b: u8) -> usize
+    ensures { λ r. ⌜ (r ≡ runOf (isOther b) (now (s .entry))) × (r ≤ length (now (s .entry))) ⌝ }
+{
+    let mut i = 0;
+    while i < s.len() {
+        if s[i] == b {
+            return i;
+        }
+        i += 1;
+    }
+    i
 }
 
 // Writes w from the start of the room, as far as there is room; what lies beyond is as it was.

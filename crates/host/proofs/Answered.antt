@@ -1,8 +1,10 @@
--- Of a line or a sheet nothing is cut off either: a reply has at most 306 bytes, a sheet 352, and a wrong line starts at 352 at most.
-use Prim.Native.Nat.{ℕ, _+_, _≤_}
+-- Of a line or a sheet nothing is cut off either: a reply has at most 459 bytes, 26 tells at most 10 and a byte below 20, a sheet has at most 441 bytes, and
+-- a wrong line starts at 441 at most.
+use Prim.Native.Nat.{ℕ, _+_, _<_, _≤_}
 use mathlib.Core.Path.{_≡_, _∙_}
 use mathlib.Core.Bool.{true}
 use mathlib.Core.List.{List, []}
+use native.Mathlib.Nat.{mod-eq-of-lt}
 use native.Mathlib.Omega.{arith}
 use lib.Dec.{eqb, leb}
 use lib.ListN.{length, drop}
@@ -14,10 +16,11 @@ use Rattle.instrument.specs.Values.{valuesN}
 use Rattle.state.specs.Image.{seriesIn, stateIn, isImage}
 use Rattle.instrument.specs.declared.values.Value.{Value}
 use Rattle.state.proofs.Images.{image-of}
-use Rattle.lines.specs.Verdicts.{verdictNumber}
+use Rattle.lines.specs.Verdicts.{verdictWhich, verdictByte}
 use Rattle.lines.specs.Machine.{Outcome, outcome, run, step, Called, played, call}
 use Rattle.lines.specs.declared.verdicts.Verdict.the-variants.{Room}
 use Rattle.lines.proofs.Longest.{reply-most}
+use Rattle.lines.proofs.Telling.{call-tells, tells-small}
 use Rattle.sheets.specs.Answers.{sheetNumber, sheetTells}
 use Rattle.sheets.specs.Lines.{Part, wrongAt}
 use Rattle.sheets.specs.Sheet.{seriesLine, settingLine, valueLine, sheetOf, Sheet·room, sheetInRoom, writtenSheet}
@@ -95,7 +98,11 @@ pub gsi-line-whole : (image line room : List ℕ) {r : ℕ} {image′ room′ : 
     → r ≡ lineWhole (call image line room .answer)
 gsi-line-whole image line room h =
     let a = call image line room .answer in
-    h .0 ∙ packed-whole (verdictNumber (a .verdict)) (a .count) (omega (arith, line-most image line room))
+    let small = tells-small (a .verdict) (call-tells image line room) in
+    let count : a .count < 65536 = omega (arith, line-most image line room) in
+    let which : verdictWhich (a .verdict) < 256 = omega (arith, small .0) in
+    let byte : verdictByte (a .verdict) < 256 = omega (arith, small .1) in
+    h .0 ∙ rw (mod-eq-of-lt count, mod-eq-of-lt which, mod-eq-of-lt byte)
 
 sheet-whole : (a : Sheeted) → sheetTells a ≤ 441 → toldSheet a ≡ sheetWhole a
 sheet-whole a h = packed-whole (sheetNumber a) (sheetTells a) (omega arith)

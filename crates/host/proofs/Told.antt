@@ -1,7 +1,7 @@
 -- What the parts of an answer come to at most, whatever is answered.
-use Prim.Native.Nat.{ℕ, _≤_, zero-le}
+use Prim.Native.Nat.{ℕ, _%_, _<_, _≤_, zero-le}
 use mathlib.Core.Bool.{Bool, true, false}
-use native.Mathlib.Nat.{le-refl}
+use native.Mathlib.Nat.{le-refl, mod-lt}
 use native.Mathlib.Omega.{arith}
 use Rattle.words.specs.declared.reading.Fault.{Fault}
 use Rattle.words.specs.declared.reading.Fault.the-variants as fault
@@ -10,28 +10,31 @@ use Rattle.blocks.specs.declared.answers.Refusal.{Refusal}
 use Rattle.blocks.specs.declared.answers.Refusal.the-variants as refusal
 use Rattle.blocks.specs.Answers.{refusalNumber}
 use Rattle.lines.specs.declared.verdicts.Verdict.{Verdict}
-use Rattle.lines.specs.declared.verdicts.Verdict.the-variants.{Accepted, Unended, Long, Shape, Setting, ReadOnly, Parameter, Index}
+use Rattle.lines.specs.declared.verdicts.Verdict.the-variants.{Accepted, Unended, Long, Keyword, Shape, Setting, ReadOnly, Parameter, Index}
 use Rattle.lines.specs.declared.verdicts.Verdict.the-variants.{Word, NeverPut, Full, NoEntry, Room, NoState}
-use Rattle.lines.specs.Verdicts.{verdictNumber}
+use Rattle.lines.specs.Verdicts.{verdictNumber, verdictWhich, verdictByte}
+use Rattle.lines.specs.declared.machine.Told.{Told}
 use Rattle.sheets.specs.declared.answers.Sheeted.{Sheeted}
 use Rattle.sheets.specs.declared.answers.Sheeted.the-variants as sheet
 use Rattle.sheets.specs.Answers.{sheetNumber}
 use Rattle.host.specs.Answers.{bitOf}
+use Rattle.host.specs.Machine.{lineTells}
 
 pub bit-le : (on : Bool) (weight : ℕ) → bitOf on weight ≤ weight
 bit-le true weight = le-refl weight
 bit-le false weight = zero-le
 
-fault-small : (f : Fault) → faultNumber f ≤ 14
+fault-small : (f : Fault) → faultNumber f ≤ 15
 fault-small fault.Short = omega arith
 fault-small fault.Index = omega arith
+fault-small fault.Unlisted = omega arith
 fault-small fault.Information = omega arith
 fault-small fault.Sign = omega arith
 fault-small fault.Characters = omega arith
 fault-small fault.Separator = omega arith
 fault-small fault.Value = omega arith
 
-pub number-small : (r : Refusal) → refusalNumber r ≤ 14
+pub number-small : (r : Refusal) → refusalNumber r ≤ 15
 number-small refusal.Empty = omega arith
 number-small (refusal.Wrong fault at) = fault-small fault
 number-small refusal.NoWord = omega arith
@@ -41,21 +44,30 @@ number-small refusal.Count = omega arith
 number-small (refusal.Record at) = omega arith
 number-small (refusal.Room bytes) = omega arith
 
-pub verdict-small : (v : Verdict) → verdictNumber v ≤ 38
+pub verdict-small : (v : Verdict) → verdictNumber v ≤ 39
 verdict-small Accepted = omega arith
 verdict-small Unended = omega arith
 verdict-small Long = omega arith
+verdict-small Keyword = omega arith
 verdict-small Shape = omega arith
 verdict-small Setting = omega arith
 verdict-small ReadOnly = omega arith
 verdict-small Parameter = omega arith
 verdict-small Index = omega arith
-verdict-small Word = omega arith
+verdict-small (Word x at) = omega arith
 verdict-small NeverPut = omega arith
 verdict-small Full = omega arith
 verdict-small NoEntry = omega arith
 verdict-small Room = omega arith
 verdict-small NoState = omega arith
+
+-- what a line tells is below 2^32, each part in its own bits
+pub tells-below : (t : Told) → lineTells t < 4294967296
+tells-below t =
+    let count : t .count % 65536 < 65536 = mod-lt (t .count) (omega arith) in
+    let which : verdictWhich (t .verdict) % 256 < 256 = mod-lt (verdictWhich (t .verdict)) (omega arith) in
+    let byte : verdictByte (t .verdict) % 256 < 256 = mod-lt (verdictByte (t .verdict)) (omega arith) in
+    omega arith
 
 pub sheet-small : (a : Sheeted) → sheetNumber a ≤ 40
 sheet-small sheet.NoState = omega arith

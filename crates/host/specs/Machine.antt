@@ -1,5 +1,5 @@
 -- What the stand-in's C functions answer and leave: the machine's own definitions, with number and told packed.
-use Prim.Native.Nat.{ℕ, _+_, _*_}
+use Prim.Native.Nat.{ℕ, _+_, _*_, _%_}
 use mathlib.Core.Path.{_≡_}
 use mathlib.Core.Bool.{cond}
 use mathlib.Core.List.{List}
@@ -8,7 +8,7 @@ use lib.ListN.{length}
 use Rattle.instrument.specs.declared.settings.Series.{Series}
 use Rattle.state.specs.Entries.{factoryState}
 use Rattle.state.specs.Image.{imageN, imageOf}
-use Rattle.lines.specs.Verdicts.{verdictNumber}
+use Rattle.lines.specs.Verdicts.{verdictNumber, verdictWhich, verdictByte}
 use Rattle.lines.specs.Machine.{call}
 use Rattle.lines.specs.declared.machine.Told.{Told}
 use Rattle.sheets.specs.Answers.{sheetNumber, sheetTells}
@@ -17,15 +17,20 @@ use Rattle.sheets.specs.Loading.{loaded}
 use Rattle.sheets.specs.declared.answers.Sheeted.{Sheeted}
 use Rattle.host.specs.Answers.{packed}
 
+-- told of a line: reply bytes + 2^16 * which + 2^24 * byte, each in its own bits
+abbrev pub lineTells : Told → ℕ
+lineTells t = t .count % 65536 + verdictWhich (t .verdict) % 256 * 65536 + verdictByte (t .verdict) % 256 * 16777216
+
 abbrev pub toldLine : Told → ℕ
-toldLine t = packed (verdictNumber (t .verdict)) (t .count)
+toldLine t = verdictNumber (t .verdict) * 4294967296 + lineTells t
 
 abbrev pub toldSheet : Sheeted → ℕ
 toldSheet a = packed (sheetNumber a) (sheetTells a)
 
 -- the same with nothing cut off
 abbrev pub lineWhole : Told → ℕ
-lineWhole t = verdictNumber (t .verdict) * 4294967296 + t .count
+lineWhole t =
+    verdictNumber (t .verdict) * 4294967296 + (t .count + verdictWhich (t .verdict) * 65536 + verdictByte (t .verdict) * 16777216)
 
 abbrev pub sheetWhole : Sheeted → ℕ
 sheetWhole a = sheetNumber a * 4294967296 + sheetTells a

@@ -15,7 +15,7 @@ use units::kinds::Family;
 
 // The number over the low 32 bits of what is told.
 fn pack(number: u64, told: usize) -> u64
-    requires { ⌜ number ≤ 14 ⌝ }
+    requires { ⌜ number ≤ 15 ⌝ }
     ensures { λ r. ⌜ r ≡ packed number told ⌝ }
 {
     number * 4294967296 + told as u64 % 4294967296

@@ -2,25 +2,37 @@
 ghost use mathlib.Core.Path.{_≡_};
 ghost use Rattle.instrument.specs.declared.settings.Series.the-variants.{Tps100, Tps300};
 ghost use Rattle.state.specs.Image.{imageN};
-ghost use Rattle.host.specs.Machine.{toldLine, LaysFactory, CallsC};
+ghost use Rattle.host.specs.Machine.{lineTells, toldLine, LaysFactory, CallsC};
 use instrument::settings::Series;
 use lines::machine::Told;
 use lines::machine::line;
+use lines::verdicts::verdict_byte;
 use lines::verdicts::verdict_number;
+use lines::verdicts::verdict_which;
 use state::entries::factory;
 use state::image::IMAGE_100;
 use state::image::IMAGE_300;
 use state::image::encode;
 use state::image::image_size;
 
-// The answer of a line: its number, and the bytes of its reply.
+// What a line tells, each part in its own bits: the bytes of its reply, and of 26 which rule the word breaks and the byte of the line.
+fn line_tells(told: Told) -> u64
+    ensures { λ r. ⌜ r ≡ lineTells told ⌝ }
+{
+    let verdict = told.verdict;
+    let count = told.count as u64 % 65536;
+    let which = verdict_which(verdict) % 256;
+    let byte = verdict_byte(verdict) as u64 % 256;
+    count + which * 65536 + byte * 16777216
+}
+
+// The answer of a line.
 pub fn told_line(told: Told) -> u64
     ensures { λ r. ⌜ r ≡ toldLine told ⌝ }
 {
     let verdict = told.verdict;
     let number = verdict_number(verdict);
-    let count = told.count as u64;
-    number * 4294967296 + count % 4294967296
+    number * 4294967296 + line_tells(told)
 }
 
 // The length of a TPS100's image.

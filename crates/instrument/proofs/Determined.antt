@@ -6,7 +6,8 @@ use Prim.Native.Nat.{ℕ}
 use Rattle.figures.specs.Promises.{Determined}
 use Rattle.figures.proofs.Determined.{by-equation}
 use Rattle.instrument.specs.Settings.{settingNumber, rowAt, settingsN, settingPlace, factorySettings, places, inRange, inRanges}
-use Rattle.instrument.specs.Values.{storedAt, valuePlace, isPut, putRight, putKept, keptRight, getWord, widened}
+use Rattle.words.specs.declared.reading.Judged.{Judged}
+use Rattle.instrument.specs.Values.{storedAt, valuePlace, isPut, putJudged, putKept, keptRight, getWord, widened}
 use Rattle.instrument.specs.Rows.{keyBytes}
 use Rattle.instrument.specs.declared.settings.Series.{Series}
 use Rattle.instrument.specs.declared.settings.Row.{Row}
@@ -44,8 +45,8 @@ value-at-determined = by-equation ℕ Found valuePlace
 pub is-put-determined : Determined Kept Bool (λ i r. r ≡ isPut i)
 is-put-determined = by-equation Kept Bool isPut
 
-pub put-right-determined : Determined (ℕ × List ℕ) Bool (λ i r. r ≡ putRight (i .0) (i .1))
-put-right-determined = by-equation (ℕ × List ℕ) Bool (λ i. putRight (i .0) (i .1))
+pub put-judged-determined : Determined (ℕ × List ℕ) Judged (λ i r. r ≡ putJudged (i .0) (i .1))
+put-judged-determined = by-equation (ℕ × List ℕ) Judged (λ i. putJudged (i .0) (i .1))
 
 pub put-kept-determined : Determined (List ℕ) Kept (λ i r. r ≡ putKept i)
 put-kept-determined = by-equation (List ℕ) Kept putKept

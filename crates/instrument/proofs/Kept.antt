@@ -14,23 +14,24 @@ use Rattle.figures.specs.Bytes.{within, among, every}
 use Rattle.figures.specs.Decimal.{isDigit, numberOf}
 use Rattle.figures.proofs.Bytes.{within-bounds, bounds-within}
 use Rattle.figures.proofs.Tests.{by-test, Even, along}
-use Rattle.units.specs.Kinds.{stationKind, isListed, isTextual, indexOf, indexRight}
-use Rattle.units.specs.Information.{isDot, stationInfo, signByte, signOf, signRight}
+use Rattle.units.specs.Kinds.{stationKind, isListed, isTextual, indexOf, areDigits, listedBy}
+use Rattle.units.specs.Information.{isDot, stationMarks, allRight, firstWrong, signByte, signOf, signRight}
 use Rattle.units.specs.Counts.{valueAt}
 use Rattle.units.proofs.Positions.{tensOf, onesOf, index-on, index-below, tens-digit, ones-digit, sign-on, sign-right}
 use Rattle.words.specs.Records.{isGraphic}
-use Rattle.words.specs.Reading.{pos, wordOf, kindAt, dataIn, dataRight, figuresIn, countOr, isCounted, valueIn, recordIn, unless, rightWord, wordSize}
-use Rattle.words.proofs.Places.{Places, spread, rules, recordBy, word-spread}
+use Rattle.words.specs.Reading.{pos, wordOf, indexIn, kindAt, marksIn, dataIn, dataRight, figuresIn, countOr, isCounted, valueIn, recordIn, unless, rightWord, wordSize}
+use Rattle.words.proofs.Places.{Places, spread, placesIn, Tells, tellsBy, rules, recordBy, word-spread}
 use Rattle.words.proofs.Signs.{minus-as-plus}
 use Rattle.units.specs.declared.kinds.Family.the-variants.{Station}
 use Rattle.units.specs.declared.kinds.Kind.{Kind}
 use Rattle.units.specs.declared.kinds.Kind.the-variants as kind
 use Rattle.units.specs.declared.counts.Figures.the-variants.{Number}
-use Rattle.words.specs.declared.reading.Fault.the-variants.{Short}
+use Rattle.words.specs.declared.reading.Fault.{Fault}
+use Rattle.words.specs.declared.reading.Fault.the-variants.{Short, Information}
 use Rattle.words.specs.declared.reading.Judged as one
 use Rattle.words.specs.declared.reading.OneWord.{OneWord}
 use Rattle.words.specs.declared.records.Word.{Word}
-use Rattle.instrument.specs.Values.{unitsOf, stored, noStored, storedAt, isRightWord, putRight, putKept, valueWord, keptRight, eightOf, eightBytes}
+use Rattle.instrument.specs.Values.{unitsOf, stored, noStored, storedAt, isRightWord, putMarks, putRight, putKept, valueWord, keptRight, eightOf, eightBytes}
 use Rattle.instrument.specs.declared.values.Stored.{Stored}
 use Rattle.instrument.specs.declared.values.Eight.{Eight}
 use Rattle.instrument.specs.declared.values.Kept.{Kept}
@@ -50,16 +51,17 @@ elements-are zero i b h = drop-of-length-le b {i = i} (omega arith)
 elements-are (suc n) i b h = rw (drop-cons b i 0 (omega arith), elements-are n (suc i) b (omega arith))
 
 -- what a word that is read has at 7 and 16
-read-parts : (long index info sign chars blank counted : Bool) (w : Word)
-    → isRightWord (unless long Short (rules index info sign chars blank counted (rightWord w)) .answer) ≡ true
+read-parts : (t : Tells) (long digits listed info sign chars blank counted : Bool) (w : Word)
+    → isRightWord (unless long Short 0 (rules t digits listed info sign chars blank counted (rightWord w)) .answer) ≡ true
     → (sign ≡ true) × (blank ≡ true)
-read-parts false index info sign chars blank counted w e = absurd (false≢true e)
-read-parts true false info sign chars blank counted w e = absurd (false≢true e)
-read-parts true true false sign chars blank counted w e = absurd (false≢true e)
-read-parts true true true false chars blank counted w e = absurd (false≢true e)
-read-parts true true true true false blank counted w e = absurd (false≢true e)
-read-parts true true true true true false counted w e = absurd (false≢true e)
-read-parts true true true true true true counted w e = (refl, refl)
+read-parts t false digits listed info sign chars blank counted w e = absurd (false≢true e)
+read-parts t true false listed info sign chars blank counted w e = absurd (false≢true e)
+read-parts t true true false info sign chars blank counted w e = absurd (false≢true e)
+read-parts t true true true false sign chars blank counted w e = absurd (false≢true e)
+read-parts t true true true true false chars blank counted w e = absurd (false≢true e)
+read-parts t true true true true true false blank counted w e = absurd (false≢true e)
+read-parts t true true true true true true false counted w e = absurd (false≢true e)
+read-parts t true true true true true true true counted w e = (refl, refl)
 
 sign-byte : (k : Kind) (b : ℕ) → signRight k b ≡ true → signByte (signOf b) ≡ b
 sign-byte k b e = go (eqb b 43) (eqb b 45) (not (isTextual k)) refl refl e
@@ -93,13 +95,13 @@ abbrev partsRight : Kind → ℕ → ℕ → ℕ → List ℕ → Bool
 partsRight k i u m l = signRight k (signByte m) && (dataRight k l && isCounted (valueAt k i u m (figuresIn k l)))
 
 -- a word whose index, information and blank are right
-rules-read : (info sign letters value : Bool) (w : Word) → info ≡ true
-    → isRightWord (rules true info sign letters true value (rightWord w) .answer) ≡ sign && (letters && value)
-rules-read false sign letters value w e = absurd (false≢true e)
-rules-read true false letters value w e = refl
-rules-read true true false value w e = refl
-rules-read true true true false w e = refl
-rules-read true true true true w e = refl
+rules-read : (t : Tells) (info sign letters value : Bool) (w : Word) → info ≡ true
+    → isRightWord (rules t true true info sign letters true value (rightWord w) .answer) ≡ sign && (letters && value)
+rules-read t false sign letters value w e = absurd (false≢true e)
+rules-read t true false letters value w e = refl
+rules-read t true true false value w e = refl
+rules-read t true true true false w e = refl
+rules-read t true true true true w e = refl
 
 text-held : (k : Kind) (i u m : ℕ) (l : List ℕ) → isTextual k ≡ true → partsRight k i u m l ≡ eqb m 0 && every isGraphic l
 text-held kind.Missing i u m l e = absurd (false≢true e)
@@ -130,7 +132,7 @@ module _ (u m : ℕ) (d : Eight) (small : m ≤ 1) where
 
   -- each unit of a row is right after three dots
   abbrev Units : Stored → Type 0
-  Units r = Even (stationInfo (stationKind (r .0)) 46 46 46) true (r .1) (suc (r .2))
+  Units r = Even (λ x. allRight (stationMarks (stationKind (r .0)) 46 46 46 x)) true (r .1) (suc (r .2))
 
   -- the word of a value with a unit of the row is read where its parts hold
   abbrev Judged : Stored → Type 0
@@ -145,10 +147,10 @@ module _ (u m : ℕ) (d : Eight) (small : m ≤ 1) where
       let l = eightBytes d in
       let value = valueAt k i u m (figuresIn k l) in
       let word = recordBy Station i p (countOr value) in
-      let info = sym (along (stationInfo k 46 46 46) (r .1) (suc (r .2)) units low (omega arith)) in
+      let info = sym (along (λ x. allRight (stationMarks k 46 46 46 x)) (r .1) (suc (r .2)) units low (omega arith)) in
       ap (λ (w : OneWord). isRightWord (w .answer)) (word-spread false p refl Station [])
       ∙ rw (index-on i (index-below i listed), tens-digit i, ones-digit i, listed, sign-on m small)
-      (rules-read (stationInfo k 46 46 46 u) (signRight k (signByte m)) (dataRight k l) (isCounted value) word info)
+      (rules-read (tellsBy Station false i p) (allRight (stationMarks k 46 46 46 u)) (signRight k (signByte m)) (dataRight k l) (isCounted value) word info)
 
   by-text : (r : Stored) → isListed (stationKind (r .0)) ≡ true → Units r → isTextual (stationKind (r .0)) ≡ true → eqb (r .1) 46 ≡ true → Judged r
   by-text r listed units text dot low high =
@@ -192,7 +194,7 @@ module _ (u m : ℕ) (d : Eight) (small : m ≤ 1) where
 
   pub kept-outside : (place : ℕ) (k : Kept) → k ≡ Put u m d → within (storedAt place .1) (storedAt place .2) u ≡ false → keptRight place k ≡ false
   kept-outside place k e out =
-      kept-put place k u m d e small ∙ ap (λ (t : Bool). t && isRightWord (wordOf Station false (valueWord 46 place u m d) .answer)) out
+      kept-put place k u m d e small ∙ rw out
 
   -- a unit of the place: what is left is the sign and the characters
   pub kept-held : (place : ℕ) (k : Kept) → k ≡ Put u m d → storedAt place .1 ≤ u → u ≤ storedAt place .2
@@ -207,7 +209,8 @@ module _ (u m : ℕ) (d : Eight) (small : m ≤ 1) where
 pub put-minus : (place a b c d e u : ℕ) (rest : List ℕ) → isTextual (kindAt Station (a ∷ b ∷ c ∷ [])) ≡ false
     → putRight place (a ∷ b ∷ c ∷ d ∷ e ∷ u ∷ 45 ∷ rest) ≡ putRight place (a ∷ b ∷ c ∷ d ∷ e ∷ u ∷ 43 ∷ rest)
 put-minus place a b c d e u rest number =
-    ap (λ (t : one.Judged). (isDot c && (isDot d && isDot e)) && (within (storedAt place .1) (storedAt place .2) u && isRightWord t))
+    let m = putMarks place (a ∷ b ∷ c ∷ d ∷ e ∷ u ∷ []) in
+    ap (λ (t : one.Judged). isRightWord (cond (allRight m) t (one.Judged.Wrong Information (2 + firstWrong m))))
     (minus-as-plus Station false a b c d e u rest number)
 
 pub kept-minus : (place u : ℕ) (d : Eight) → isListed (stationKind (storedAt place .0)) ≡ true → isTextual (stationKind (storedAt place .0)) ≡ false
@@ -230,18 +233,22 @@ put-parts place b e =
     let q = isDot (pos 4 b) in
     let r = isDot (pos 5 b) in
     let u = within (storedAt place .1) (storedAt place .2) (pos 6 b) in
-    let t = isRightWord (wordOf Station false b .answer) in
-    let all = and-eq-true-iff (p && (q && r)) (u && t) .0 e in
-    let dots = and-eq-true-iff p (q && r) .0 (all .0) in
-    let last = and-eq-true-iff q r .0 (dots .1) in
-    let rest = and-eq-true-iff u t .0 (all .1) in
+    let (all, read) = both-right (allRight (putMarks place b)) (wordOf Station false b .answer) _ _ e in
+    let first = and-eq-true-iff p (q && (r && u)) .0 all in
+    let second = and-eq-true-iff q (r && u) .0 (first .1) in
+    let third = and-eq-true-iff r u .0 (second .1) in
     record {
-      dot3 = eqb-true (pos 3 b) 46 (dots .0);
-      dot4 = eqb-true (pos 4 b) 46 (last .0);
-      dot5 = eqb-true (pos 5 b) 46 (last .1);
-      unit = rest .0;
-      read = rest .1;
+      dot3 = eqb-true (pos 3 b) 46 (first .0);
+      dot4 = eqb-true (pos 4 b) 46 (second .0);
+      dot5 = eqb-true (pos 5 b) 46 (third .0);
+      unit = third .1;
+      read = read;
     }
+  where
+    both-right : (t : Bool) (j : one.Judged) (x : Fault) (at : ℕ) → isRightWord (cond t j (one.Judged.Wrong x at)) ≡ true
+        → (t ≡ true) × (isRightWord j ≡ true)
+    both-right true j x at h = (refl, h)
+    both-right false j x at h = absurd (false≢true h)
 
 module _ (place : ℕ) (b : List ℕ) (long : length b ≡ 16) (named : storedAt place .0 ≡ indexOf (pos 1 b) (pos 2 b))
     (first : isDigit (pos 1 b) ≡ true) (second : isDigit (pos 2 b) ≡ true) (right : putRight place b ≡ true) where
@@ -257,8 +264,9 @@ module _ (place : ℕ) (b : List ℕ) (long : length b ≡ 16) (named : storedAt
       let ones : 48 + i % 10 ≡ pos 2 b = omega arith in
       let k = kindAt Station b in
       let ends =
-      read-parts (leb (wordSize false) (length b)) (indexRight Station (pos 1 b) (pos 2 b) (pos 3 b))
-      (stationInfo k (pos 3 b) (pos 4 b) (pos 5 b) (pos 6 b))
+      read-parts (tellsBy Station false (indexIn Station b) (placesIn false b)) (leb (wordSize false) (length b)) (areDigits (pos 1 b) (pos 2 b))
+      (listedBy Station (pos 1 b) (pos 2 b) (pos 3 b))
+      (allRight (marksIn Station b))
       (signRight k (pos 7 b))
       (dataRight k (dataIn false b))
       (eqb (getD b 15 0) 32)

@@ -1,4 +1,5 @@
 pub mod Seek
 pub mod Ranges
 pub mod Kept
+pub mod Which
 pub mod Determined

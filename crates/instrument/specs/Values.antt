@@ -7,9 +7,11 @@ use lib.Dec.{eqb, leb}
 use lib.ListN.{getD, take, drop, replicate}
 use Rattle.figures.specs.Text.{codes}
 use Rattle.figures.specs.Bytes.{within}
-use Rattle.units.specs.Information.{isDot, signByte, signOf}
+use Rattle.units.specs.Information.{isDot, marks, allRight, firstWrong, signByte, signOf}
+use Rattle.units.specs.declared.information.Marks.{Marks}
 use Rattle.words.specs.Reading.{pos, wordOf}
 use Rattle.units.specs.declared.kinds.Family.the-variants.{Station}
+use Rattle.words.specs.declared.reading.Fault.the-variants.{Information}
 use Rattle.words.specs.declared.reading.Judged as one
 use Rattle.instrument.specs.Rows.{seek, keyBytes}
 use Rattle.instrument.specs.declared.settings.Found.{Found}
@@ -58,15 +60,22 @@ abbrev pub isPut : Kept → Bool
 isPut Never = false
 isPut (Put u m d) = true
 
+-- "A PUT word has dots at 3-5 (3-6 for text) and otherwise obeys the block rules." "The unit of a stored value belongs to 6" (request 104)
+abbrev pub putMarks : ℕ → List ℕ → Marks
+putMarks place b =
+    marks (isDot (pos 3 b)) (isDot (pos 4 b)) (isDot (pos 5 b)) (within (storedAt place .1) (storedAt place .2) (pos 6 b))
+
+-- "26 also tells which of 6 to 10 it was, with the byte" (request 104), here of the word; `put-which`, in proofs/Which.antt, shows that it is one of these
+abbrev pub putJudged : ℕ → List ℕ → one.Judged
+putJudged place b =
+    cond (allRight (putMarks place b)) (wordOf Station false b .answer) (one.Judged.Wrong Information (2 + firstWrong (putMarks place b)))
+
 abbrev pub isRightWord : one.Judged → Bool
 isRightWord one.Judged.Right = true
-isRightWord (one.Judged.Wrong f) = false
+isRightWord (one.Judged.Wrong x at) = false
 
--- "A PUT word has dots at 3-5 (3-6 for text) and otherwise obeys the block rules."
 abbrev pub putRight : ℕ → List ℕ → Bool
-putRight place b =
-    (isDot (pos 3 b) && (isDot (pos 4 b) && isDot (pos 5 b)))
-    && (within (storedAt place .1) (storedAt place .2) (pos 6 b) && isRightWord (wordOf Station false b .answer))
+putRight place b = isRightWord (putJudged place b)
 
 abbrev pub eightOf : List ℕ → Eight
 eightOf l = record { 0 = getD l 0 0; 1 = getD l 1 0; 2 = getD l 2 0; 3 = getD l 3 0; 4 = getD l 4 0; 5 = getD l 5 0; 6 = getD l 6 0; 7 = getD l 7 0 }

@@ -8,13 +8,14 @@ ghost use Rattle.units.specs.Kinds.{stationKind};
 ghost use Rattle.units.specs.Counts as counts;
 ghost use Rattle.units.specs.declared.counts.Figures.the-variants.{Number};
 ghost use Rattle.words.specs.Reading.{isCounted};
-ghost use Rattle.instrument.specs.Values.{storedAt, valuePlace, putRight, putKept, valueWord, keptRight, getWord, widened, isPut};
+ghost use Rattle.instrument.specs.Values.{storedAt, valuePlace, putJudged, putKept, valueWord, keptRight, getWord, widened, isPut};
 use crate::settings::Found;
 use units::counts::Figures;
 use units::counts::Valued;
 use units::information::sign_byte;
 use units::kinds::Family;
 use units::kinds::kind_of;
+use words::reading::Fault;
 use words::reading::Judged;
 use words::reading::read_word;
 
@@ -112,32 +113,29 @@ pub fn is_put(kept: Kept) -> bool
     }
 }
 
-// Whether the word may be put there: dots at 3-5, a unit of the place, and otherwise the block rules.
-pub fn put_right(place: usize, word: [u8; 16]) -> bool
-    ensures { λ r. ⌜ r ≡ putRight place word ⌝ }
+// The word that is to be put there: dots at 3-5, a unit of the place, and otherwise the block rules.
+pub fn put_judged(place: usize, word: [u8; 16]) -> Judged
+    ensures { λ r. ⌜ r ≡ putJudged place word ⌝ }
 {
     let row = stored_at(place);
+    let info = Fault::Information;
     if word[2] != b'.' {
-        return false;
+        return Judged::Wrong(info, 2);
     }
     if word[3] != b'.' {
-        return false;
+        return Judged::Wrong(info, 3);
     }
     if word[4] != b'.' {
-        return false;
+        return Judged::Wrong(info, 4);
     }
     if word[5] < row.1 {
-        return false;
+        return Judged::Wrong(info, 5);
     }
     if row.2 < word[5] {
-        return false;
+        return Judged::Wrong(info, 5);
     }
     let one = read_word(&word, Family::Station, false);
-    let answer = one.answer;
-    match answer {
-        Judged::Right => true,
-        _ => false,
-    }
+    one.answer
 }
 
 // What the word leaves when it is put.

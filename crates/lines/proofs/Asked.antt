@@ -81,6 +81,7 @@ done-there i s t order.Put v p asked =
 done-there i s t order.Get v p asked = refl
 done-there i s t order.Undo v p asked = undo-there i s p asked
 done-there i s t order.Keep v p asked = refl
+done-there i s t order.Unknown v p asked = refl
 
 next-there : (i : ℕ) (s : State) (line : List ℕ) (o : Outcome) → Comes s line o → Parts s → isAsked (rowAt (s .series) i) ≡ true → there i (o .next) ≡ there i s
 next-there i s line o (stays v e) p asked = ap (there i) e

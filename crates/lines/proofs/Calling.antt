@@ -30,7 +30,7 @@ use Rattle.lines.specs.Keeping.{ranOf, Ends}
 use Rattle.lines.specs.declared.shapes.Order.{Order}
 use Rattle.lines.specs.declared.shapes.Order.the-variants as order
 use Rattle.lines.specs.declared.verdicts.Verdict.{Verdict}
-use Rattle.lines.specs.declared.verdicts.Verdict.the-variants.{Accepted, Unended, Long, Shape, Setting, ReadOnly, Parameter, Index, Word, NeverPut}
+use Rattle.lines.specs.declared.verdicts.Verdict.the-variants.{Accepted, Unended, Long, Keyword, Shape, Setting, ReadOnly, Parameter, Index, Word, NeverPut}
 use Rattle.lines.specs.declared.verdicts.Verdict.the-variants.{Full, NoEntry, Room, NoState}
 use Rattle.lines.specs.declared.machine.Ran.{Ran}
 use Rattle.lines.proofs.Shape.{from-start}
@@ -71,12 +71,13 @@ pub accepted-is : (v : Verdict) → isAccepted v ≡ true → v ≡ Accepted
 accepted-is Accepted e = refl
 accepted-is Unended e = absurd (false≢true e)
 accepted-is Long e = absurd (false≢true e)
+accepted-is Keyword e = absurd (false≢true e)
 accepted-is Shape e = absurd (false≢true e)
 accepted-is Setting e = absurd (false≢true e)
 accepted-is ReadOnly e = absurd (false≢true e)
 accepted-is Parameter e = absurd (false≢true e)
 accepted-is Index e = absurd (false≢true e)
-accepted-is Word e = absurd (false≢true e)
+accepted-is (Word x at) e = absurd (false≢true e)
 accepted-is NeverPut e = absurd (false≢true e)
 accepted-is Full e = absurd (false≢true e)
 accepted-is NoEntry e = absurd (false≢true e)
@@ -172,6 +173,7 @@ done-series s t order.Put = put-series s (putKept (drop 4 t)) (placeNamed (pos 1
 done-series s t order.Get = refl
 done-series s t order.Undo = either-series s (takenBack s (newest s)) s (eqb (s .count) 0) refl refl
 done-series s t order.Keep = refl
+done-series s t order.Unknown = refl
 
 next-series : (s : State) (o : Outcome) (b : Bool) → o .next .series ≡ s .series → cond b o (outcome Room [] s) .next .series ≡ s .series
 next-series s o true e = e

@@ -12,6 +12,8 @@ pub mod Wrong
 pub mod Shape
 pub mod Lookups
 pub mod Replying
+pub mod Broken
+pub mod Telling
 pub mod Calling
 pub mod Longest
 pub mod Determined

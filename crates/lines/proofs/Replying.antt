@@ -269,3 +269,4 @@ body-short s t order.Get is v h =
     omega (arith, long, few)
 body-short s t order.Undo is v h = some-few (isWide s) 1 (omega arith)
 body-short s t order.Keep is v h = some-few (isWide s) 1 (omega arith)
+body-short s t order.Unknown is v h = some-few (isWide s) 0 (omega arith)

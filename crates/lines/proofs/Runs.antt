@@ -10,8 +10,10 @@ use lib.ListN.{length, getD, take}
 use Rattle.figures.specs.Bytes.{startsWith, sameBytes}
 use Rattle.units.specs.Kinds.{indexOf}
 use Rattle.words.specs.Reading.{pos}
+use Rattle.words.specs.declared.reading.Judged.{Judged}
+use Rattle.words.specs.declared.reading.Judged.the-variants.{Right, Wrong}
 use Rattle.instrument.specs.Settings.{rows100, rows300, rowsOf, noRow, rowAt, settingPlace, isAsked, inRange, settingsN}
-use Rattle.instrument.specs.Values.{putRight, putKept, keptRight, valuesN}
+use Rattle.instrument.specs.Values.{putJudged, isRightWord, putRight, putKept, keptRight, valuesN}
 use Rattle.state.specs.Entries.{entriesN}
 use Rattle.state.specs.Image.{imageOf, stateIn}
 use Rattle.instrument.specs.declared.settings.Series.{Series}
@@ -24,13 +26,13 @@ use Rattle.instrument.proofs.Kept.{put-kept-right}
 use Rattle.instrument.proofs.Ranges.{range-high}
 use Rattle.state.proofs.Images.{image-of}
 use Rattle.lines.specs.Shapes.{endOf, isEnded, textOf, conf-slash, get-i, undo-word, keep-word, orderOf}
-use Rattle.lines.specs.Verdicts.{isAccepted, setBy, setVerdict, fullVerdict, placeNamed, putBy, putVerdict, undoVerdict, orderVerdict, lineVerdict}
+use Rattle.lines.specs.Verdicts.{isAccepted, setBy, setVerdict, fullVerdict, placeNamed, afterWord, putBy, putVerdict, undoVerdict, orderVerdict, lineVerdict}
 use Rattle.lines.specs.Orders.{doneOf}
 use Rattle.lines.specs.Replies.{replyOf}
 use Rattle.lines.specs.Machine.{Outcome, outcome, step, Calls}
 use Rattle.lines.specs.declared.shapes.Order.{Order}
 use Rattle.lines.specs.declared.verdicts.Verdict.{Verdict}
-use Rattle.lines.specs.declared.verdicts.Verdict.the-variants.{Accepted, Unended, Long, ReadOnly, Parameter, Word, Full, NoEntry, Room}
+use Rattle.lines.specs.declared.verdicts.Verdict.the-variants.{Accepted, Unended, Long, ReadOnly, Parameter, Full, NoEntry, Room}
 use Rattle.lines.specs.declared.machine.Ran.{Ran}
 use Rattle.lines.proofs.Shape.{order-by}
 use Rattle.lines.proofs.Lookups.{setting-in, value-found, named}
@@ -90,7 +92,7 @@ asks-idle s line n x v e set put undo keep =
     let t = take n line in
     let other : (y : ℕ) (w : List ℕ) → eqb x y ≡ false → startsWith (y ∷ w) t ≡ true → ⊥ = λ y w d p. false≢true (sym (starts-other x y v w line n d e) ∙ p) in
     let starts : (w : List ℕ) → sameBytes t w ≡ true → startsWith w t ≡ true = λ w p. and-eq-true-iff (eqb (length t) (length w)) (startsWith w t) .0 p .1 in
-    order-by (λ (o : Order). doneOf s t o ≡ s) t refl (λ p _ _. absurd (other 83 _ set p)) (λ _. refl) (λ p _. absurd (other 80 _ put p)) (λ _ _. refl)
+    order-by (λ (o : Order). doneOf s t o ≡ s) t refl refl (λ p _ _. absurd (other 83 _ set p)) (λ _. refl) (λ p _. absurd (other 80 _ put p)) (λ _ _. refl)
     (λ p. absurd (other 85 _ undo (starts undo-word p))) (λ p. absurd (other 75 _ keep (starts keep-word p)))
 
 module _ (image line room : List ℕ) (r : Ran) (room′ : List ℕ) (h : RanOn image line room r room′) where
@@ -178,14 +180,14 @@ pub record PutRuns (s : State) (word : List ℕ) : Type 0 where
 pub put-runs : (s : State) (word : List ℕ) → putVerdict (s .count) word ≡ Accepted → PutRuns s word
 put-runs s word e = go (placeNamed (pos 1 word) (pos 2 word)) refl e
   where
-    right : (i : ℕ) (b : Bool) → putRight i word ≡ b → cond b (fullVerdict (s .count)) Word ≡ Accepted → (putRight i word ≡ true) × (s .count < entriesN)
-    right i false h e = absurd (clash (cc))
-    right i true h e = (h, full-free (s .count) (leb entriesN (s .count)) refl e)
+    right : (i : ℕ) (j : Judged) → putJudged i word ≡ j → afterWord (s .count) j ≡ Accepted → (putRight i word ≡ true) × (s .count < entriesN)
+    right i (Wrong x at) h e = absurd (clash (cc))
+    right i Right h e = (ap isRightWord h, full-free (s .count) (leb entriesN (s .count)) refl e)
 
     go : (f : Found) → placeNamed (pos 1 word) (pos 2 word) ≡ f → putBy (s .count) word f ≡ Accepted → PutRuns s word
     go Nothing f e = absurd (clash (cc))
     go (At i) f e =
-        let h = right i (putRight i word) refl e in
+        let h = right i (putJudged i word) refl e in
         let digits = named (pos 1 word) (pos 2 word) i f in
         let at = value-found (indexOf (pos 1 word) (pos 2 word)) i (digits .2) in
         record { at = i; found = f; place = at .0; right = λ long. put-kept-right i word long (at .1) (digits .0) (digits .1) (h .0); free = h .1 }

@@ -1,23 +1,22 @@
--- Laws of a line's shape: its parts, the first slash, the groups of GET, a number, what an order says of the line.
+-- Laws of a line's shape: its parts, the groups of GET, a number, what an order says of the line.
 use Prim.Native.Nat.{ℕ, zero, suc, _+_, _-_, _*_, _/_, _<_, _≤_}
 use mathlib.Core.Path.{_≡_, refl, ap, subst}
 use mathlib.Core.Bool.{Bool, true, false, cond, _&&_, and-eq-true-iff}
 use mathlib.Core.List.{List, []}
 use native.Mathlib.Nat.{sub-zero}
-use native.Mathlib.Numerals.{add-one}
 use native.Mathlib.Omega.{arith}
-use borrow.Author.Tests.{eq-eqb, ne-eqb, eqb-true, leb-true}
+use borrow.Author.Tests.{eqb-true, leb-true, ltb-true}
 use lib.Dec.{eqb, leb, ltb}
-use lib.ListN.{length, getD, take, drop, drop-of-length-le, length-drop}
-use lib.Seq.{drop-cons, take-all}
+use lib.ListN.{length, take, drop, length-drop}
+use lib.Seq.{take-all}
 use Rattle.figures.specs.Bytes.{startsWith, sameBytes}
 use Rattle.figures.specs.Decimal.{numberOf}
 use Rattle.figures.specs.declared.Said.the-variants as said
 use Rattle.figures.proofs.Bytes.{same-true, starts-length}
-use Rattle.lines.specs.Shapes.{slashAt, numberRight, numberShape, groupRight, groupsRight, groupsIn, orderOf}
+use Rattle.lines.specs.Shapes.{slashAt, numberRight, numberShape, groupRight, groupsRight, groupsIn, hasKeyword, orderOf}
 use Rattle.lines.specs.Shapes.{set-slash, conf-slash, put-slash, get-i, undo-word, keep-word}
 use Rattle.lines.specs.declared.shapes.Order.{Order}
-use Rattle.lines.specs.declared.shapes.Order.the-variants.{Not, Set, Conf, Put, Get, Undo, Keep}
+use Rattle.lines.specs.declared.shapes.Order.the-variants.{Not, Set, Conf, Put, Get, Undo, Keep, Unknown}
 
 -- parts of a line
 
@@ -26,20 +25,6 @@ from-start k s = rw (sub-zero k)
 
 pub to-end : (a : ℕ) (s : List ℕ) → take (length s - a) (drop a s) ≡ drop a s
 to-end a s = take-all (length s - a) (drop a s) (omega (arith, length-drop a s))
-
--- the first slash, a turn of the loop at a time
-
-pub slash-more : (s : List ℕ) (i : ℕ) → i < length s → (getD s i 0 ≡ 47 → ⊥) → i + slashAt (drop i s) ≡ i + 1 + slashAt (drop (i + 1) s)
-unfolding slashAt
-slash-more s i h e = rw (drop-cons s i 0 h, ne-eqb (getD s i 0) 47 e, add-one i) (omega arith)
-
-pub slash-here : (s : List ℕ) (i : ℕ) → i < length s → getD s i 0 ≡ 47 → slashAt (drop i s) ≡ 0
-unfolding slashAt
-slash-here s i h e = rw (drop-cons s i 0 h, eq-eqb (getD s i 0) 47 e)
-
-pub slash-none : (s : List ℕ) (i : ℕ) → length s ≤ i → slashAt (drop i s) ≡ 0
-unfolding slashAt
-slash-none s i h = rw (drop-of-length-le s h)
 
 -- the groups of GET
 
@@ -87,10 +72,11 @@ either : (P : Order → Type 0) (b : Bool) (x y : Order) → (b ≡ true → P x
 either P true x y px py = px refl
 either P false x y px py = py
 
-pub order-by : (P : Order → Type 0) (t : List ℕ) → P Not → (startsWith set-slash t ≡ true → (n p : ℕ) → P (Set n p)) → ((n : ℕ) → P (Conf n))
-    → (startsWith put-slash t ≡ true → length t ≡ 20 → P Put) → (startsWith get-i t ≡ true → groupsRight (groupsIn (drop 5 t)) (drop 5 t) ≡ true → P Get)
+pub order-by : (P : Order → Type 0) (t : List ℕ) → P Not → P Unknown → (startsWith set-slash t ≡ true → (n p : ℕ) → P (Set n p)) → ((n : ℕ) → P (Conf n))
+    → (startsWith put-slash t ≡ true → length t ≡ 20 → P Put)
+    → (startsWith get-i t ≡ true → (0 < length (drop 5 t)) × (groupsRight (groupsIn (drop 5 t)) (drop 5 t) ≡ true) → P Get)
     → (sameBytes t undo-word ≡ true → P Undo) → (sameBytes t keep-word ≡ true → P Keep) → P (orderOf t)
-order-by P t none set conf put get undo keep =
+order-by P t none unknown set conf put get undo keep =
     let s = drop 4 t in
     let k = slashAt s in
     let g = drop 5 t in
@@ -99,8 +85,9 @@ order-by P t none set conf put get undo keep =
     (either P (startsWith conf-slash t) _ _ (λ _. either P (numberRight g) _ _ (λ _. conf _) none)
     (either P (startsWith put-slash t) _ _ (λ e. either P (eqb (length t) 20) _ _ (λ long. put e (eqb-true (length t) 20 long)) none)
     (either P (startsWith get-i t) _ _
-    (λ e. either P (ltb 0 (length g) && groupsRight (groupsIn g) g) _ _ (λ r. get e (and-eq-true-iff (ltb 0 (length g)) _ .0 r .1)) none)
-    (either P (sameBytes t undo-word) _ _ undo (either P (sameBytes t keep-word) _ _ keep none)))))
+    (λ e. either P (ltb 0 (length g) && groupsRight (groupsIn g) g) _ _ (λ r. let some = and-eq-true-iff (ltb 0 (length g)) _ .0 r in get e (ltb-true 0 (length g) (some .0), some .1)) none)
+    (either P (sameBytes t undo-word) _ _ undo
+    (either P (sameBytes t keep-word) _ _ keep (either P (hasKeyword t) _ _ (λ _. none) unknown))))))
 
 -- what an order says of the line
 
@@ -112,10 +99,11 @@ Says t Put = length t ≡ 20
 Says t Get = (5 ≤ length t) × (groupsRight (groupsIn (drop 5 t)) (drop 5 t) ≡ true)
 Says t Undo = length t ≡ 4
 Says t Keep = Unit {0}
+Says t Unknown = Unit {0}
 
 order-says : (t : List ℕ) → Says t (orderOf t)
 order-says t =
-    order-by (Says t) t tt (λ _ n p. tt) (λ n. tt) (λ _ long. long) (λ e groups. (starts-length get-i t e, groups))
+    order-by (Says t) t tt tt (λ _ n p. tt) (λ n. tt) (λ _ long. long) (λ e groups. (starts-length get-i t e, groups .1))
     (λ e. ap length (same-true t undo-word e)) (λ _. tt)
 
 pub order-put : (t : List ℕ) → orderOf t ≡ Put → length t ≡ 20

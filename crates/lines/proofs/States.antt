@@ -14,7 +14,7 @@ use Rattle.lines.specs.Orders.{doneOf}
 use Rattle.lines.specs.Machine.{Outcome, step}
 use Rattle.lines.specs.Demand.{Call, after}
 use Rattle.lines.specs.declared.shapes.Order.{Order}
-use Rattle.lines.specs.declared.shapes.Order.the-variants.{Not, Set, Conf, Put, Get, Undo, Keep}
+use Rattle.lines.specs.declared.shapes.Order.the-variants.{Not, Set, Conf, Put, Get, Undo, Keep, Unknown}
 use Rattle.lines.specs.declared.verdicts.Verdict.the-variants.{Accepted}
 use Rattle.lines.proofs.Parts.{Parts, parts, whole}
 use Rattle.lines.proofs.Lasting.{set-parts, put-parts, undo-parts, keep-parts}
@@ -34,6 +34,7 @@ done-parts s t Put e v p =
 done-parts s t Get e v p = p
 done-parts s t Undo e v p = undo-parts s p
 done-parts s t Keep e v p = keep-parts s p
+done-parts s t Unknown e v p = p
 
 next-parts : (s : State) (line : List ℕ) (o : Outcome) → Comes s line o → Parts s → Parts (o .next)
 next-parts s line o (stays v e) p = subst Parts (sym e) p

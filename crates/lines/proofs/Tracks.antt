@@ -16,7 +16,7 @@ use Rattle.lines.specs.Machine.{Outcome, step}
 use Rattle.lines.specs.Demand.{Call, Contents, contentsOf, setting, value, stores, play, playAll, after}
 use Rattle.lines.specs.Demand.{Mark, stored, kept, strike, mark, marked, marks, stands}
 use Rattle.lines.specs.declared.shapes.Order.{Order}
-use Rattle.lines.specs.declared.shapes.Order.the-variants.{Not, Set, Conf, Put, Get, Undo, Keep}
+use Rattle.lines.specs.declared.shapes.Order.the-variants.{Not, Set, Conf, Put, Get, Undo, Keep, Unknown}
 use Rattle.lines.specs.declared.verdicts.Verdict.the-variants.{Accepted, NoEntry}
 use Rattle.lines.proofs.Parts.{Parts, parts}
 use Rattle.lines.proofs.Undone.{undo-set, undo-put}
@@ -70,6 +70,7 @@ module _ (c : Contents) where
   done-tracks s ms line Get e v p t = t
   done-tracks s ms line Undo e v p t = struck s ms (undo-some (s .count) v) t
   done-tracks s ms line Keep e v p t = (refl, contents s ms t)
+  done-tracks s ms line Unknown e v p t = t
 
   next-tracks : (s : State) (ms : List Mark) (line : List ℕ) (o : Outcome) → Comes s line o → Parts s → Tracks c s ms
       → Tracks c (o .next) (cond (isAccepted (o .verdict)) (mark ms line (orderOf (textOf line))) ms)

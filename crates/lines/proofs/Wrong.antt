@@ -6,20 +6,20 @@ use mathlib.Core.List.{List, [], _∷_, _++_}
 use borrow.Author.Tests.{eqb-false}
 use lib.Dec.{eqb}
 use lib.ListN.{length, getD}
-use Rattle.figures.specs.Bytes.{every, startsWith}
+use Rattle.figures.specs.Bytes.{every, startsWith, runOf}
 use Rattle.figures.specs.Decimal.{numberFrom}
 use Rattle.instrument.specs.Rows.{seek}
 use Rattle.instrument.specs.Settings.{rows100}
 use Rattle.instrument.specs.declared.settings.Series.the-variants.{Tps100}
 use Rattle.state.specs.Entries as entries
 use Rattle.state.specs.declared.entries.State.{State}
-use Rattle.lines.specs.Shapes.{slashAt, textOf, orderOf}
+use Rattle.lines.specs.Shapes.{textOf, orderOf}
 use Rattle.lines.specs.Verdicts.{isAccepted}
 use Rattle.lines.specs.Replies.{replyEnd, done}
 use Rattle.lines.specs.Machine.{Outcome, outcome, step}
 use Rattle.lines.specs.Demand.{Call, after, Contents, contentsOf, Mark, strike, mark, marked, marks, playAll}
 use Rattle.lines.specs.declared.shapes.Order.{Order}
-use Rattle.lines.specs.declared.shapes.Order.the-variants.{Not, Set, Conf, Put, Get, Undo, Keep}
+use Rattle.lines.specs.declared.shapes.Order.the-variants.{Not, Set, Conf, Put, Get, Undo, Keep, Unknown}
 use Rattle.lines.specs.Demand.{Start}
 use Rattle.lines.proofs.Starts.{factory-start}
 use Rattle.lines.proofs.Demand.{played}
@@ -84,7 +84,7 @@ undo-line = 85 ∷ 78 ∷ 68 ∷ 79 ∷ 13 ∷ []
 
 -- what a line computes with
 computing : Unit {0}
-unfolding set-30 set-32 undo-line every startsWith numberFrom slashAt seek rows100 afterBy marksBy strike playAll
+unfolding set-30 set-32 undo-line every startsWith numberFrom runOf seek rows100 afterBy marksBy strike playAll
 computing = tt
 
 -- room for the longest reply to one of these
@@ -134,6 +134,7 @@ isUndo Put = false
 isUndo Get = false
 isUndo Undo = true
 isUndo Keep = false
+isUndo Unknown = false
 
 -- its UNDO only replies
 abbrev pub no-undo : Machine

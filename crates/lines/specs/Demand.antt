@@ -18,7 +18,7 @@ use Rattle.lines.specs.Shapes.{textOf, orderOf}
 use Rattle.lines.specs.Verdicts.{placeNamed, isAccepted}
 use Rattle.lines.specs.Machine.{step, call}
 use Rattle.lines.specs.declared.shapes.Order.{Order}
-use Rattle.lines.specs.declared.shapes.Order.the-variants.{Not, Set, Conf, Put, Get, Undo, Keep}
+use Rattle.lines.specs.declared.shapes.Order.the-variants.{Not, Set, Conf, Put, Get, Undo, Keep, Unknown}
 
 -- the factory state or a loaded sheet: a state with no undo entry
 pub record Start (s : State) : Type 0 where
@@ -61,6 +61,7 @@ stores c t Put = value c (putKept (drop 4 t)) (placeNamed (pos 1 (drop 4 t)) (po
 stores c t Get = c
 stores c t Undo = c
 stores c t Keep = c
+stores c t Unknown = c
 
 abbrev pub play : Contents → List ℕ → Contents
 play c line = stores c (textOf line) (orderOf (textOf line))
@@ -84,6 +85,7 @@ mark ms line Put = stored line ∷ ms
 mark ms line Get = ms
 mark ms line Undo = strike ms
 mark ms line Keep = kept ∷ ms
+mark ms line Unknown = ms
 
 -- a line that is refused leaves no mark
 abbrev pub marked : State → Call → List Mark → List Mark

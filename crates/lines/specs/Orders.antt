@@ -87,3 +87,4 @@ doneOf s t order.Put = putDone s (drop 4 t)
 doneOf s t order.Get = s
 doneOf s t order.Undo = undoOf s
 doneOf s t order.Keep = keepOf s
+doneOf s t order.Unknown = s

@@ -69,6 +69,7 @@ bodyOf s t order.Put = done
 bodyOf s t order.Get = getBody (isWide s) (s .values) (groupsIn (drop 5 t)) (drop 5 t)
 bodyOf s t order.Undo = done
 bodyOf s t order.Keep = done
+bodyOf s t order.Unknown = []
 
 -- the reply that would be given
 abbrev pub replyOf : State → List ℕ → Order → Verdict → List ℕ

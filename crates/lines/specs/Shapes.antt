@@ -1,16 +1,16 @@
 -- A line's end and its shape. "One call takes exactly one line with its CR or CR LF, whatever setting 73 says .. Upper case only."
 use Prim.Native.Nat.{ℕ, zero, suc, _+_, _-_, _/_}
 use mathlib.Core.Bool.{Bool, cond, not, _&&_, _||_}
-use mathlib.Core.List.{List, [], _∷_}
+use mathlib.Core.List.{List}
 use lib.Dec.{eqb, leb, ltb}
 use lib.ListN.{length, getD, take, drop}
 use Rattle.figures.specs.Text.{codes}
-use Rattle.figures.specs.Bytes.{within, every, startsWith, sameBytes}
+use Rattle.figures.specs.Bytes.{within, every, runOf, isOther, startsWith, sameBytes}
 use Rattle.figures.specs.Decimal.{isDigit, numberOf}
 use Rattle.figures.specs.declared.Said.{Said}
 use Rattle.figures.specs.declared.Said.the-variants as said
 use Rattle.lines.specs.declared.shapes.Order.{Order}
-use Rattle.lines.specs.declared.shapes.Order.the-variants.{Not, Set, Conf, Put, Get, Undo, Keep}
+use Rattle.lines.specs.declared.shapes.Order.the-variants.{Not, Set, Conf, Put, Get, Undo, Keep, Unknown}
 
 -- the byte at a place from the end, the last at 1
 abbrev pub fromEnd : ℕ → List ℕ → ℕ
@@ -39,9 +39,8 @@ abbrev pub numberShape : List ℕ → Said
 numberShape s = cond (numberRight s) (said.Number (numberOf s)) said.Not
 
 -- the place of the first slash, or the length where there is none
-unfoldable pub slashAt : List ℕ → ℕ
-slashAt [] = 0
-slashAt (b ∷ l) = cond (eqb b 47) 0 (slashAt l + 1)
+abbrev pub slashAt : List ℕ → ℕ
+slashAt s = runOf (isOther 47) s
 
 -- `number/parameter`
 abbrev pub setOrder : List ℕ → Order
@@ -88,7 +87,14 @@ undo-word = codes "UNDO"
 abbrev pub keep-word : List ℕ
 keep-word = codes "KEEP"
 
--- the shapes; "`PUT/` and 16 characters"
+-- "a line that starts with no keyword (SET, CONF, PUT, GET, UNDO, KEEP)" (request 104)
+abbrev pub hasKeyword : List ℕ → Bool
+hasKeyword t =
+    startsWith (codes "SET") t
+    || (startsWith (codes "CONF") t
+    || (startsWith (codes "PUT") t || (startsWith (codes "GET") t || (startsWith undo-word t || startsWith keep-word t))))
+
+-- the shapes; "`PUT/` and 16 characters". Not is "a known keyword with a wrong remainder", Unknown no keyword
 abbrev pub orderOf : List ℕ → Order
 orderOf t =
     cond (startsWith set-slash t) (setOrder (drop 4 t))
@@ -97,4 +103,4 @@ orderOf t =
     (cond (startsWith get-i t) (getOrder (drop 5 t))
     (cond (sameBytes t undo-word) Undo
     (cond (sameBytes t keep-word) Keep
-    Not)))))
+    (cond (hasKeyword t) Not Unknown))))))

@@ -165,6 +165,7 @@ pub(crate) fn body_length(s: State, text: &[u8], order: Order) -> usize
         Order::Get => get_length(is_wide(s), (text.len() - 5) / 5),
         Order::Undo => 1,
         Order::Keep => 1,
+        Order::Unknown => 0,
     }
 }
 
@@ -189,6 +190,7 @@ pub(crate) fn put_reply(s: State, text: &[u8], order: Order, room: &mut [u8])
             put_end(lf, &mut room[n..]);
         }
         Order::Not => put_end(lf, room),
+        Order::Unknown => put_end(lf, room),
         _ => put_text(b"?", lf, room),
     }
 }

@@ -2,14 +2,16 @@
 ghost use mathlib.Core.Path.{_≡_};
 ghost use Prim.Native.Nat.{_≤_};
 ghost use lib.ListN.{length, drop};
-ghost use Rattle.lines.specs.Shapes.{endOf, isPlain, numberShape, slashAt, setOrder, confOrder, groupRight, getOrder, orderOf};
+ghost use Rattle.lines.specs.Shapes.{endOf, isPlain, numberShape, setOrder, confOrder, groupRight, getOrder, hasKeyword, orderOf};
 use figures::Said;
 use figures::digit;
 use figures::number;
+use figures::run_before;
 use figures::same;
 use figures::starts;
 
-// What a line of a right shape orders. PUT's word and GET's indexes stand in the line.
+// What a line of a right shape orders. PUT's word and GET's indexes stand in the line. Not is a line whose keyword goes on wrongly, Unknown one that
+// starts with no keyword.
 pub enum Order {
     Not,
     Set(u64, u64),
@@ -18,6 +20,7 @@ pub enum Order {
     Get,
     Undo,
     Keep,
+    Unknown,
 }
 
 // The length of a line's end: 1 for CR, 2 for CR LF, 0 for none.
@@ -79,24 +82,10 @@ fn number_of(s: &[u8]) -> Said
     number(s)
 }
 
-// The place of the first slash, or the length where there is none.
-fn slash_at(s: &[u8]) -> usize
-    ensures { λ r. ⌜ (r ≡ slashAt (now (s .entry))) × (r ≤ length (now (s .entry))) ⌝ }
-{
-    let mut i = 0;
-    while i < s.len() {
-        if s[i] == b'/' {
-            return i;
-        }
-        i += 1;
-    }
-    i
-}
-
 fn set_order(s: &[u8]) -> Order
     ensures { λ r. ⌜ r ≡ setOrder (now (s .entry)) ⌝ }
 {
-    let cut = slash_at(s);
+    let cut = run_before(s, b'/');
     if s.len() <= cut {
         return Order::Not;
     }
@@ -156,6 +145,27 @@ fn get_order(s: &[u8]) -> Order
     Order::Get
 }
 
+fn has_keyword(text: &[u8]) -> bool
+    ensures { λ r. ⌜ r ≡ hasKeyword (now (text .entry)) ⌝ }
+{
+    if starts(text, b"SET") {
+        return true;
+    }
+    if starts(text, b"CONF") {
+        return true;
+    }
+    if starts(text, b"PUT") {
+        return true;
+    }
+    if starts(text, b"GET") {
+        return true;
+    }
+    if starts(text, b"UNDO") {
+        return true;
+    }
+    starts(text, b"KEEP")
+}
+
 // The shape of a line without its end.
 pub(crate) fn order_of(text: &[u8]) -> Order
     ensures { λ r. ⌜ r ≡ orderOf (now (text .entry)) ⌝ }
@@ -181,5 +191,8 @@ pub(crate) fn order_of(text: &[u8]) -> Order
     if same(text, b"KEEP") {
         return Order::Keep;
     }
-    Order::Not
+    if has_keyword(text) {
+        return Order::Not;
+    }
+    Order::Unknown
 }

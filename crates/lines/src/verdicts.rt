@@ -5,7 +5,7 @@ ghost use lib.ListN.{length, drop};
 ghost use mathlib.Core.Bool.{true};
 ghost use Rattle.instrument.specs.Settings.{settingPlace};
 ghost use Rattle.lines.specs.Shapes.{groupsRight, groupsIn, orderOf};
-ghost use Rattle.lines.specs.Verdicts.{verdictNumber, isAccepted, fullVerdict, setVerdict, confVerdict, placeNamed, putVerdict, getVerdict, orderVerdict};
+ghost use Rattle.lines.specs.Verdicts.{verdictNumber, verdictWhich, verdictByte, isAccepted, fullVerdict, setVerdict, confVerdict, placeNamed, putVerdict, getVerdict, orderVerdict};
 use crate::shapes::Order;
 use instrument::settings::Found;
 use instrument::settings::Series;
@@ -15,23 +15,28 @@ use instrument::settings::setting_at;
 use instrument::values::VALUES;
 use instrument::values::Value;
 use instrument::values::is_put;
-use instrument::values::put_right;
+use instrument::values::put_judged;
 use instrument::values::value_at;
 use state::entries::ENTRIES;
 use state::entries::State;
 use units::kinds::Named;
 use units::kinds::named_by;
+use words::reading::Fault;
+use words::reading::Judged;
+use words::reading::fault_number;
 
+// Word is a PUT word's fault, with the byte of the line.
 pub enum Verdict {
     Accepted,
     Unended,
     Long,
+    Keyword,
     Shape,
     Setting,
     ReadOnly,
     Parameter,
     Index,
-    Word,
+    Word(Fault, usize),
     NeverPut,
     Full,
     NoEntry,
@@ -39,7 +44,7 @@ pub enum Verdict {
     NoState,
 }
 
-// The number that document 01 has for a verdict.
+// The number that the rules have for a verdict.
 pub fn verdict_number(verdict: Verdict) -> u64
     ensures { λ r. ⌜ r ≡ verdictNumber verdict ⌝ }
 {
@@ -47,17 +52,38 @@ pub fn verdict_number(verdict: Verdict) -> u64
         Verdict::Accepted => 0,
         Verdict::Unended => 20,
         Verdict::Long => 21,
-        Verdict::Shape => 22,
+        Verdict::Keyword => 22,
+        Verdict::Shape => 39,
         Verdict::Setting => 23,
         Verdict::ReadOnly => 38,
         Verdict::Parameter => 24,
         Verdict::Index => 25,
-        Verdict::Word => 26,
+        Verdict::Word(_, _) => 26,
         Verdict::NeverPut => 27,
         Verdict::Full => 28,
         Verdict::NoEntry => 29,
         Verdict::Room => 30,
         Verdict::NoState => 31,
+    }
+}
+
+// Which of a word's rules a PUT word breaks, by its number; 0 of every other verdict.
+pub fn verdict_which(verdict: Verdict) -> u64
+    ensures { λ r. ⌜ r ≡ verdictWhich verdict ⌝ }
+{
+    match verdict {
+        Verdict::Word(fault, _) => fault_number(fault),
+        _ => 0,
+    }
+}
+
+// The byte of the line that it breaks; 0 of every other verdict.
+pub fn verdict_byte(verdict: Verdict) -> usize
+    ensures { λ r. ⌜ r ≡ verdictByte verdict ⌝ }
+{
+    match verdict {
+        Verdict::Word(_, byte) => byte,
+        _ => 0,
     }
 }
 
@@ -148,10 +174,10 @@ fn put_verdict(count: usize, word: [u8; 16]) -> Verdict
     let Found::At(place) = place_named(word[0], word[1]) else {
         return Verdict::Index;
     };
-    if !put_right(place, word) {
-        return Verdict::Word;
+    match put_judged(place, word) {
+        Judged::Right => full(count),
+        Judged::Wrong(fault, at) => Verdict::Word(fault, 4 + at),
     }
-    full(count)
 }
 
 // The indexes of GET, one after the other: 25, then 27.
@@ -177,7 +203,7 @@ fn get_verdict(values: [Value; VALUES], groups: &[u8]) -> Verdict
     Verdict::Accepted
 }
 
-// A line of 20 to 29 or 38, or accepted.
+// A line of 22 to 29, 38 or 39, or accepted.
 pub(crate) fn order_verdict(s: State, text: &[u8], order: Order) -> Verdict
     requires { ⌜ order ≡ orderOf (now text) ⌝ }
     ensures { λ r. ⌜ r ≡ orderVerdict s (now (text .entry)) order ⌝ }
@@ -200,5 +226,6 @@ pub(crate) fn order_verdict(s: State, text: &[u8], order: Order) -> Verdict
             Verdict::Accepted
         }
         Order::Keep => Verdict::Accepted,
+        Order::Unknown => Verdict::Keyword,
     }
 }

@@ -101,7 +101,7 @@ module _ (p : Port) (line : List ℕ) (after : Bool) (b : ℕ) (h : Holds p line
 abbrev saidOf : List ℕ → List ℕ → Heard → Spoken
 saidOf room s h =
     let later = spokenBy room (h .turn .port) (h .image) s in
-    record { image = later .image; out = take (h .turn .count) (h .room) ++ later .out }
+    record { image = later .image; out = take (h .turn .told .count) (h .room) ++ later .out }
 
 -- a line, and the lines after it
 abbrev thenOf : Called → Spoken → Spoken

@@ -1,4 +1,5 @@
 pub mod Hearing
 pub mod Alike
 pub mod Heard
+pub mod Said
 pub mod Determined

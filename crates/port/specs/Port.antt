@@ -6,7 +6,9 @@ use mathlib.Core.List.{List, [], _∷_, _++_}
 use lib.Dec.{eqb, ltb}
 use lib.ListN.{take, set, replicate}
 use Rattle.figures.specs.Text.{codes}
-use Rattle.lines.specs.Machine.{Called, call}
+use Rattle.lines.specs.Machine.{told, Called, call, Calls}
+use Rattle.lines.specs.declared.machine.Told.{Told}
+use Rattle.lines.specs.declared.verdicts.Verdict.the-variants.{Accepted}
 use Rattle.port.specs.declared.Port.{Port}
 use Rattle.port.specs.declared.Turn.{Turn}
 
@@ -29,21 +31,20 @@ keptBy p b =
 abbrev pub lineOf : Port → List ℕ
 lineOf p = take (p .n) (p .bytes) ++ codes "\r"
 
-abbrev pub Answers : List ℕ → Port → List ℕ → ℕ → List ℕ → List ℕ → Type 0
-Answers image p room r image′ room′ =
-    let c = call image (lineOf p) room in (r ≡ c .answer .count) × ((image′ ≡ c .image) × (room′ ≡ c .room))
+abbrev pub Answers : List ℕ → Port → List ℕ → Told → List ℕ → List ℕ → Type 0
+Answers image p room r image′ room′ = Calls image (lineOf p) room r image′ room′
 
--- one byte
+-- one byte; where it ends no line nothing is told
 pub record Heard : Type 0 where
   pub turn : Turn
   pub image : List ℕ
   pub room : List ℕ
 
 abbrev pub waits : Port → List ℕ → List ℕ → Heard
-waits p image room = record { turn = record { port = p; count = 0 }; image = image; room = room }
+waits p image room = record { turn = record { port = p; told = told Accepted 0 }; image = image; room = room }
 
 abbrev pub runs : Called → Heard
-runs c = record { turn = record { port = quietPort true; count = c .answer .count }; image = c .image; room = c .room }
+runs c = record { turn = record { port = quietPort true; told = c .answer }; image = c .image; room = c .room }
 
 abbrev pub heard : List ℕ → Port → ℕ → List ℕ → Heard
 heard image p b room =
@@ -77,7 +78,7 @@ spokenBy room p image [] = record { image = image; out = [] }
 spokenBy room p image (b ∷ s) =
     let h = heard image p b room in
     let later = spokenBy room (h .turn .port) (h .image) s in
-    record { image = later .image; out = take (h .turn .count) (h .room) ++ later .out }
+    record { image = later .image; out = take (h .turn .told .count) (h .room) ++ later .out }
 
 -- each line by itself
 unfoldable pub calledBy : List ℕ → List ℕ → List (List ℕ) → Spoken

@@ -1,8 +1,14 @@
 // The instrument's port: bytes come in one at a time, a line is run at its CR, and its reply goes out at once.
+pub mod why;
+
 ghost use mathlib.Core.Path.{_≡_};
 ghost use mathlib.Core.Bool.{false};
-ghost use Rattle.port.specs.Port.{quietPort, keptBy, Answers, Turns};
+ghost use Rattle.lines.specs.Machine.{told};
+ghost use Rattle.port.specs.Port.{keptMost, quietPort, keptBy, Answers, Turns};
+ghost use Prim.Native.Nat.{min};
+use lines::machine::Told;
 use lines::machine::line;
+use lines::verdicts::Verdict;
 
 // Of a longer line this much is kept: enough to be judged as the whole line is.
 pub const MOST: usize = 101;
@@ -14,10 +20,10 @@ pub struct Port {
     pub after: bool,
 }
 
-// The port as a byte leaves it, and how many bytes of reply were written.
+// The port as a byte leaves it, and what the machine told of the line that it ended; where it ended none, no bytes of reply and no refusal.
 pub struct Turn {
     pub port: Port,
-    pub count: usize,
+    pub told: Told,
 }
 
 // A port at which nothing came in.
@@ -55,17 +61,33 @@ fn keep(port: Port, b: u8) -> Port
     }
 }
 
+// How many bytes of the line are kept.
+pub(crate) fn held(port: Port) -> usize
+    ensures { λ r. ⌜ r ≡ min (port .n) keptMost ⌝ }
+{
+    if port.n < MOST { port.n } else { MOST }
+}
+
 // Runs what came in, with its CR.
-fn answer(image: &mut [u8], port: Port, room: &mut [u8]) -> usize
+fn answer(image: &mut [u8], port: Port, room: &mut [u8]) -> Told
     ensures { λ r. ⌜ Answers (now (image .entry)) port (now (room .entry)) r (now (image .exit)) (now (room .exit)) ⌝ }
 {
     let mut text = [0; 102];
     let bytes = port.bytes;
-    let n = if port.n < MOST { port.n } else { MOST };
+    let n = held(port);
     figures::lay(&bytes[0..n], &mut text);
     text[n] = 13;
-    let told = line(image, &text[0..n + 1], room);
-    told.count
+    line(image, &text[0..n + 1], room)
+}
+
+fn nothing() -> Told
+    ensures { λ r. ⌜ r ≡ told Verdict.Accepted 0 ⌝ }
+{
+    let verdict = Verdict::Accepted;
+    Told {
+        verdict: verdict,
+        count: 0,
+    }
 }
 
 // One byte at the port, with the state lent as an image and room for a reply.
@@ -73,27 +95,29 @@ pub fn hear(image: &mut [u8], port: Port, b: u8, room: &mut [u8]) -> Turn
     ensures { λ r. ⌜ Turns (now (image .entry)) port b (now (room .entry)) r (now (image .exit)) (now (room .exit)) ⌝ }
 {
     if b == 13 {
-        let n = answer(image, port, room);
+        let told = answer(image, port, room);
         let mut next = quiet();
         next.after = true;
         return Turn {
             port: next,
-            count: n,
+            told: told,
         };
     }
     if b == 10 {
         if port.after {
             let mut next = port;
             next.after = false;
+            let told = nothing();
             return Turn {
                 port: next,
-                count: 0,
+                told: told,
             };
         }
     }
     let next = keep(port, b);
+    let told = nothing();
     Turn {
         port: next,
-        count: 0,
+        told: told,
     }
 }

@@ -1,4 +1,4 @@
--- What is kept of a piece is its first 800 bytes, and these are judged as the whole piece is.
+-- What is kept of a piece is its first 800 bytes, and these are judged and reported as the whole piece is.
 use Prim.Native.Nat.{ℕ, _+_, min}
 use mathlib.Core.Path.{_≡_, refl, sym, ap, _∙_}
 use mathlib.Core.Bool.{Bool, true, false}
@@ -11,10 +11,11 @@ use lib.ListN.{length, take, drop, length-append, length-drop}
 use lib.Seq.{take-at, take-all, take-append-le, length-take-le}
 use Rattle.figures.proofs.Bytes.{laid-fits}
 use Rattle.units.specs.declared.kinds.Family.{Family}
-use Rattle.blocks.specs.Judging.{Judgement, judged}
+use Rattle.blocks.specs.Judging.{Judgement}
 use Rattle.blocks.proofs.Enough.{judged-enough}
 use Rattle.figures.specs.Rooms.{putAt}
-use Rattle.reports.specs.Piece.{headText, answerText, reportOf, isRead}
+use Rattle.reports.specs.Piece.{reportOf, isRead}
+use Rattle.reports.proofs.Enough.{report-enough}
 use Rattle.figures.proofs.Putting.{put-past, put-length}
 use Rattle.reading.specs.Turns.{isTaken}
 
@@ -58,11 +59,8 @@ keeps-more room n p b k = by (leb 800 (length p)) refl
         }
 
 module _ (f : Family) (room : List ℕ) (n : ℕ) (p : List ℕ) (k : Keeps room n p) where
-  same : judged f (take n room) 32 ≡ judged f p 32
-  same = ap (λ s. judged f s 32) (k .bytes) ∙ judged-enough f p
-
   pub report-kept : (number at : ℕ) → reportOf f number at (take n room) ≡ reportOf f number at p
-  report-kept number at = ap (λ (j : Judgement). headText number at ++ answerText f (j .answer) (j .words)) same
+  report-kept number at = ap (reportOf f number at) (k .bytes) ∙ report-enough f number at p
 
   pub accepted-kept : isTaken f (take n room) ≡ isTaken f p
-  accepted-kept = ap (λ (j : Judgement). isRead (j .answer)) same
+  accepted-kept = ap (isTaken f) (k .bytes) ∙ ap (λ (j : Judgement). isRead (j .answer)) (judged-enough f p)

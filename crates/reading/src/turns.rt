@@ -14,7 +14,8 @@ use reports::piece::report;
 use reports::piece::tally;
 use units::kinds::Family;
 
-// Of a piece so many bytes are kept. A block is at most 771 bytes long, so that the piece is judged as if all of it were.
+// Of a piece so many bytes are kept. A block is at most 771 bytes long, and no more of a text is shown, so that the piece is reported as if all of
+// it were.
 pub const KEPT: usize = 800;
 
 // Room for the longest report, and for the last line, of at most 87 bytes.

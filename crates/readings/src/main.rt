@@ -1,5 +1,5 @@
 // Runs the bench readings of document 01 and shows what each gives: of a block words, bytes and values, or the refusal's number and place; of a
-// line its number and the bytes of its reply.
+// line its number and the bytes of its reply, and of 26 which rule the word breaks and the byte of the line.
 use blocks::answers::Answer;
 use blocks::answers::refusal_number;
 use blocks::answers::refusal_tells;
@@ -7,7 +7,9 @@ use blocks::judging::judge;
 use instrument::settings::Series;
 use libc::STDOUT_FILENO;
 use lines::machine::line;
+use lines::verdicts::verdict_byte;
 use lines::verdicts::verdict_number;
+use lines::verdicts::verdict_which;
 use state::entries::factory;
 use state::image::IMAGE_100;
 use state::image::encode;
@@ -74,6 +76,12 @@ fn send(image: &mut [u8], text: &[u8]) -> u64 {
     let verdict = told.verdict;
     put(b" number=");
     io::print_decimal(STDOUT_FILENO, verdict_number(verdict));
+    if verdict_which(verdict) != 0 {
+        put(b" which=");
+        io::print_decimal(STDOUT_FILENO, verdict_which(verdict));
+        put(b" byte=");
+        put_count(verdict_byte(verdict));
+    }
     put(b" reply=");
     put_count(told.count);
     put(b"\n");
@@ -201,6 +209,46 @@ fn put_nought() {
     send(&mut image, b"UNDO\r");
 }
 
+// The byte that each refusal of a word tells, 5 to 10 and 15.
+fn told() {
+    show(b"1A....", Family::Station, b"1A....+00000001 \r");
+    show(b"14....", Family::Station, b"14....+00000001 \r");
+    show(b"110.14", Family::Station, b"110.14+00000001 \r");
+    show(b"text with a minus", Family::Station, b"11....-00000001 \r");
+    show(
+        b"the height 000A5320",
+        Family::Station,
+        b"110002+00000102 81..10+01251340 82..10+01907815 83..10+000A5320 \r\n",
+    );
+    show(
+        b"a pair's inner sign",
+        Family::Station,
+        b"51..1.+0009.000 \r",
+    );
+    show(
+        b"no blank, wide",
+        Family::Station,
+        b"*83..10+0000000000045320,\r",
+    );
+    show(b"400 gon", Family::Station, b"21.102+40000000 \r");
+    show(b"33x106", Family::Level, b"33x106+00010198 \r");
+    show(b"331006", Family::Level, b"331006+00010198 \r");
+}
+
+// What a line is refused for: no keyword, a keyword with a wrong remainder, a PUT word by each of its rules.
+fn told_lines() {
+    fresh(b"set/30/1", b"set/30/1\r");
+    fresh(b"UNDO1", b"UNDO1\r");
+    fresh(b"SETTLE", b"SETTLE\r");
+    fresh(b"GET/M/WI11", b"GET/M/WI11\r");
+    fresh(b"PUT with a mode", b"PUT/83..10+00000001 \r");
+    fresh(b"PUT of unit 2", b"PUT/83...2+00000001 \r");
+    fresh(b"PUT without sign", b"PUT/83...0 00000001 \r");
+    fresh(b"PUT of 000A5320", b"PUT/83...0+000A5320 \r");
+    fresh(b"PUT without blank", b"PUT/83...0+00000001,\r");
+    fresh(b"PUT of 400 gon", b"PUT/21...2+40000000 \r");
+}
+
 // 003's listing of a level, to its first heights, and from there on.
 fn level_listing() {
     show(
@@ -301,6 +349,8 @@ fn main() {
     level_listing_on();
     noughts();
     put_nought();
+    told();
+    told_lines();
     full_list();
     long_get();
 }

@@ -1,7 +1,7 @@
--- The report of one block, by computing.
+-- The reports of blocks, by computing.
 use mathlib.Core.Path.{_≡_, refl}
-use mathlib.Core.List.{_++_}
-use Rattle.figures.specs.Bytes.{among, every}
+use mathlib.Core.List.{_∷_, _++_}
+use Rattle.figures.specs.Bytes.{among, every, runOf}
 use Rattle.figures.specs.Decimal.{numberFrom, digitsOf, placesBy}
 use Rattle.figures.specs.Text.{codes}
 use Rattle.blocks.specs.Judging.{blockFrom}
@@ -45,3 +45,15 @@ pub noughts-example : reportOf Station 1 0 (codes "21.104-00000000 51..1.-0000-0
     ++ codes "word=3 index=82 info=..00 count=-0 step=1/1000m reads=-0.000m\n"))
 unfolding among every numberFrom digitsOf blockFrom placesBy wordsText
 noughts-example = refl
+
+-- where a block is refused (request 104): a count's letter, the caret under it
+pub refused-example : reportOf Station 1 0 (codes "83..10+000A5320 \r\n")
+    ≡ codes "block=1 at=0 refused=8 place=10\n" ++ (codes "83..10+000A5320 \n" ++ codes "          ^\n")
+unfolding among every runOf digitsOf blockFrom placesBy
+refused-example = refl
+
+-- and bytes of a text that aren't graphic, BEL and one past ASCII
+pub shown-example : reportOf Station 3 33 (codes "110001+0000" ++ (7 ∷ 200 ∷ codes "01 \r"))
+    ≡ codes "block=3 at=33 refused=8 place=11\n" ++ (codes "110001+0000..01 \n" ++ codes "           ^\n")
+unfolding among every runOf digitsOf blockFrom placesBy
+shown-example = refl

@@ -1,12 +1,13 @@
--- The report of any piece fits 5,280 bytes: 160 for its first line, and 160 for each of at most 32 words.
+-- The report of any piece fits 5,280 bytes: 160 for its first line, and 160 for each of at most 32 words; of a refused piece its first line, at most
+-- 770 bytes of its text with LF, and at most 769 blanks with the caret and LF.
 use Prim.Native.Nat.{ℕ, suc, _*_, _≤_}
-use mathlib.Core.Path.{_≡_, refl}
+use mathlib.Core.Path.{_≡_, refl, subst}
 use mathlib.Core.Bool.{Bool, true, false, _&&_, and-eq-true-iff}
 use mathlib.Core.List.{List, [], _∷_}
 use native.Mathlib.Omega.{arith}
 use borrow.Author.Tests.{eqb-true}
 use lib.Dec.{eqb}
-use lib.ListN.{length, take, drop, length-append}
+use lib.ListN.{length, take, drop, length-append, length-map, length-take, length-replicate}
 use lib.Seq.{take-at}
 use Rattle.figures.proofs.Bytes.{laid-fits}
 use Rattle.figures.proofs.Decimal.{digits-length}
@@ -21,8 +22,9 @@ use Rattle.blocks.specs.declared.answers.Reading.{Reading}
 use Rattle.blocks.specs.declared.answers.Answer.{Answer}
 use Rattle.blocks.specs.declared.answers.Answer.the-variants.{Refused, Read}
 use Rattle.blocks.proofs.Accepted.{accepted}
+use Rattle.blocks.proofs.Counts.{judged-by}
 use Rattle.measures.proofs.Fits.{value-short, index-short}
-use Rattle.reports.specs.Piece.{wordText, wordsText, headText, widthText, endText, readingText, refusalText, answerText, reportOf, Reports}
+use Rattle.reports.specs.Piece.{wordText, wordsText, headText, widthText, endText, readingText, refusalText, whereText, answerText, reportOf, Reports}
 use Rattle.reports.specs.declared.piece.Reported.{Reported}
 use Rattle.figures.proofs.Places.{places-most}
 
@@ -49,6 +51,9 @@ head-short number at = simp (length-append, digits-length) (omega (arith, places
 refusal-short : (r : Refusal) → length (refusalText r) ≤ 57
 refusal-short r = simp (length-append, digits-length) (omega (arith, places-most (refusalNumber r), places-most (refusalTells r)))
 
+where-short : (piece : List ℕ) (place : ℕ) → place ≤ 769 → length (whereText piece place) ≤ 1542
+where-short piece place h = simp (length-append, length-map, length-take, length-replicate) (omega arith)
+
 width-short : (wide : Bool) → length (widthText wide) ≤ 9
 width-short true = omega arith
 width-short false = omega arith
@@ -61,8 +66,18 @@ reading-short : (r : Reading) → length (readingText r) ≤ 73
 reading-short r =
     simp (length-append, digits-length) (omega (arith, width-short (r .wide), end-short (r .crlf), places-most (r .words), places-most (r .used)))
 
-answer-short : (f : Family) (s : List ℕ) (a : Answer) → judged f s 32 .answer ≡ a → length (answerText f a (judged f s 32 .words)) ≤ 5193
-answer-short f s (Refused r) e = omega (arith, refusal-short r)
+-- no place that is told is further on
+abbrev Near : Answer → Type 0
+Near (Refused r) = refusalTells r ≤ 769
+Near (Read r) = Unit {0}
+
+told-near : (f : Family) (s : List ℕ) (r : Refusal) → judged f s 32 .answer ≡ Refused r → refusalTells r ≤ 769
+told-near f s r e = subst Near e (judged-by f 32 (λ j. Near (j .answer)) (λ r h. h) (λ wide at rest ws h few. tt) s)
+
+answer-short : (f : Family) (s : List ℕ) (a : Answer) → judged f s 32 .answer ≡ a → length (answerText f s a (judged f s 32 .words)) ≤ 5193
+answer-short f s (Refused r) e =
+    let place = refusalTells r in
+    omega (arith, length-append (refusalText r) (whereText s place), refusal-short r, where-short s place (told-near f s r e))
 answer-short f s (Read r) e =
     let ws = judged f s 32 .words in
     let lawful = accepted f s 32 r ws (λ i. record { answer = e i; words = ws }) .lawful in
@@ -70,7 +85,7 @@ answer-short f s (Read r) e =
 
 pub report-fits : (f : Family) (number at : ℕ) (piece : List ℕ) → length (reportOf f number at piece) ≤ 5280
 report-fits f number at piece =
-    let text = answerText f (judged f piece 32 .answer) (judged f piece 32 .words) in
+    let text = answerText f piece (judged f piece 32 .answer) (judged f piece 32 .words) in
     omega (arith, length-append (headText number at) text, head-short number at, answer-short f piece (judged f piece 32 .answer) refl)
 
 -- so in that much room it stands whole

@@ -1,9 +1,13 @@
--- What is printed of a piece: `at` is its start in the file, `place` the refusal's place in the block; of a refused block never a value.
-use Prim.Native.Nat.{ℕ, suc}
+-- What is printed of a piece: `at` is its start in the file, `place` the refusal's place in the block, and under the block's text a caret at that
+-- place; of a refused block never a value.
+use Prim.Native.Nat.{ℕ, suc, min}
 use mathlib.Core.Path.{_≡_}
 use mathlib.Core.Bool.{Bool, true, false, cond}
-use mathlib.Core.List.{List, [], _∷_, _++_}
+use mathlib.Core.List.{List, [], _∷_, _++_, map}
+use lib.ListN.{take}
 use Rattle.figures.specs.Text.{codes}
+use Rattle.figures.specs.Bytes.{runOf, isOther}
+use Rattle.figures.specs.Pointing.{shown, caretText}
 use Rattle.figures.specs.Decimal.{decimalOf}
 use Rattle.units.specs.declared.kinds.Family.{Family}
 use Rattle.words.specs.declared.records.Word.{Word}
@@ -48,13 +52,24 @@ readingText r =
 abbrev pub refusalText : Refusal → List ℕ
 refusalText r = codes " refused=" ++ (decimalOf (refusalNumber r) ++ (codes " place=" ++ (decimalOf (refusalTells r) ++ codes "\n")))
 
-abbrev pub answerText : Family → Answer → List Word → List ℕ
-answerText f (Refused r) ws = refusalText r
-answerText f (Read r) ws = readingText r ++ wordsText f 1 (r .wide) ws
+-- "the block's text up to its end": what comes before the first CR, and no more than the longest block has there and the byte in its CR's place
+abbrev pub textMost : ℕ
+textMost = 770
+
+abbrev pub textIn : List ℕ → List ℕ
+textIn piece = take (min (runOf (isOther 13) piece) textMost) piece
+
+-- "and under it a caret at the byte"
+abbrev pub whereText : List ℕ → ℕ → List ℕ
+whereText piece place = map shown (textIn piece) ++ (codes "\n" ++ caretText place)
+
+abbrev pub answerText : Family → List ℕ → Answer → List Word → List ℕ
+answerText f piece (Refused r) ws = refusalText r ++ whereText piece (refusalTells r)
+answerText f piece (Read r) ws = readingText r ++ wordsText f 1 (r .wide) ws
 
 -- a piece that is the so manyth of the family's file and starts there, read into a list of 32 places
 abbrev pub reportOf : Family → ℕ → ℕ → List ℕ → List ℕ
-reportOf f number at piece = headText number at ++ answerText f (judged f piece 32 .answer) (judged f piece 32 .words)
+reportOf f number at piece = headText number at ++ answerText f piece (judged f piece 32 .answer) (judged f piece 32 .words)
 
 abbrev pub isRead : Answer → Bool
 isRead (Refused r) = false

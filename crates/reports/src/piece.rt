@@ -3,7 +3,7 @@ ghost use mathlib.Core.Path.{_≡_};
 ghost use Prim.Native.Nat.{_≤_};
 ghost use lib.ListN.{take, length};
 ghost use Rattle.figures.specs.Rooms.{Puts};
-ghost use Rattle.reports.specs.Piece.{wordText, wordsText, headText, readingText, refusalText, tallyText, Reports};
+ghost use Rattle.reports.specs.Piece.{wordText, wordsText, headText, readingText, refusalText, whereText, tallyText, Reports};
 use blocks::answers::Answer;
 use blocks::answers::Reading;
 use blocks::answers::Refusal;
@@ -11,8 +11,11 @@ use blocks::answers::refusal_number;
 use blocks::answers::refusal_tells;
 use blocks::judging::judge;
 use figures::casts::wide_count;
+use figures::pointing::put_caret;
+use figures::pointing::put_shown;
 use figures::rooms::put;
 use figures::rooms::put_decimal;
+use figures::run_before;
 use measures::put_index;
 use measures::put_value;
 use units::kinds::Family;
@@ -20,6 +23,9 @@ use words::records::Word;
 
 // Room enough for the report of any piece.
 pub const ENOUGH: usize = 5_280;
+
+// Of a refused piece no more is shown: the bytes that the longest block has before its CR, and the one in the CR's place.
+const TEXT_MOST: usize = 770;
 
 // How many bytes of a report were put, and whether the block was accepted.
 pub struct Reported {
@@ -100,6 +106,21 @@ fn put_refusal(room: &mut [u8], at: usize, refusal: Refusal) -> usize
     put(room, after_told, b"\n")
 }
 
+// The text of a refused piece, and under it the byte.
+fn put_where(room: &mut [u8], at: usize, piece: &[u8], place: usize) -> usize
+    ensures { λ r. ⌜ Puts (now (room .entry)) at (whereText (now (piece .entry)) place) r (now (room .exit)) ⌝ }
+{
+    let before = run_before(piece, 13);
+    let n = if before < TEXT_MOST {
+        before
+    } else {
+        TEXT_MOST
+    };
+    let after_text = put_shown(room, at, &piece[0..n]);
+    let after_line = put(room, after_text, b"\n");
+    put_caret(room, after_line, place)
+}
+
 // The report of a piece that is the so manyth of the family's file and starts at that place in it.
 pub fn report(family: Family, number: u64, place: u64, piece: &[u8], room: &mut [u8]) -> Reported
     ensures { λ r. ⌜ Reports family number place (now (piece .entry)) (now (room .entry)) r (now (room .exit)) ⌝ }
@@ -110,7 +131,8 @@ pub fn report(family: Family, number: u64, place: u64, piece: &[u8], room: &mut 
     let at = put_head(room, number, place);
     match answer {
         Answer::Refused(refusal) => {
-            let end = put_refusal(room, at, refusal);
+            let after_line = put_refusal(room, at, refusal);
+            let end = put_where(room, after_line, piece, refusal_tells(refusal));
             Reported {
                 count: end,
                 accepted: false,

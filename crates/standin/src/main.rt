@@ -1,13 +1,17 @@
 // The program standin: plays the instrument on standard input and output, from a series' factory state or from a sheet file, of the series that it names.
+// With --why it says on standard error why each refused line was refused.
 use figures::same;
 use figures::starts;
 use instrument::settings::Series;
 use libc::STDERR_FILENO;
 use libc::STDIN_FILENO;
 use libc::STDOUT_FILENO;
+use lines::verdicts::Verdict;
 use port::Port;
 use port::hear;
 use port::quiet;
+use port::why::ENOUGH;
+use port::why::put_why;
 use sheets::answers::Sheeted;
 use sheets::answers::sheet_number;
 use sheets::answers::sheet_tells;
@@ -21,40 +25,68 @@ fn put(text: &[u8]) {
     io::write_all(STDERR_FILENO, text);
 }
 
-// The port after a byte, and whether to go on: not at the end of the input, nor where nothing can be written any more.
+// The port after a byte, how many lines were run, and whether to go on: not at the end of the input, nor where nothing can be written any more.
 struct Next {
     port: Port,
+    lines: u64,
     on: bool,
 }
 
+// Says why the line was refused that the port had kept; nothing of one that was accepted.
+fn say_why(number: u64, port: Port, verdict: Verdict) {
+    let mut room = [0u8; ENOUGH];
+    let n = put_why(&mut room, number, port, verdict);
+    put(&room[..n]);
+}
+
 // Waits for one byte, and replies at once where it ends a line.
-fn turn(image: &mut [u8], port: Port) -> Next {
+fn turn(image: &mut [u8], port: Port, lines: u64, why: bool) -> Next {
     let mut byte = [0u8; 1];
     let got = libc::read(STDIN_FILENO, &mut byte);
     if got <= 0 {
         return Next {
             port: port,
+            lines: lines,
             on: false,
         };
     }
     let mut room = [0u8; 459];
     let turn = hear(image, port, byte[0], &mut room);
     let next = turn.port;
-    let n = turn.count;
+    let told = turn.told;
+    let n = told.count;
     let on = io::write_all(STDOUT_FILENO, &room[..n]);
-    Next { port: next, on: on }
+    if byte[0] != 13 {
+        return Next {
+            port: next,
+            lines: lines,
+            on: on,
+        };
+    }
+    let number = std::num::wrapping_add_u64(lines, 1);
+    if why {
+        let verdict = told.verdict;
+        say_why(number, port, verdict);
+    }
+    Next {
+        port: next,
+        lines: number,
+        on: on,
+    }
 }
 
 // A proved loop has to end, so that this one counts its turns down, from a number that no run uses up.
-fn play(image: &mut [u8]) {
+fn play(image: &mut [u8], why: bool) {
     let mut port = quiet();
+    let mut lines = 0;
     let mut turns = u64::MAX;
     while turns > 0 {
-        let next = turn(image, port);
+        let next = turn(image, port, lines, why);
         if !next.on {
             return;
         }
         port = next.port;
+        lines = next.lines;
         turns -= 1;
     }
 }
@@ -90,6 +122,11 @@ fn none() -> Start {
         n: 0,
         on: false,
     }
+}
+
+fn usage() -> Start {
+    put(b"usage: standin [--why] [TPS100 | TPS300 | SHEET]\n");
+    none()
 }
 
 fn fresh(series: Series) -> Start {
@@ -131,15 +168,13 @@ fn read_file(path: &[u8], sheet: &mut [u8]) -> Start {
     }
 }
 
-// A series, a sheet file, or nothing, which is a TPS100; the argument was just read.
-fn asked(name: &[u8], sheet: &mut [u8]) -> Start {
-    let n = os::arg_count();
-    if n < 2 {
+// A series, a sheet file, or nothing, which is a TPS100; the argument was just read. What starts with two hyphens is no file but ./--NAME is.
+fn asked(arguments: usize, name: &[u8], sheet: &mut [u8]) -> Start {
+    if arguments == 0 {
         return fresh(Series::Tps100);
     }
-    if 2 < n {
-        put(b"usage: standin [TPS100 | TPS300 | SHEET]\n");
-        return none();
+    if 1 < arguments {
+        return usage();
     }
     if os::errno() != 0 {
         failed(b"SHEET");
@@ -150,6 +185,9 @@ fn asked(name: &[u8], sheet: &mut [u8]) -> Start {
     }
     if same(name, b"TPS300") {
         return fresh(Series::Tps300);
+    }
+    if starts(name, b"--") {
+        return usage();
     }
     read_file(name, sheet)
 }
@@ -173,11 +211,28 @@ fn ready(image: &mut [u8], start: Start, path: &[u8], sheet: &[u8]) -> bool {
     false
 }
 
+fn less_one(n: usize) -> usize {
+    if n == 0 { 0 } else { n - 1 }
+}
+
+// Whether that argument is --why.
+fn asks_why(i: usize) -> bool {
+    let mut word = [0u8; 6];
+    let n = os::arg(i, &mut word);
+    same(&word[..n], b"--why")
+}
+
 fn main() {
     let mut path = io::buffer();
     let mut sheet = [0u8; 442];
-    let length = os::arg(1, &mut path);
-    let start = asked(&path[..length], &mut sheet);
+    // --why stands first or second, and the other argument is what to start from.
+    let first = asks_why(1);
+    let why = first || asks_why(2);
+    let arguments = less_one(os::arg_count());
+    let others = if why { less_one(arguments) } else { arguments };
+    let at = if first { 2 } else { 1 };
+    let length = os::arg(at, &mut path);
+    let start = asked(others, &path[..length], &mut sheet);
     if !start.on {
         return;
     }
@@ -186,13 +241,13 @@ fn main() {
         Series::Tps100 => {
             let mut image = [0; IMAGE_100];
             if ready(&mut image, start, &path[..length], &sheet) {
-                play(&mut image);
+                play(&mut image, why);
             }
         }
         Series::Tps300 => {
             let mut image = [0; IMAGE_300];
             if ready(&mut image, start, &path[..length], &sheet) {
-                play(&mut image);
+                play(&mut image, why);
             }
         }
     }

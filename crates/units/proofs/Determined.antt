@@ -1,11 +1,11 @@
 -- The promises of this crate's public functions determine what comes out.
-use mathlib.Core.Path.{_≡_}
+use mathlib.Core.Path.{_≡_, sym, _∙_}
 use mathlib.Core.Bool.{Bool}
-use Prim.Native.Nat.{ℕ}
+use Prim.Native.Nat.{ℕ, _≤_}
 use Rattle.figures.specs.Promises.{Determined}
 use Rattle.figures.proofs.Determined.{by-equation}
 use Rattle.units.specs.Kinds.{kindOf, isTextual, namedBy, indexAt}
-use Rattle.units.specs.Information.{infoRight, informedOf, leadOf, signByte, signAt}
+use Rattle.units.specs.Information.{infoMarks, infoRight, firstWrong, informedOf, leadOf, signByte, signAt}
 use Rattle.units.specs.Counts.{angleOf, lengthOf, constantOf, valueAt, firstOf, secondOf}
 use Rattle.units.specs.declared.kinds.Family.{Family}
 use Rattle.units.specs.declared.kinds.Kind.{Kind}
@@ -42,6 +42,12 @@ infoRightBy i = infoRight (i .0) (i .1 .0) (i .1 .1 .0) (i .1 .1 .1 .0) (i .1 .1
 
 pub info-right-determined : Determined Information Bool (λ i r. r ≡ infoRightBy i)
 info-right-determined = by-equation Information Bool infoRightBy
+
+abbrev infoAtBy : Information → ℕ
+infoAtBy i = firstWrong (infoMarks (i .0) (i .1 .0) (i .1 .1 .0) (i .1 .1 .1 .0) (i .1 .1 .1 .1 .0) (i .1 .1 .1 .1 .1 .0) (i .1 .1 .1 .1 .1 .1))
+
+pub info-at-determined : Determined Information ℕ (λ i r. (r ≡ infoAtBy i) × (r ≤ 3))
+info-at-determined i a b p q = p .0 ∙ sym (q .0)
 
 abbrev informedBy : Information → Informed
 informedBy i = informedOf (i .0) (i .1 .0) (i .1 .1 .0) (i .1 .1 .1 .0) (i .1 .1 .1 .1 .0) (i .1 .1 .1 .1 .1 .0) (i .1 .1 .1 .1 .1 .1)

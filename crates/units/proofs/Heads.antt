@@ -12,7 +12,7 @@ use Rattle.figures.proofs.Tests.{both, by-test}
 use Rattle.units.specs.Classes.{none, number, text, numbered, classOf}
 use Rattle.units.specs.Kinds.{stationKind, levelKind, classKind, kindOf, isListed, indexOf, threeOf}
 use Rattle.units.specs.Kinds.{levelIndex, levelListed, indexBy, listedBy, indexRight}
-use Rattle.units.specs.Information.{isDot, isLead, stationInfo, levelInfo, infoRight, leadOf, headOf}
+use Rattle.units.specs.Information.{isDot, isLead, stationMarks, levelMarks, allRight, infoRight, leadOf, headOf}
 use Rattle.units.specs.declared.kinds.Family.{Family}
 use Rattle.units.specs.declared.kinds.Family.the-variants.{Station, Level}
 use Rattle.units.specs.declared.kinds.Kind.{Kind}
@@ -93,13 +93,13 @@ pub record Says (f : Family) (i a : ℕ) : Type 0 where
   pub index : indexBy f (tensOf (twoOf f i)) (onesOf (twoOf f i)) (thirdOf f i a) ≡ i
   pub lead : leadOf f i (thirdOf f i a) ≡ a
 
-station-says : (i a b m u : ℕ) → stationInfo (stationKind i) a b m u ≡ true → Says Station i a
+station-says : (i a b m u : ℕ) → allRight (stationMarks (stationKind i) a b m u) ≡ true → Says Station i a
 station-says i a b m u e =
     let l = listed (stationKind i) e in
     let on = index-on i (index-below i l) in
     record { right = rw (tens-digit i, ones-digit i, on) l; index = on; lead = refl }
   where
-    listed : (k : Kind) → stationInfo k a b m u ≡ true → isListed k ≡ true
+    listed : (k : Kind) → allRight (stationMarks k a b m u) ≡ true → isListed k ≡ true
     listed Missing h = h
     listed Numbered h = refl
     listed Text h = refl
@@ -137,13 +137,13 @@ dot-apart : {A : Type 0} (a : ℕ) → isDot a ≡ true → isDigit a ≡ true �
 dot-apart a e d = let is = eqb-true a 46 e in let low = within-bounds 48 57 a d in absurd (omega arith)
 
 module _ (i a b m u : ℕ) where
-  level-two : i < 100 → levelInfo i (levelKind i) a b m u ≡ true → Says Level i a
+  level-two : i < 100 → allRight (levelMarks i (levelKind i) a b m u) ≡ true → Says Level i a
   level-two h e =
       let low = lt-ltb i 100 h in
       two-says i a h (listed (levelKind i) e)
       (λ d. numbered-class (threeOf i a) (three-below i a h d) (ap levelKind (two-back i a d) ∙ kind low d (levelKind i) e))
     where
-      listed : (k : Kind) → levelInfo i k a b m u ≡ true → isListed k ≡ true
+      listed : (k : Kind) → allRight (levelMarks i k a b m u) ≡ true → isListed k ≡ true
       listed Missing f = f
       listed Numbered f = refl
       listed Text f = refl
@@ -152,7 +152,7 @@ module _ (i a b m u : ℕ) where
       listed Constant f = refl
       listed Pair f = refl
 
-      kind : ltb i 100 ≡ true → isDigit a ≡ true → (k : Kind) → levelInfo i k a b m u ≡ true → k ≡ Numbered
+      kind : ltb i 100 ≡ true → isDigit a ≡ true → (k : Kind) → allRight (levelMarks i k a b m u) ≡ true → k ≡ Numbered
       kind low d Missing f = absurd (false≢true f)
       kind low d Numbered f = refl
       kind low d Text f = dot-apart a (rw low at (both (isLead i a) _ f .0)) d
@@ -161,7 +161,7 @@ module _ (i a b m u : ℕ) where
       kind low d Constant f = absurd (false≢true f)
       kind low d Pair f = absurd (false≢true f)
 
-  level-three : 100 ≤ i → levelInfo i (classKind (classOf i)) a b m u ≡ true → Says Level i a
+  level-three : 100 ≤ i → allRight (levelMarks i (classKind (classOf i)) a b m u) ≡ true → Says Level i a
   level-three low e =
       let far = le-ltb i 100 low in
       let zero : isLead i a ≡ true → a ≡ 0 = λ l. eqb-true a 0 (rw far at l) in

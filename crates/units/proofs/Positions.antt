@@ -1,7 +1,7 @@
 -- Positions 1-2 and 7: an index and its two digits, and a sign and its byte, say each other.
 use Prim.Native.Nat.{ℕ, _+_, _/_, _%_, _<_, _≤_}
 use mathlib.Core.Path.{_≡_, refl, sym, ap, _∙_}
-use mathlib.Core.Bool.{true, false, not, _&&_, false≢true}
+use mathlib.Core.Bool.{Bool, true, false, cond, not, _&&_, false≢true}
 use mathlib.Core.List.{List, [], _∷_}
 use native.Mathlib.Omega.{arith}
 use borrow.Author.Tests.{eqb-true, eqb-false, leb-true, leb-false}
@@ -10,7 +10,8 @@ use Rattle.figures.specs.Bytes.{among, every}
 use Rattle.figures.specs.Decimal.{isDigit, digitsOf}
 use Rattle.figures.proofs.Bytes.{within-bounds, bounds-within, above-within}
 use Rattle.units.specs.Kinds.{stationKind, isListed, isTextual, indexOf, namedBy}
-use Rattle.units.specs.Information.{signByte, signOf, isSign, signRight}
+use Rattle.units.specs.Information.{firstWrong, signByte, signOf, isSign, signRight}
+use Rattle.units.specs.declared.information.Marks.{Marks}
 use Rattle.units.specs.declared.kinds.Kind.{Kind}
 use Rattle.units.specs.declared.kinds.Kind.the-variants.{Missing}
 use Rattle.units.specs.declared.kinds.Named.{Named}
@@ -87,6 +88,17 @@ tens-digit n = bounds-within 48 57 (tensOf n) (omega arith) (omega arith)
 
 pub ones-digit : (n : ℕ) → isDigit (onesOf n) ≡ true
 ones-digit n = bounds-within 48 57 (onesOf n) (omega arith) (omega arith)
+
+-- the information
+
+pub first-most : (m : Marks) → firstWrong m ≤ 3
+first-most m = go (m .0) (m .1) (m .2)
+  where
+    go : (a b c : Bool) → cond a (cond b (cond c 3 2) 1) 0 ≤ 3
+    go true true true = omega arith
+    go true true false = omega arith
+    go true false c = omega arith
+    go false b c = omega arith
 
 -- the sign
 

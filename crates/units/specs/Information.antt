@@ -12,6 +12,7 @@ use Rattle.units.specs.declared.kinds.Family.{Family}
 use Rattle.units.specs.declared.kinds.Family.the-variants.{Station, Level}
 use Rattle.units.specs.declared.kinds.Kind.{Kind}
 use Rattle.units.specs.declared.kinds.Kind.the-variants.{Missing, Numbered, Text, Angle, Length, Constant, Pair}
+use Rattle.units.specs.declared.information.Marks.{Marks}
 use Rattle.units.specs.declared.information.Informed.{Informed}
 use Rattle.units.specs.declared.information.Informed.the-variants as informed
 use Rattle.units.specs.declared.information.Signed.{Signed}
@@ -40,18 +41,27 @@ isAngleUnit = within 50 53
 abbrev pub isLengthUnit : ℕ → Bool
 isLengthUnit b = among b (codes "01678")
 
-abbrev pub four : (ℕ → Bool) → (ℕ → Bool) → (ℕ → Bool) → (ℕ → Bool) → ℕ → ℕ → ℕ → ℕ → Bool
-four p q r s a b c d = p a && (q b && (r c && s d))
+-- whether each of positions 3-6 is right
+abbrev pub marks : Bool → Bool → Bool → Bool → Marks
+marks a b c d = record { 0 = a; 1 = b; 2 = c; 3 = d }
+
+-- all four by one rule
+abbrev pub marksBy : (ℕ → Bool) → ℕ → ℕ → ℕ → ℕ → Marks
+marksBy p a b c d = marks (p a) (p b) (p c) (p d)
+
+-- four digits or four dots: the first byte chooses, "and is itself wrong if it is neither" (request 104)
+abbrev pub numberedMarks : ℕ → ℕ → ℕ → ℕ → Marks
+numberedMarks a b c d = cond (isDigit a) (marksBy isDigit a b c d) (marksBy isDot a b c d)
 
 -- the table's third column
-abbrev pub stationInfo : Kind → ℕ → ℕ → ℕ → ℕ → Bool
-stationInfo Missing a b c d = false
-stationInfo Numbered a b c d = four isDigit isDigit isDigit isDigit a b c d || four isDot isDot isDot isDot a b c d
-stationInfo Text a b c d = four isDot isDotOrDigit isDotOrDigit isDotOrDigit a b c d
-stationInfo Angle a b c d = four isDot isAngleMark isMode isAngleUnit a b c d
-stationInfo Length a b c d = four isDot isDot isMode isLengthUnit a b c d
-stationInfo Constant a b c d = four isDot isDot isMode (λ u. eqb u 54) a b c d
-stationInfo Pair a b c d = four isDot isDot isMode isDot a b c d
+abbrev pub stationMarks : Kind → ℕ → ℕ → ℕ → ℕ → Marks
+stationMarks Missing a b c d = marksBy (λ x. false) a b c d
+stationMarks Numbered a b c d = numberedMarks a b c d
+stationMarks Text a b c d = marks (isDot a) (isDotOrDigit b) (isDotOrDigit c) (isDotOrDigit d)
+stationMarks Angle a b c d = marks (isDot a) (isAngleMark b) (isMode c) (isAngleUnit d)
+stationMarks Length a b c d = marks (isDot a) (isDot b) (isMode c) (isLengthUnit d)
+stationMarks Constant a b c d = marks (isDot a) (isDot b) (isMode c) (eqb d 54)
+stationMarks Pair a b c d = marks (isDot a) (isDot b) (isMode c) (isDot d)
 
 -- the level's (request 101): "position 4 is a dot or 1"
 abbrev pub isFlag : ℕ → Bool
@@ -70,18 +80,28 @@ abbrev pub isLead : ℕ → ℕ → Bool
 isLead i a = cond (ltb i 100) (isDot a) (eqb a 0)
 
 -- "11, 41-49 read as before. 52, 57 and 521 are text, the rest of positions 4-6 dots or digits."
-abbrev pub levelInfo : ℕ → Kind → ℕ → ℕ → ℕ → ℕ → Bool
-levelInfo i Missing a b c d = false
-levelInfo i Numbered a b c d = stationInfo Numbered a b c d
-levelInfo i Text a b c d = four (isLead i) isDotOrDigit isDotOrDigit isDotOrDigit a b c d
-levelInfo i Angle a b c d = false
-levelInfo i Length a b c d = four (isLead i) isFlag isLevelMode isLevelUnit a b c d
-levelInfo i Constant a b c d = false
-levelInfo i Pair a b c d = false
+abbrev pub levelMarks : ℕ → Kind → ℕ → ℕ → ℕ → ℕ → Marks
+levelMarks i Missing a b c d = marksBy (λ x. false) a b c d
+levelMarks i Numbered a b c d = numberedMarks a b c d
+levelMarks i Text a b c d = marks (isLead i a) (isDotOrDigit b) (isDotOrDigit c) (isDotOrDigit d)
+levelMarks i Angle a b c d = marksBy (λ x. false) a b c d
+levelMarks i Length a b c d = marks (isLead i a) (isFlag b) (isLevelMode c) (isLevelUnit d)
+levelMarks i Constant a b c d = marksBy (λ x. false) a b c d
+levelMarks i Pair a b c d = marksBy (λ x. false) a b c d
+
+abbrev pub infoMarks : Family → ℕ → Kind → ℕ → ℕ → ℕ → ℕ → Marks
+infoMarks Station i k a b c d = stationMarks k a b c d
+infoMarks Level i k a b c d = levelMarks i k a b c d
+
+abbrev pub allRight : Marks → Bool
+allRight m = m .0 && (m .1 && (m .2 && m .3))
 
 abbrev pub infoRight : Family → ℕ → Kind → ℕ → ℕ → ℕ → ℕ → Bool
-infoRight Station i k a b c d = stationInfo k a b c d
-infoRight Level i k a b c d = levelInfo i k a b c d
+infoRight f i k a b c d = allRight (infoMarks f i k a b c d)
+
+-- "6: the first of positions 3-6 (4-6 after a three-digit index) that breaks its rule" (request 104), of the four from 0
+abbrev pub firstWrong : Marks → ℕ
+firstWrong m = cond (m .0) (cond (m .1) (cond (m .2) 3 2) 1) 0
 
 -- position 3 as the information has it
 abbrev pub leadOf : Family → ℕ → ℕ → ℕ

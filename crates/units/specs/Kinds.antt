@@ -76,7 +76,7 @@ threeOf two third = two * 10 + (third - 48)
 abbrev pub levelIndex : ℕ → ℕ → ℕ
 levelIndex two third = cond (isDigit third && not (eqb (classOf (threeOf two third)) numbered)) (threeOf two third) two
 
--- "Refusals: any other index, a digit at position 3 included, is 5"
+-- whether a level has the index: a digit at position 3 makes it one of three digits
 abbrev pub levelListed : ℕ → ℕ → Bool
 levelListed two third = cond (isDigit third) (not (eqb (classOf (threeOf two third)) none)) (isListed (levelKind two))
 
@@ -88,6 +88,13 @@ indexBy Level tens ones third = levelIndex (indexOf tens ones) third
 abbrev pub listedBy : Family → ℕ → ℕ → ℕ → Bool
 listedBy Station tens ones third = isListed (stationKind (indexOf tens ones))
 listedBy Level tens ones third = levelListed (indexOf tens ones) third
+
+-- two digits at positions 1-2; "5: the first of positions 1-2 that is no digit" (request 104), from 0
+abbrev pub areDigits : ℕ → ℕ → Bool
+areDigits tens ones = isDigit tens && isDigit ones
+
+abbrev pub firstOther : ℕ → ℕ
+firstOther tens = cond (isDigit tens) 1 0
 
 abbrev pub indexRight : Family → ℕ → ℕ → ℕ → Bool
 indexRight f tens ones third = isDigit tens && (isDigit ones && listedBy f tens ones third)

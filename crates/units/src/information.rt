@@ -1,11 +1,16 @@
 // Positions 3-7 of a word: the information and the sign.
 ghost use mathlib.Core.Path.{_≡_};
-ghost use mathlib.Core.Bool.{cond, _&&_, _||_};
+ghost use mathlib.Core.Bool.{cond};
+ghost use Prim.Native.Nat.{_≤_};
 ghost use Rattle.units.specs.Information.{isDot, isMode, isDotOrDigit, isAngleMark, isAngleUnit, isLengthUnit};
-ghost use Rattle.units.specs.Information.{isFlag, isLevelMode, isLevelUnit, isLead, stationInfo, levelInfo, infoRight, leadOf, informedOf, signByte, signAt};
+ghost use Rattle.units.specs.Information.{isFlag, isLevelMode, isLevelUnit, isLead, numberedMarks, stationMarks, levelMarks, infoMarks};
+ghost use Rattle.units.specs.Information.{allRight, infoRight, firstWrong, leadOf, informedOf, signByte, signAt};
 use crate::kinds::Family;
 use crate::kinds::Kind;
 use crate::kinds::textual;
+
+// Whether each of positions 3-6 is right.
+pub struct Marks(pub bool, pub bool, pub bool, pub bool);
 
 pub enum Informed {
     Not,
@@ -118,53 +123,75 @@ fn lead(index: u16, b: u8) -> bool
     b == 0
 }
 
-fn all(a: bool, b: bool, c: bool, d: bool) -> bool
-    ensures { λ r. ⌜ r ≡ (a && (b && (c && d))) ⌝ }
+// Whether all four are right.
+fn all(m: Marks) -> bool
+    ensures { λ r. ⌜ r ≡ allRight m ⌝ }
 {
-    a && b && c && d
+    m.0 && m.1 && m.2 && m.3
 }
 
-fn either(a: bool, b: bool) -> bool
-    ensures { λ r. ⌜ r ≡ (a || b) ⌝ }
+// The first that isn't, from 0; the last where the first three are.
+fn first_wrong(m: Marks) -> usize
+    ensures { λ r. ⌜ r ≡ firstWrong m ⌝ }
 {
-    a || b
+    if !m.0 {
+        return 0;
+    }
+    if !m.1 {
+        return 1;
+    }
+    if !m.2 {
+        return 2;
+    }
+    3
 }
 
-fn numbered(a: u8, b: u8, c: u8, d: u8) -> bool
-    ensures { λ r. ⌜ r ≡ stationInfo Kind.Numbered a b c d ⌝ }
+// Four digits or four dots, as the first byte chooses.
+fn numbered(a: u8, b: u8, c: u8, d: u8) -> Marks
+    ensures { λ r. ⌜ r ≡ numberedMarks a b c d ⌝ }
 {
-    let digits = all(
-        figures::digit(a),
-        figures::digit(b),
-        figures::digit(c),
-        figures::digit(d),
-    );
-    let dots = all(dot(a), dot(b), dot(c), dot(d));
-    either(digits, dots)
+    if figures::digit(a) {
+        return Marks(
+            true,
+            figures::digit(b),
+            figures::digit(c),
+            figures::digit(d),
+        );
+    }
+    Marks(dot(a), dot(b), dot(c), dot(d))
 }
 
-fn station_info(kind: Kind, a: u8, b: u8, c: u8, d: u8) -> bool
-    ensures { λ r. ⌜ r ≡ stationInfo kind a b c d ⌝ }
+fn station_marks(kind: Kind, a: u8, b: u8, c: u8, d: u8) -> Marks
+    ensures { λ r. ⌜ r ≡ stationMarks kind a b c d ⌝ }
 {
     match kind {
-        Kind::Missing => false,
+        Kind::Missing => Marks(false, false, false, false),
         Kind::Numbered => numbered(a, b, c, d),
-        Kind::Text => all(dot(a), free(b), free(c), free(d)),
-        Kind::Angle => all(dot(a), angle_mark(b), mode(c), angle_unit(d)),
-        Kind::Length => all(dot(a), dot(b), mode(c), length_unit(d)),
-        Kind::Constant => all(dot(a), dot(b), mode(c), d == b'6'),
-        Kind::Pair => all(dot(a), dot(b), mode(c), dot(d)),
+        Kind::Text => Marks(dot(a), free(b), free(c), free(d)),
+        Kind::Angle => Marks(dot(a), angle_mark(b), mode(c), angle_unit(d)),
+        Kind::Length => Marks(dot(a), dot(b), mode(c), length_unit(d)),
+        Kind::Constant => Marks(dot(a), dot(b), mode(c), d == b'6'),
+        Kind::Pair => Marks(dot(a), dot(b), mode(c), dot(d)),
     }
 }
 
-fn level_info(index: u16, kind: Kind, a: u8, b: u8, c: u8, d: u8) -> bool
-    ensures { λ r. ⌜ r ≡ levelInfo index kind a b c d ⌝ }
+fn level_marks(index: u16, kind: Kind, a: u8, b: u8, c: u8, d: u8) -> Marks
+    ensures { λ r. ⌜ r ≡ levelMarks index kind a b c d ⌝ }
 {
     match kind {
         Kind::Numbered => numbered(a, b, c, d),
-        Kind::Text => all(lead(index, a), free(b), free(c), free(d)),
-        Kind::Length => all(lead(index, a), flag(b), level_mode(c), level_unit(d)),
-        _ => false,
+        Kind::Text => Marks(lead(index, a), free(b), free(c), free(d)),
+        Kind::Length => Marks(lead(index, a), flag(b), level_mode(c), level_unit(d)),
+        _ => Marks(false, false, false, false),
+    }
+}
+
+fn info_marks(family: Family, index: u16, kind: Kind, a: u8, b: u8, c: u8, d: u8) -> Marks
+    ensures { λ r. ⌜ r ≡ infoMarks family index kind a b c d ⌝ }
+{
+    match family {
+        Family::Station => station_marks(kind, a, b, c, d),
+        Family::Level => level_marks(index, kind, a, b, c, d),
     }
 }
 
@@ -172,10 +199,14 @@ fn level_info(index: u16, kind: Kind, a: u8, b: u8, c: u8, d: u8) -> bool
 pub fn info_right(family: Family, index: u16, kind: Kind, a: u8, b: u8, c: u8, d: u8) -> bool
     ensures { λ r. ⌜ r ≡ infoRight family index kind a b c d ⌝ }
 {
-    match family {
-        Family::Station => station_info(kind, a, b, c, d),
-        Family::Level => level_info(index, kind, a, b, c, d),
-    }
+    all(info_marks(family, index, kind, a, b, c, d))
+}
+
+// Which of the four, from 0, is the first that a word of that index and kind can't have.
+pub fn info_at(family: Family, index: u16, kind: Kind, a: u8, b: u8, c: u8, d: u8) -> usize
+    ensures { λ r. ⌜ (r ≡ firstWrong (infoMarks family index kind a b c d)) × (r ≤ 3) ⌝ }
+{
+    first_wrong(info_marks(family, index, kind, a, b, c, d))
 }
 
 fn answer(right: bool) -> Informed
@@ -194,8 +225,8 @@ pub fn informed_by(family: Family, index: u16, kind: Kind, a: u8, b: u8, c: u8, 
     ensures { λ r. ⌜ r ≡ informedOf family index kind a b c d ⌝ }
 {
     match family {
-        Family::Station => answer(station_info(kind, a, b, c, d)),
-        Family::Level => answer(level_info(index, kind, a, b, c, d)),
+        Family::Station => answer(all(station_marks(kind, a, b, c, d))),
+        Family::Level => answer(all(level_marks(index, kind, a, b, c, d))),
     }
 }
 

@@ -9,7 +9,7 @@ use lib.Dec.{eqb, ltb}
 use lib.ListN.{length, getD}
 use Rattle.figures.proofs.Tests.{both, by-test}
 use Rattle.units.specs.Kinds.{levelKind, kindOf}
-use Rattle.units.specs.Information.{isLead, levelInfo, infoRight}
+use Rattle.units.specs.Information.{isLead, levelMarks, allRight, infoRight}
 use Rattle.units.specs.declared.kinds.Family.{Family}
 use Rattle.units.specs.declared.kinds.Family.the-variants.{Station, Level}
 use Rattle.units.specs.declared.kinds.Kind.{Kind}
@@ -47,7 +47,7 @@ two-without-dot wide w h plain other =
     let low = lt-ltb (w .index) 100 h in
     by-kind low (levelKind (w .index)) refl _ _ _ (rw low at (informed Level wide w e)))
   where
-    by-kind : ltb (w .index) 100 ≡ true → (k : Kind) → levelKind (w .index) ≡ k → (b c d : ℕ) → levelInfo (w .index) k (leads w) b c d ≡ true → ⊥
+    by-kind : ltb (w .index) 100 ≡ true → (k : Kind) → levelKind (w .index) ≡ k → (b c d : ℕ) → allRight (levelMarks (w .index) k (leads w) b c d) ≡ true → ⊥
     by-kind low Missing is b c d e = false≢true e
     by-kind low Numbered is b c d e = plain is
     by-kind low Text is b c d e = other (eqb-true (leads w) 46 (rw low at (both (isLead (w .index) (leads w)) _ e .0)))

@@ -1,7 +1,7 @@
 -- What a check says of the rule that it tests: from its answer, and from the test of that answer.
 use Prim.Native.Nat.{ℕ, _+_, _-_, _≤_, _<_}
 use mathlib.Core.Path.{_≡_, refl, sym, _∙_}
-use mathlib.Core.Bool.{Bool, true, false, cond, _&&_, and-true, and-assoc}
+use mathlib.Core.Bool.{Bool, true, false, cond, _&&_, and-true, and-assoc, false≢true}
 use mathlib.Core.List.{List}
 use native.Mathlib.Omega.{arith}
 use borrow.Author.Tests.{le-leb, lt-leb, leb-true, leb-false}
@@ -9,14 +9,18 @@ use borrow.Rule.Slice.PartMut.{midOf}
 use lib.Dec.{leb}
 use lib.ListN.{length, take, drop, length-drop, drop-of-length-le}
 use lib.Seq.{take-all, length-take-le}
-use Rattle.figures.specs.Bytes.{every}
+use Rattle.figures.specs.Bytes.{every, runOf}
 use Rattle.figures.specs.Decimal.{isDigit, numberOf, numberIn}
 use Rattle.figures.specs.declared.Said.{Said}
 use Rattle.figures.specs.declared.Said.the-variants as said
-use Rattle.units.specs.Kinds.{isTextual, kindOf, indexBy, indexRight, indexAt}
-use Rattle.units.specs.Information.{signRight, signOf, signAt}
+use Rattle.units.specs.Kinds.{isTextual, kindOf, indexBy, areDigits, listedBy, indexRight, indexAt}
+use Rattle.units.specs.Information.{isSign, signRight, signOf, signAt}
 use Rattle.words.specs.Records.{width, textRight, isGraphic, isZero}
-use Rattle.words.specs.Reading.{wordSize, dataIn, dataRight, ppmIn, underIn, mmIn, figuresIn}
+use Rattle.words.specs.Reading.{wordSize, dataIn, dataRight, dataAt, ppmIn, underIn, mmIn, figuresIn, faulty, unless}
+use Rattle.words.specs.declared.reading.Fault.the-variants.{Index, Unlisted}
+use Rattle.words.specs.declared.reading.OneWord.{OneWord}
+use Rattle.figures.proofs.Bytes.{run-every, run-other}
+use Rattle.figures.proofs.Tests.{both, by-test}
 use Rattle.words.specs.Keeping.{pairAt, spelledAt}
 use Rattle.units.specs.declared.kinds.Family.{Family}
 use Rattle.units.specs.declared.kinds.Kind.{Kind}
@@ -57,17 +61,35 @@ parted-not {b} e f = refused b parted.Blank parted.Not (λ q. clash (cc)) e f
 pub parted-blank : {b : Bool} {r : Parted} → r ≡ cond b parted.Blank parted.Not → r ≡ parted.Blank → b ≡ true
 parted-blank {b} e f = granted b parted.Blank parted.Not (λ q. clash (cc)) e f .0
 
-pub index-not : (f : Family) (t o c : ℕ) {r : Indexed} → r ≡ indexAt f t o c → r ≡ indexed.Not → indexRight f t o c ≡ false
-index-not f t o c e is =
+-- positions 1-3 that are an index: digits, and listed
+pub index-right : (f : Family) (t o c : ℕ) → areDigits t o ≡ true → listedBy f t o c ≡ true → indexRight f t o c ≡ true
+index-right f t o c d l = let two = both (isDigit t) (isDigit o) d in rw (two .0, two .1, l)
+
+pub right-parts : (f : Family) (t o c : ℕ) → indexRight f t o c ≡ true → (areDigits t o ≡ true) × (listedBy f t o c ≡ true)
+right-parts f t o c e =
+    let tens = both (isDigit t) (isDigit o && listedBy f t o c) e in
+    let ones = both (isDigit o) (listedBy f t o c) (tens .1) in
+    (rw (tens .0, ones .0), ones .1)
+
+-- where they are none, 5 or 15
+pub index-not : (f : Family) (t o c at : ℕ) (next : OneWord) {r : Indexed} → r ≡ indexAt f t o c → r ≡ indexed.Not
+    → unless (areDigits t o) Index at (unless (listedBy f t o c) Unlisted 0 next) ≡ unless (areDigits t o) Index at (faulty Unlisted 0)
+index-not f t o c at next e is =
     let i = indexBy f t o c in
-    refused (indexRight f t o c) (indexed.Listed i (kindOf f i)) indexed.Not (λ q. clash (cc)) e is
+    go (isDigit t) (isDigit o) (listedBy f t o c) (refused (indexRight f t o c) (indexed.Listed i (kindOf f i)) indexed.Not (λ q. clash (cc)) e is)
+  where
+    go : (a b l : Bool) → a && (b && l) ≡ false → unless (a && b) Index at (unless l Unlisted 0 next) ≡ unless (a && b) Index at (faulty Unlisted 0)
+    go true true true h = absurd (false≢true (sym h))
+    go true true false h = refl
+    go true false l h = refl
+    go false b l h = refl
 
 pub index-is : (f : Family) (t o c : ℕ) {r : Indexed} {i : ℕ} {k : Kind} → r ≡ indexAt f t o c → r ≡ indexed.Listed i k
-    → (indexRight f t o c ≡ true) × (i ≡ indexBy f t o c) × (k ≡ kindOf f (indexBy f t o c))
+    → ((areDigits t o ≡ true) × (listedBy f t o c ≡ true)) × (i ≡ indexBy f t o c) × (k ≡ kindOf f (indexBy f t o c))
 index-is f t o c e is =
     let n = indexBy f t o c in
     let ok = granted (indexRight f t o c) (indexed.Listed n (kindOf f n)) indexed.Not (λ q. clash (cc)) e is in
-    (ok .0, cc (ok .1), cc (ok .1))
+    (right-parts f t o c (ok .0), cc (ok .1), cc (ok .1))
 
 -- what `number` takes: no more than 16 digits
 abbrev pub isNumber : List ℕ → Bool
@@ -103,14 +125,34 @@ pair-by d h =
     let back : length (mmIn d) ≡ 3 = omega (arith, length-drop (length d - 3) d) in
     rw (le-leb 4 (length d) h, few (length d) h (leb (length d - 4) 16) refl, front, back, and-true, and-assoc)
 
--- the ppm and the mm as `pair_at` lends them, as `number` reads them
-pub ppm-in : (d : List ℕ) → numberIn (midOf 0 (length d - 4 - 0) d) ≡ numberIn (ppmIn d)
-ppm-in d = let all : length d - 4 - 0 ≡ length d - 4 = omega arith in rw all
+-- the ppm and the mm as they are lent
+pub ppm-part : (d : List ℕ) → midOf 0 (length d - 4 - 0) d ≡ ppmIn d
+ppm-part d = let all : length d - 4 - 0 ≡ length d - 4 = omega arith in rw all
 
-pub mm-in : (d : List ℕ) → 4 ≤ length d → numberIn (midOf (length d - 4 + 1) (length d - (length d - 4 + 1)) d) ≡ numberIn (mmIn d)
-mm-in d h =
+pub mm-part : (d : List ℕ) → 4 ≤ length d → midOf (length d - 4 + 1) (length d - (length d - 4 + 1)) d ≡ mmIn d
+mm-part d h =
     let from : length d - 4 + 1 ≡ length d - 3 = omega arith in
     rw (from, take-all (length d - (length d - 3)) (mmIn d) (omega (arith, length-drop (length d - 3) d)))
+
+-- the first wrong byte of a pair's data, when its ppm were looked at, and its sign
+module _ (d : List ℕ) (h : 4 ≤ length d) where
+  front : length (ppmIn d) ≡ length d - 4
+  front = length-take-le (length d - 4) d (omega arith)
+
+  pub ppm-wrong : runOf isDigit (ppmIn d) < length d - 4 → dataAt kind.Pair d ≡ runOf isDigit (ppmIn d)
+  ppm-wrong near =
+      let some : every isDigit (ppmIn d) ≡ false =
+      by-test (every isDigit (ppmIn d)) (λ q. absurd (omega (arith, run-every isDigit (ppmIn d) q, front))) (λ q. q) in
+      rw some
+
+  ppm-right : length d - 4 ≤ runOf isDigit (ppmIn d) → every isDigit (ppmIn d) ≡ true
+  ppm-right far = by-test (every isDigit (ppmIn d)) (λ q. q) (λ q. absurd (omega (arith, run-other isDigit (ppmIn d) q, front)))
+
+  pub under-wrong : length d - 4 ≤ runOf isDigit (ppmIn d) → signRight kind.Pair (underIn d) ≡ false → dataAt kind.Pair d ≡ length d - 4
+  under-wrong far bad = let other : isSign (underIn d) ≡ false = rw and-true at bad in rw (ppm-right far, other)
+
+  pub mm-wrong : length d - 4 ≤ runOf isDigit (ppmIn d) → signRight kind.Pair (underIn d) ≡ true → dataAt kind.Pair d ≡ length d - 3 + runOf isDigit (mmIn d)
+  mm-wrong far good = let is : isSign (underIn d) ≡ true = rw and-true at good in rw (ppm-right far, is)
 
 pub pair-short : (d : List ℕ) → length d < 4 → pairAt d ≡ spelled.Not
 pair-short d h = rw (lt-leb 4 (length d) h)

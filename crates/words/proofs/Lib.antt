@@ -7,5 +7,6 @@ pub mod Given
 pub mod Apart
 pub mod Typed
 pub mod Signs
+pub mod Told
 pub mod Writes
 pub mod Determined

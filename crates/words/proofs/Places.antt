@@ -8,16 +8,17 @@ use borrow.Author.Tests.{le-leb}
 use lib.Dec.{eqb}
 use lib.ListN.{length, getD, take, drop, length-append, take-append-drop}
 use lib.Seq.{take-at, getD-at, getD-drop, drop-drop, drop-cons, length-take-le}
-use Rattle.units.specs.Kinds.{kindOf, indexBy, indexRight}
-use Rattle.units.specs.Information.{infoRight, leadOf, signOf, signRight}
+use Rattle.units.specs.Kinds.{kindOf, indexBy, areDigits, firstOther, listedBy}
+use Rattle.units.specs.Information.{infoMarks, allRight, firstWrong, leadOf, signOf, signRight}
+use Rattle.units.specs.declared.information.Marks.{Marks}
 use Rattle.units.specs.Counts.{valueAt}
 use Rattle.words.specs.Records.{width, recordOf}
-use Rattle.words.specs.Reading.{wordSize, pos, dataIn, dataRight, figuresIn, textField, isCounted, countOr, rightWord, unless, wordOf}
+use Rattle.words.specs.Reading.{wordSize, pos, dataIn, dataRight, dataAt, figuresIn, textField, isCounted, countOr, rightWord, unless, wordOf}
 use Rattle.units.specs.declared.kinds.Family.{Family}
 use Rattle.units.specs.declared.counts.Count.{Count}
 use Rattle.units.specs.declared.counts.Valued.{Valued}
 use Rattle.words.specs.declared.records.Word.{Word}
-use Rattle.words.specs.declared.reading.Fault.the-variants.{Index, Information, Sign, Characters, Separator, Value}
+use Rattle.words.specs.declared.reading.Fault.the-variants.{Index, Unlisted, Information, Sign, Characters, Separator, Value}
 use Rattle.words.specs.declared.reading.OneWord.{OneWord}
 use Rattle.words.proofs.Checks.{data-length}
 
@@ -53,10 +54,20 @@ placesIn wide s = record {
   end = getD s (7 + width wide) 0;
 }
 
+-- what 5, 6, 8 and 9 tell of a word
+pub record Tells : Type 0 where
+  pub other : ℕ
+  pub info : ℕ
+  pub letters : ℕ
+  pub end : ℕ
+
 -- the rules in order, and the first that fails gives its fault
-abbrev pub rules : Bool → Bool → Bool → Bool → Bool → Bool → OneWord → OneWord
-rules index info sign letters end value r =
-    unless index Index (unless info Information (unless sign Sign (unless letters Characters (unless end Separator (unless value Value r)))))
+abbrev pub rules : Tells → Bool → Bool → Bool → Bool → Bool → Bool → Bool → OneWord → OneWord
+rules t digits listed info sign letters end value r =
+    unless digits Index (t .other)
+    (unless listed Unlisted 0
+    (unless info Information (t .info)
+    (unless sign Sign 6 (unless letters Characters (t .letters) (unless end Separator (t .end) (unless value Value 7 r))))))
 
 -- what the places count, by the index that they say
 abbrev pub valueBy : Family → ℕ → Places → Valued
@@ -65,20 +76,33 @@ valueBy f i p = valueAt (kindOf f i) i (p .unit) (signOf (p .sign)) (figuresIn (
 abbrev pub recordBy : Family → ℕ → Places → Count → Word
 recordBy f i p c = recordOf i (leadOf f i (p .first) ∷ p .second ∷ p .mode ∷ p .unit ∷ []) c (textField (kindOf f i) (p .letters))
 
-abbrev pub wordAt : Family → ℕ → Places → OneWord
-wordAt f i p =
-    rules (indexRight f (p .tens) (p .ones) (p .first))
-    (infoRight f i (kindOf f i) (leadOf f i (p .first)) (p .second) (p .mode) (p .unit))
+abbrev pub marksBy : Family → ℕ → Places → Marks
+marksBy f i p = infoMarks f i (kindOf f i) (leadOf f i (p .first)) (p .second) (p .mode) (p .unit)
+
+abbrev pub tellsBy : Family → Bool → ℕ → Places → Tells
+tellsBy f wide i p = record {
+  other = firstOther (p .tens);
+  info = 2 + firstWrong (marksBy f i p);
+  letters = 7 + dataAt (kindOf f i) (p .letters);
+  end = 7 + width wide;
+}
+
+abbrev pub wordAt : Family → Bool → ℕ → Places → OneWord
+wordAt f wide i p =
+    rules (tellsBy f wide i p)
+    (areDigits (p .tens) (p .ones))
+    (listedBy f (p .tens) (p .ones) (p .first))
+    (allRight (marksBy f i p))
     (signRight (kindOf f i) (p .sign))
     (dataRight (kindOf f i) (p .letters))
     (eqb (p .end) 32)
     (isCounted (valueBy f i p))
     (rightWord (recordBy f i p (countOr (valueBy f i p))))
 
-abbrev pub wordBy : Family → Places → OneWord
-wordBy f p = wordAt f (indexFrom f p) p
+abbrev pub wordBy : Family → Bool → Places → OneWord
+wordBy f wide p = wordAt f wide (indexFrom f p) p
 
-long-word : (f : Family) (wide : Bool) (s : List ℕ) → wordSize wide ≤ length s → wordOf f wide s ≡ wordBy f (placesIn wide s)
+long-word : (f : Family) (wide : Bool) (s : List ℕ) → wordSize wide ≤ length s → wordOf f wide s ≡ wordBy f wide (placesIn wide s)
 long-word f wide s h = rw (le-leb (wordSize wide) (length s) h)
 
 -- a list that is long enough is its places, and then the rest
@@ -98,7 +122,7 @@ module _ (wide : Bool) (p : Places) (l : length (p .letters) ≡ width wide) whe
   spread-length : (rest : List ℕ) → length (spread p rest) ≡ wordSize wide + length rest
   spread-length rest = omega (arith, length-append (p .letters) (p .end ∷ rest))
 
-  pub word-spread : (f : Family) (rest : List ℕ) → wordOf f wide (spread p rest) ≡ wordBy f p
+  pub word-spread : (f : Family) (rest : List ℕ) → wordOf f wide (spread p rest) ≡ wordBy f wide p
   word-spread f rest =
       let letters-are : dataIn wide (spread p rest) ≡ p .letters = take-at (p .letters) (p .end ∷ rest) (width wide) l in
       let end-is : getD (spread p rest) (7 + width wide) 0 ≡ p .end =

@@ -9,8 +9,8 @@ use lib.Dec.{eqb, leb}
 use lib.ListN.{length, getD, take, drop, drop-of-length-le}
 use lib.Seq.{drop-cons}
 use Rattle.figures.specs.Decimal.{isDigit}
-use Rattle.units.specs.Kinds.{kindOf, indexRight, listedBy}
-use Rattle.units.specs.Information.{infoRight, leadOf, headOf, signByte, signOf, signRight}
+use Rattle.units.specs.Kinds.{kindOf, areDigits, listedBy}
+use Rattle.units.specs.Information.{allRight, infoRight, leadOf, headOf, signByte, signOf, signRight}
 use Rattle.units.specs.Counts.{whole, firstOf, secondOf, figuresOf}
 use Rattle.words.specs.Records.{width, kindIn, unitIn, countOf, countRight, textRight, sameWhole, isRight}
 use Rattle.words.specs.Reading.{wordSize, pos, dataRight, valueIn, isCounted, countOr, rightWord, unless, wordOf}
@@ -22,17 +22,17 @@ use Rattle.units.specs.declared.counts.Valued.{Valued}
 use Rattle.units.specs.declared.counts.Valued.the-variants.{Not, Counted}
 use Rattle.words.specs.declared.records.Word.{Word}
 use Rattle.words.specs.declared.reading.Fault.{Fault}
-use Rattle.words.specs.declared.reading.Fault.the-variants.{Short, Index, Information, Sign, Characters, Separator, Value}
+use Rattle.words.specs.declared.reading.Fault.the-variants.{Short, Index, Unlisted, Information, Sign, Characters, Separator, Value}
 use Rattle.words.specs.declared.reading.Judged.the-variants.{Right, Wrong}
 use Rattle.words.specs.declared.reading.OneWord.{OneWord}
-use Rattle.words.proofs.Checks.{width-bounds, data-length}
+use Rattle.words.proofs.Checks.{index-right, right-parts, width-bounds, data-length}
 use Rattle.figures.proofs.Tests.{both}
 use Rattle.units.proofs.Heads.{head-back, twoOf, thirdOf, head-is, head-says}
 use Rattle.units.proofs.Positions.{tensOf, onesOf}
 use Rattle.units.proofs.Positions.{sign-back, sign-of, sign-on, sign-right}
 use Rattle.words.proofs.Characters.{fit-read, data-back, text-read, spelt}
 use Rattle.words.proofs.Values.{value-told, value-on}
-use Rattle.words.proofs.Places.{Places, indexFrom, spread, placesIn, rules, valueBy, recordBy, wordAt, wordBy}
+use Rattle.words.proofs.Places.{Places, indexFrom, spread, placesIn, Tells, rules, valueBy, marksBy, recordBy, wordAt, wordBy}
 use Rattle.words.proofs.Places.{spread-places, word-spread, spread-on, size-spread, take-spread}
 
 -- a record that the writer takes, rule by rule
@@ -88,26 +88,28 @@ right-taken f wide w c e t =
 
 -- places that are a word of that index and count, rule by rule
 record Judges (f : Family) (i : ℕ) (p : Places) (c : Count) : Type 0 where
-  index : indexRight f (p .tens) (p .ones) (p .first) ≡ true
-  info : infoRight f i (kindOf f i) (leadOf f i (p .first)) (p .second) (p .mode) (p .unit) ≡ true
+  digits : areDigits (p .tens) (p .ones) ≡ true
+  listed : listedBy f (p .tens) (p .ones) (p .first) ≡ true
+  info : allRight (marksBy f i p) ≡ true
   sign : signRight (kindOf f i) (p .sign) ≡ true
   letters : dataRight (kindOf f i) (p .letters) ≡ true
   end : p .end ≡ 32
   value : valueBy f i p ≡ Counted c
 
-keep-rules : (index info sign letters end value : Bool) (r : OneWord) → index ≡ true → info ≡ true → sign ≡ true → letters ≡ true → end ≡ true → value ≡ true
-    → rules index info sign letters end value r ≡ r
-keep-rules index info sign letters end value r a b c d e f = rw (a, b, c, d, e, f)
+keep-rules : (t : Tells) (digits listed info sign letters end value : Bool) (r : OneWord) → digits ≡ true → listed ≡ true → info ≡ true → sign ≡ true
+    → letters ≡ true → end ≡ true → value ≡ true
+    → rules t digits listed info sign letters end value r ≡ r
+keep-rules t digits listed info sign letters end value r a b c d e f g = rw (a, b, c, d, e, f, g)
 
-word-judged : (f : Family) (i : ℕ) (p : Places) (c : Count) → Judges f i p c → wordAt f i p ≡ rightWord (recordBy f i p c)
-word-judged f i p c j =
-    keep-rules _ _ _ _ _ _ _ (j .index) (j .info) (j .sign) (j .letters) (eq-eqb (p .end) 32 (j .end)) (ap isCounted (j .value))
+word-judged : (f : Family) (wide : Bool) (i : ℕ) (p : Places) (c : Count) → Judges f i p c → wordAt f wide i p ≡ rightWord (recordBy f i p c)
+word-judged f wide i p c j =
+    keep-rules _ _ _ _ _ _ _ _ _ (j .digits) (j .listed) (j .info) (j .sign) (j .letters) (eq-eqb (p .end) 32 (j .end)) (ap isCounted (j .value))
     ∙ ap (λ v. rightWord (recordBy f i p (countOr v))) (j .value)
 
-through : (b : Bool) (x : Fault) (r : OneWord) (w : Word) → unless b x r ≡ rightWord w → (b ≡ true) × (r ≡ rightWord w)
-through true x r w e = (refl, e)
-through false x r w e =
-    let q : Wrong x ≡ Right = ap (λ (o : OneWord). o .answer) e in
+through : (b : Bool) (x : Fault) (at : ℕ) (r : OneWord) (w : Word) → unless b x at r ≡ rightWord w → (b ≡ true) × (r ≡ rightWord w)
+through true x at r w e = (refl, e)
+through false x at r w e =
+    let q : Wrong x at ≡ Right = ap (λ (o : OneWord). o .answer) e in
     let z : _≡_ {A = ℕ} 0 1 = cc in
     absurd (omega arith)
 
@@ -115,17 +117,19 @@ counted-is : (v : Valued) → isCounted v ≡ true → v ≡ Counted (countOr v)
 counted-is Not e = absurd (false≢true e)
 counted-is (Counted c) e = refl
 
-judged : (f : Family) (i : ℕ) (p : Places) (w : Word) → wordAt f i p ≡ rightWord w
+judged : (f : Family) (wide : Bool) (i : ℕ) (p : Places) (w : Word) → wordAt f wide i p ≡ rightWord w
     → Judges f i p (countOr (valueBy f i p)) × (recordBy f i p (countOr (valueBy f i p)) ≡ w)
-judged f i p w e =
-    let index = through (indexRight f (p .tens) (p .ones) (p .first)) Index _ w e in
-    let info = through (infoRight f i (kindOf f i) (leadOf f i (p .first)) (p .second) (p .mode) (p .unit)) Information _ w (index .1) in
-    let sign = through (signRight (kindOf f i) (p .sign)) Sign _ w (info .1) in
-    let letters = through (dataRight (kindOf f i) (p .letters)) Characters _ w (sign .1) in
-    let end = through (eqb (p .end) 32) Separator _ w (letters .1) in
-    let value = through (isCounted (valueBy f i p)) Value _ w (end .1) in (
+judged f wide i p w e =
+    let digits = through (areDigits (p .tens) (p .ones)) Index _ _ w e in
+    let listed = through (listedBy f (p .tens) (p .ones) (p .first)) Unlisted _ _ w (digits .1) in
+    let info = through (allRight (marksBy f i p)) Information _ _ w (listed .1) in
+    let sign = through (signRight (kindOf f i) (p .sign)) Sign _ _ w (info .1) in
+    let letters = through (dataRight (kindOf f i) (p .letters)) Characters _ _ w (sign .1) in
+    let end = through (eqb (p .end) 32) Separator _ _ w (letters .1) in
+    let value = through (isCounted (valueBy f i p)) Value _ _ w (end .1) in (
       record {
-        index = index .0;
+        digits = digits .0;
+        listed = listed .0;
         info = info .0;
         sign = sign .0;
         letters = letters .0;
@@ -143,14 +147,14 @@ bytes-spread f wide w p h s d e = rw (d, h, s, e)
 
 -- from the bytes
 
-places-read : (f : Family) (wide : Bool) (p : Places) (w : Word) → length (p .letters) ≡ width wide → wordBy f p ≡ rightWord w
+places-read : (f : Family) (wide : Bool) (p : Places) (w : Word) → length (p .letters) ≡ width wide → wordBy f wide p ≡ rightWord w
     → (isRight f wide w ≡ true) × (bytesOf f wide w ≡ spread p []) × (valueBy f (indexFrom f p) p ≡ Counted (countOf f w)) × (w .minus ≡ signOf (p .sign))
 places-read f wide p w l e =
     let i = indexFrom f p in
     let k = kindOf f i in
     let c = countOr (valueBy f i p) in
     let r = recordBy f i p c in
-    let (j, is) = judged f i p w e in
+    let (j, is) = judged f wide i p w e in
     let bounds = width-bounds wide in
     let sign = sign-of k (p .sign) (j .sign) in
     let fit = fit-read k (p .letters) (omega arith) (j .letters) in
@@ -163,7 +167,7 @@ places-read f wide p w l e =
     let letters : dataOf (width wide) (figuresOf (countOf f r)) (r .text) ≡ p .letters =
     ap (λ (n : Count). dataOf (width wide) (figuresOf n) (r .text)) (told .3)
     ∙ rw (told .1, ← l) (data-back k (p .letters) (omega arith) (omega arith) (j .letters)) in
-    let head = head-back f (p .tens) (p .ones) (p .first) (p .second) (p .mode) (p .unit) (j .index) in
+    let head = head-back f (p .tens) (p .ones) (p .first) (p .second) (p .mode) (p .unit) (index-right f (p .tens) (p .ones) (p .first) (j .digits) (j .listed)) in
     let bytes : bytesOf f wide r ≡ spread p [] =
     bytes-spread f wide r p head (ap signByte (told .2) ∙ sign-back (p .sign) (sign .0)) letters (j .end) in (
       ap (isRight f wide) (sym is) ∙ right,
@@ -175,24 +179,24 @@ places-read f wide p w l e =
 pub read-write : (f : Family) (wide : Bool) (s : List ℕ) (w : Word) → wordOf f wide s ≡ rightWord w
     → (isRight f wide w ≡ true) × (bytesOf f wide w ≡ take (wordSize wide) s)
 read-write f wide s w e =
-    let long = leb-true (wordSize wide) (length s) (through (leb (wordSize wide) (length s)) Short _ w e .0) in
+    let long = leb-true (wordSize wide) (length s) (through (leb (wordSize wide) (length s)) Short _ _ w e .0) in
     let p = placesIn wide s in
     let l = data-length wide s long in
     let is = spread-places wide s long in
     let rest = drop (wordSize wide) s in
-    let (right, bytes, _, _) = places-read f wide p w l (through (leb (wordSize wide) (length s)) Short _ w e .1) in
+    let (right, bytes, _, _) = places-read f wide p w l (through (leb (wordSize wide) (length s)) Short _ _ w e .1) in
     (right, bytes ∙ sym (ap (take (wordSize wide)) is ∙ take-spread wide p l rest))
 
 -- what the word counted, its record counts
 pub read-counts : (f : Family) (wide : Bool) (s : List ℕ) (w : Word) → wordOf f wide s ≡ rightWord w → valueIn f wide s ≡ Counted (countOf f w)
 read-counts f wide s w e =
-    let (long, by) = through (leb (wordSize wide) (length s)) Short _ w e in
+    let (long, by) = through (leb (wordSize wide) (length s)) Short _ _ w e in
     places-read f wide (placesIn wide s) w (data-length wide s (leb-true (wordSize wide) (length s) long)) by .2
 
 -- the sign that it says stands in its record
 pub read-signed : (f : Family) (wide : Bool) (s : List ℕ) (w : Word) → wordOf f wide s ≡ rightWord w → w .minus ≡ signOf (pos 7 s)
 read-signed f wide s w e =
-    let (long, by) = through (leb (wordSize wide) (length s)) Short _ w e in
+    let (long, by) = through (leb (wordSize wide) (length s)) Short _ _ w e in
     places-read f wide (placesIn wide s) w (data-length wide s (leb-true (wordSize wide) (length s) long)) by .3
 
 -- from the record
@@ -218,7 +222,7 @@ four-are l h =
 record Written (f : Family) (wide : Bool) (w : Word) (p : Places) : Type 0 where
   long : length (p .letters) ≡ width wide
   bytes : bytesOf f wide w ≡ spread p []
-  word : wordBy f p ≡ rightWord w
+  word : wordBy f wide p ≡ rightWord w
 
 places-written : (f : Family) (wide : Bool) (w : Word) → isRight f wide w ≡ true → Written f wide w (placesOf f wide w)
 places-written f wide w e =
@@ -233,7 +237,8 @@ places-written f wide w e =
     let (long, right, says, text) = spelt wide (w .text) fit (t .sixteen, t .text) in
     let info = four-are (w .info) (t .four) in
     let judged-by : Judges f i p c = record {
-      index = head .right;
+      digits = right-parts f (p .tens) (p .ones) (p .first) (head .right) .0;
+      listed = right-parts f (p .tens) (p .ones) (p .first) (head .right) .1;
       info = rw (head .lead) (t .info);
       sign = sign-right k (w .minus) sign;
       letters = right;
@@ -253,7 +258,7 @@ places-written f wide w e =
     record {
       long = long;
       bytes = bytes-spread f wide w p (ap (headOf f i) info ∙ head-is f i a (p .second) (p .mode) (p .unit)) refl refl refl;
-      word = ap (λ n. wordAt f n p) (head .index) ∙ word-judged f i p c judged-by ∙ ap rightWord same;
+      word = ap (λ n. wordAt f wide n p) (head .index) ∙ word-judged f wide i p c judged-by ∙ ap rightWord same;
     }
 
 pub write-read : (f : Family) (wide : Bool) (w : Word) (rest : List ℕ) → isRight f wide w ≡ true → wordOf f wide (bytesOf f wide w ++ rest) ≡ rightWord w
@@ -272,8 +277,8 @@ bytes-length f wide w e =
 pub first-digit : (f : Family) (wide : Bool) (s : List ℕ) (w : Word) → wordOf f wide s ≡ rightWord w → isDigit (getD s 0 0) ≡ true
 first-digit f wide s w e =
     let p = placesIn wide s in
-    let j = judged f (indexFrom f p) p w (through (leb (wordSize wide) (length s)) Short _ w e .1) .0 in
-    both (isDigit (p .tens)) (isDigit (p .ones) && listedBy f (p .tens) (p .ones) (p .first)) (j .index) .0
+    let j = judged f wide (indexFrom f p) p w (through (leb (wordSize wide) (length s)) Short _ _ w e .1) .0 in
+    both (isDigit (p .tens)) (isDigit (p .ones)) (j .digits) .0
 
 pub first-written : (f : Family) (wide : Bool) (w : Word) (rest : List ℕ) → isRight f wide w ≡ true → isDigit (getD (bytesOf f wide w ++ rest) 0 0) ≡ true
 first-written f wide w rest e = first-digit f wide (bytesOf f wide w ++ rest) w (write-read f wide w rest e)

@@ -1,19 +1,19 @@
 -- What a sign does (request 102): a number is taken with a minus wherever it is with a plus, before zero too, and "10 now means angle out of range alone";
 -- "Records with different signs are different"; and what the writer still refuses by 13 because of a sign.
-use Prim.Native.Nat.{ℕ, _+_, _-_}
+use Prim.Native.Nat.{ℕ, suc, _+_, _-_}
 use mathlib.Core.Path.{_≡_, refl, sym, ap, _∙_}
-use mathlib.Core.Bool.{Bool, true, false, _&&_, false≢true}
+use mathlib.Core.Bool.{Bool, true, false, cond, _&&_, false≢true}
 use mathlib.Core.List.{List, [], _∷_, _++_}
 use native.Mathlib.Omega.{arith}
 use lib.Dec.{eqb, leb, ltb}
 use lib.ListN.{length, getD, length-append}
-use Rattle.figures.specs.Bytes.{every}
+use Rattle.figures.specs.Bytes.{every, runOf}
 use Rattle.figures.specs.Decimal.{isDigit, numberOf}
-use Rattle.units.specs.Kinds.{kindOf, indexBy, indexRight, isTextual}
-use Rattle.units.specs.Information.{infoRight, leadOf, isSign, signOf, signRight}
+use Rattle.units.specs.Kinds.{kindOf, indexBy, areDigits, firstOther, listedBy, isTextual}
+use Rattle.units.specs.Information.{infoMarks, allRight, firstWrong, infoRight, leadOf, isSign, signOf, signRight}
 use Rattle.units.specs.Counts.{whole, zeroWhole, degrees, minutes, seconds, tenthsOf, counted, angleAt, valueAt, firstOf, secondOf}
 use Rattle.words.specs.Records.{width, kindIn, unitIn, countBy, countRight, sameWhole, textRight, isRight, typedOf}
-use Rattle.words.specs.Reading.{faultNumber, wordSize, pos, dataIn, underIn, indexIn, kindAt, leadIn, dataRight, figuresIn}
+use Rattle.words.specs.Reading.{faultNumber, wordSize, pos, dataIn, underIn, indexIn, kindAt, marksIn, dataRight, dataAt, figuresIn}
 use Rattle.words.specs.Reading.{valueIn, isCounted, countOr, recordIn, rightWord, unless, wordOf}
 use Rattle.words.specs.Writing.{bytesOf}
 use Rattle.units.specs.declared.kinds.Family.{Family}
@@ -27,14 +27,13 @@ use Rattle.units.specs.declared.counts.Figures.{Figures}
 use Rattle.units.specs.declared.counts.Figures.the-variants as figures
 use Rattle.words.specs.declared.records.Word.{Word}
 use Rattle.words.specs.declared.reading.Fault.{Fault}
-use Rattle.words.specs.declared.reading.Fault.the-variants.{Short, Index, Information, Sign, Characters, Separator, Value}
-use Rattle.words.specs.declared.reading.Judged.{Judged}
-use Rattle.words.specs.declared.reading.Judged.the-variants.{Right, Wrong}
+use Rattle.words.specs.declared.reading.Fault.the-variants.{Short, Index, Unlisted, Information, Sign, Characters, Separator, Value}
+use Rattle.words.specs.declared.reading.Judged.the-variants.{Wrong}
 use Rattle.words.specs.declared.reading.OneWord.{OneWord}
 use Rattle.words.proofs.Values.{by-unit, by-length, by-constant}
 use Rattle.words.proofs.Checks.{width-bounds}
 use Rattle.words.proofs.Characters.{halves-of}
-use Rattle.words.proofs.Places.{Places, spread, rules, valueBy, recordBy, word-spread}
+use Rattle.words.proofs.Places.{Places, spread, Tells, rules, valueBy, recordBy, word-spread}
 use Rattle.words.proofs.RoundTrip.{takes, read-counts, write-read}
 use Rattle.words.proofs.Given.{gives}
 use Rattle.words.proofs.Typed.{right-typed}
@@ -65,17 +64,18 @@ sign-free Pair i u m (figures.Number n) = refl
 sign-free k i u m (figures.Pair p s q) = refl
 
 -- two words whose rules hold alike have the same answer
-alike : (long index info sign letters end value : Bool) (v w : Word)
-    → unless long Short (rules index info sign letters end value (rightWord v)) .answer
-    ≡ unless long Short (rules index info sign letters end value (rightWord w)) .answer
-alike false index info sign letters end value v w = refl
-alike true false info sign letters end value v w = refl
-alike true true false sign letters end value v w = refl
-alike true true true false letters end value v w = refl
-alike true true true true false end value v w = refl
-alike true true true true true false value v w = refl
-alike true true true true true true false v w = refl
-alike true true true true true true true v w = refl
+alike : (t : Tells) (long digits listed info sign letters end value : Bool) (v w : Word)
+    → unless long Short 0 (rules t digits listed info sign letters end value (rightWord v)) .answer
+    ≡ unless long Short 0 (rules t digits listed info sign letters end value (rightWord w)) .answer
+alike t false digits listed info sign letters end value v w = refl
+alike t true false listed info sign letters end value v w = refl
+alike t true true false info sign letters end value v w = refl
+alike t true true true false sign letters end value v w = refl
+alike t true true true true false letters end value v w = refl
+alike t true true true true true false end value v w = refl
+alike t true true true true true true false value v w = refl
+alike t true true true true true true true false v w = refl
+alike t true true true true true true true true v w = refl
 
 -- the same bytes but for the sign at position 7
 pub minus-as-plus : (f : Family) (wide : Bool) (a b c d e u : ℕ) (rest : List ℕ) → isTextual (kindAt f (a ∷ b ∷ c ∷ [])) ≡ false
@@ -87,15 +87,22 @@ minus-as-plus f wide a b c d e u rest number =
     let sign : signRight k 45 ≡ true = rw number in
     let value : isCounted (valueIn f wide (signed 45)) ≡ isCounted (valueIn f wide s) = sign-free k (indexIn f s) u 1 (figuresIn k (dataIn wide s)) in
     let long = leb (wordSize wide) (length s) in
-    let index = indexRight f a b c in
-    let info = infoRight f (indexIn f s) k (leadIn f s) d e u in
+    let digits = areDigits a b in
+    let listed = listedBy f a b c in
+    let info = allRight (marksIn f s) in
+    let told : Tells = record {
+      other = firstOther a;
+      info = 2 + firstWrong (marksIn f s);
+      letters = 7 + dataAt k (dataIn wide s);
+      end = 7 + width wide;
+    } in
     let letters = dataRight k (dataIn wide s) in
     let end = eqb (getD s (7 + width wide) 0) 32 in
     let counts = isCounted (valueIn f wide s) in
     let minus = recordIn f wide (signed 45) in
-    let is : wordOf f wide (signed 45) .answer ≡ unless long Short (rules index info true letters end counts (rightWord minus)) .answer =
+    let is : wordOf f wide (signed 45) .answer ≡ unless long Short 0 (rules told digits listed info true letters end counts (rightWord minus)) .answer =
     rw (sign, by-width wide, value) in
-    is ∙ alike long index info true letters end counts minus (recordIn f wide s)
+    is ∙ alike told long digits listed info true letters end counts minus (recordIn f wide s)
   where
     by-width : (w : Bool) → getD (a ∷ b ∷ c ∷ d ∷ e ∷ u ∷ 45 ∷ rest) (7 + width w) 0 ≡ getD (a ∷ b ∷ c ∷ d ∷ e ∷ u ∷ 43 ∷ rest) (7 + width w) 0
     by-width true = refl
@@ -110,35 +117,39 @@ under-as-plus f wide a b c d e u sign end ppm mm rest is front back =
     let i = indexBy f a b c in
     let places : ℕ → Places =
     λ x. record { tens = a; ones = b; first = c; second = d; mode = e; unit = u; sign = sign; letters = ppm ++ (x ∷ mm); end = end } in
-    let index = indexRight f a b c in
-    let info = infoRight f i (kindOf f i) (leadOf f i c) d e u in
+    let digits = areDigits a b in
+    let listed = listedBy f a b c in
+    let marks = infoMarks f i (kindOf f i) (leadOf f i c) d e u in
     let right = every isDigit ppm && every isDigit mm in
+    let wrong = cond (every isDigit ppm) (length ppm + suc (length mm) - 3 + runOf isDigit mm) (runOf isDigit ppm) in
+    let told : Tells = record { other = firstOther a; info = 2 + firstWrong marks; letters = 7 + wrong; end = 7 + width wide } in
     let of : ℕ → Word = λ x. recordBy f i (places x) (countOr (valueBy f i (places x))) in
     let answers : (x : ℕ) → isSign x ≡ true
     → wordOf f wide (spread (places x) rest) .answer
-    ≡ unless true Short (rules index info (signRight (kindOf f i) sign) right (eqb end 32) true (rightWord (of x))) .answer =
+    ≡ unless true Short 0 (rules told digits listed (allRight marks) (signRight (kindOf f i) sign) right (eqb end 32) true (rightWord (of x))) .answer =
     λ x s.
     let long = length-append ppm (x ∷ mm) in
     let bounds = width-bounds wide in
     let halves = halves-of ppm x mm back in
     let letters : dataRight (kindOf f i) (ppm ++ (x ∷ mm)) ≡ right = rw (is, halves .ppm, halves .under, halves .mm, s) in
+    let first : dataAt (kindOf f i) (ppm ++ (x ∷ mm)) ≡ wrong = rw (is, halves .ppm, halves .under, halves .mm, s, long) in
     let value : isCounted (valueBy f i (places x)) ≡ true = rw is in
-    ap (λ (o : OneWord). o .answer) (word-spread wide (places x) (omega arith) f rest) ∙ rw (letters, value) in
-    answers 45 refl ∙ alike true index info (signRight (kindOf f i) sign) right (eqb end 32) true (of 45) (of 43) ∙ sym (answers 43 refl)
+    ap (λ (o : OneWord). o .answer) (word-spread wide (places x) (omega arith) f rest) ∙ rw (letters, value, first) in
+    answers 45 refl
+    ∙ alike told true digits listed (allRight marks) (signRight (kindOf f i) sign) right (eqb end 32) true (of 45) (of 43)
+    ∙ sym (answers 43 refl)
 
 -- 10
 
-abbrev numberIn : Judged → ℕ
-numberIn Right = 0
-numberIn (Wrong x) = faultNumber x
+module _ (x : Fault) (at : ℕ) (ten : faultNumber x ≡ 10) where
+  past : (b : Bool) (y : Fault) (p : ℕ) (r : OneWord) → (faultNumber y ≡ 10 → ⊥) → unless b y p r .answer ≡ Wrong x at
+      → (b ≡ true) × (r .answer ≡ Wrong x at)
+  past true y p r other e = (refl, e)
+  past false y p r other e = let same : y ≡ x = cc in absurd (other (ap faultNumber same ∙ ten))
 
-past : (b : Bool) (x : Fault) (r : OneWord) → (faultNumber x ≡ 10 → ⊥) → numberIn (unless b x r .answer) ≡ 10 → (b ≡ true) × (numberIn (r .answer) ≡ 10)
-past true x r other e = (refl, e)
-past false x r other e = absurd (other e)
-
-last : (b : Bool) (w : Word) → numberIn (unless b Value (rightWord w) .answer) ≡ 10 → b ≡ false
-last true w e = absurd (omega arith)
-last false w e = refl
+  last : (b : Bool) (w : Word) → unless b Value 7 (rightWord w) .answer ≡ Wrong x at → (b ≡ false) × (at ≡ 7)
+  last true w e = let z : _≡_ {A = ℕ} 0 1 = cc in absurd (omega arith)
+  last false w e = (refl, cc)
 
 angle-alone : (k : Kind) (i u m : ℕ) (d : List ℕ) → dataRight k d ≡ true → isCounted (valueAt k i u m (figuresIn k d)) ≡ false
     → (k ≡ Angle) × (isCounted (angleAt u m (numberOf d)) ≡ false)
@@ -150,31 +161,33 @@ angle-alone Length i u m d right e = absurd (false≢true (sym e))
 angle-alone Constant i u m d right e = absurd (false≢true (sym e))
 angle-alone Pair i u m d right e = absurd (false≢true (sym e))
 
-refused-ten : (f : Family) (wide : Bool) (s : List ℕ) → numberIn (wordOf f wide s .answer) ≡ 10
-    → (infoRight f (indexIn f s) (kindAt f s) (leadIn f s) (pos 4 s) (pos 5 s) (pos 6 s) ≡ true)
-    × (kindAt f s ≡ Angle) × (isCounted (angleAt (pos 6 s) (signOf (pos 7 s)) (numberOf (dataIn wide s))) ≡ false)
-refused-ten f wide s e =
-    let index = past (leb (wordSize wide) (length s)) Short _ (λ q. omega arith) e .1 in
-    let info = past (indexRight f (pos 1 s) (pos 2 s) (pos 3 s)) Index _ (λ q. omega arith) index .1 in
-    let (informed, sign) = past (infoRight f (indexIn f s) (kindAt f s) (leadIn f s) (pos 4 s) (pos 5 s) (pos 6 s)) Information _ (λ q. omega arith) info in
-    let letters = past (signRight (kindAt f s) (pos 7 s)) Sign _ (λ q. omega arith) sign .1 in
-    let (right, end) = past (dataRight (kindAt f s) (dataIn wide s)) Characters _ (λ q. omega arith) letters in
-    let value = past (eqb (getD s (7 + width wide) 0) 32) Separator _ (λ q. omega arith) end .1 in
-    let (angle, out) =
-    angle-alone (kindAt f s) (indexIn f s) (pos 6 s) (signOf (pos 7 s)) (dataIn wide s) right (last (isCounted (valueIn f wide s)) _ value) in
-    (informed, angle, out)
+refused-ten : (f : Family) (wide : Bool) (s : List ℕ) (x : Fault) (at : ℕ) → wordOf f wide s .answer ≡ Wrong x at → faultNumber x ≡ 10
+    → (allRight (marksIn f s) ≡ true) × (kindAt f s ≡ Angle)
+    × (isCounted (angleAt (pos 6 s) (signOf (pos 7 s)) (numberOf (dataIn wide s))) ≡ false) × (at ≡ 7)
+refused-ten f wide s x at e ten =
+    let by = past x at ten in
+    let digits = by (leb (wordSize wide) (length s)) Short _ _ (λ q. omega arith) e .1 in
+    let index = by (areDigits (pos 1 s) (pos 2 s)) Index _ _ (λ q. omega arith) digits .1 in
+    let info = by (listedBy f (pos 1 s) (pos 2 s) (pos 3 s)) Unlisted _ _ (λ q. omega arith) index .1 in
+    let (informed, sign) = by (allRight (marksIn f s)) Information _ _ (λ q. omega arith) info in
+    let letters = by (signRight (kindAt f s) (pos 7 s)) Sign _ _ (λ q. omega arith) sign .1 in
+    let (right, end) = by (dataRight (kindAt f s) (dataIn wide s)) Characters _ _ (λ q. omega arith) letters in
+    let value = by (eqb (getD s (7 + width wide) 0) 32) Separator _ _ (λ q. omega arith) end .1 in
+    let (out, told) = last x at ten (isCounted (valueIn f wide s)) _ value in
+    let (angle, far) = angle-alone (kindAt f s) (indexIn f s) (pos 6 s) (signOf (pos 7 s)) (dataIn wide s) right out in
+    (informed, angle, far, told)
 
--- "10 now means angle out of range alone"
-pub ten-angle : (f : Family) (wide : Bool) (s : List ℕ) (x : Fault) → wordOf f wide s .answer ≡ Wrong x → faultNumber x ≡ 10
-    → (kindAt f s ≡ Angle) × (isCounted (angleAt (pos 6 s) 0 (numberOf (dataIn wide s))) ≡ false)
-ten-angle f wide s x is ten =
-    let (informed, angle, out) = refused-ten f wide s (ap numberIn is ∙ ten) in
-    (angle, sym (sign-free Angle 0 (pos 6 s) (signOf (pos 7 s)) (figures.Number (numberOf (dataIn wide s)))) ∙ out)
+-- "10 now means angle out of range alone"; "for 10 the first data byte" (request 104)
+pub ten-angle : (f : Family) (wide : Bool) (s : List ℕ) (x : Fault) (at : ℕ) → wordOf f wide s .answer ≡ Wrong x at → faultNumber x ≡ 10
+    → (kindAt f s ≡ Angle) × (isCounted (angleAt (pos 6 s) 0 (numberOf (dataIn wide s))) ≡ false) × (at ≡ 7)
+ten-angle f wide s x at is ten =
+    let (informed, angle, out, told) = refused-ten f wide s x at is ten in
+    (angle, sym (sign-free Angle 0 (pos 6 s) (signOf (pos 7 s)) (figures.Number (numberOf (dataIn wide s)))) ∙ out, told)
 
 -- a level has no angle, and so no 10
-pub level-ten : (wide : Bool) (s : List ℕ) (x : Fault) → wordOf Level wide s .answer ≡ Wrong x → faultNumber x ≡ 10 → ⊥
-level-ten wide s x is ten =
-    let (informed, angle, out) = refused-ten Level wide s (ap numberIn is ∙ ten) in
+pub level-ten : (wide : Bool) (s : List ℕ) (x : Fault) (at : ℕ) → wordOf Level wide s .answer ≡ Wrong x at → faultNumber x ≡ 10 → ⊥
+level-ten wide s x at is ten =
+    let (informed, angle, out, told) = refused-ten Level wide s x at is ten in
     false≢true (rw angle at informed)
 
 -- records

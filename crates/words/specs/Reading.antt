@@ -5,10 +5,11 @@ use mathlib.Core.Bool.{Bool, true, false, cond, _&&_}
 use mathlib.Core.List.{List, [], _∷_}
 use lib.Dec.{eqb, leb}
 use lib.ListN.{length, getD, take, drop, replicate}
-use Rattle.figures.specs.Bytes.{every, laid}
+use Rattle.figures.specs.Bytes.{every, runOf, laid}
 use Rattle.figures.specs.Decimal.{isDigit, numberOf}
-use Rattle.units.specs.Kinds.{kindOf, indexBy, indexRight, isTextual}
-use Rattle.units.specs.Information.{infoRight, leadOf, isSign, signOf, signRight}
+use Rattle.units.specs.Kinds.{kindOf, indexBy, areDigits, firstOther, listedBy, isTextual}
+use Rattle.units.specs.Information.{infoMarks, allRight, firstWrong, leadOf, isSign, signOf, signRight}
+use Rattle.units.specs.declared.information.Marks.{Marks}
 use Rattle.units.specs.Counts.{valueAt}
 use Rattle.words.specs.Records.{width, blank, recordOf, isGraphic}
 use Rattle.units.specs.declared.kinds.Family.{Family}
@@ -22,7 +23,7 @@ use Rattle.units.specs.declared.counts.Valued.{Valued}
 use Rattle.units.specs.declared.counts.Valued.the-variants as valued
 use Rattle.words.specs.declared.records.Word.{Word}
 use Rattle.words.specs.declared.reading.Fault.{Fault}
-use Rattle.words.specs.declared.reading.Fault.the-variants.{Short, Index, Information, Sign, Characters, Separator, Value}
+use Rattle.words.specs.declared.reading.Fault.the-variants.{Short, Index, Unlisted, Information, Sign, Characters, Separator, Value}
 use Rattle.words.specs.declared.reading.Judged.the-variants.{Right, Wrong}
 use Rattle.words.specs.declared.reading.OneWord.{OneWord}
 
@@ -30,6 +31,7 @@ use Rattle.words.specs.declared.reading.OneWord.{OneWord}
 abbrev pub faultNumber : Fault → ℕ
 faultNumber Short = 2
 faultNumber Index = 5
+faultNumber Unlisted = 15
 faultNumber Information = 6
 faultNumber Sign = 7
 faultNumber Characters = 8
@@ -60,6 +62,9 @@ leadIn f s = leadOf f (indexIn f s) (pos 3 s)
 abbrev pub infoIn : Family → List ℕ → List ℕ
 infoIn f s = leadIn f s ∷ pos 4 s ∷ pos 5 s ∷ pos 6 s ∷ []
 
+abbrev pub marksIn : Family → List ℕ → Marks
+marksIn f s = infoMarks f (indexIn f s) (kindAt f s) (leadIn f s) (pos 4 s) (pos 5 s) (pos 6 s)
+
 -- "A pair is 4 digits (12 when wide), a sign, 3 digits: ppm, then mm"
 abbrev pub ppmIn : List ℕ → List ℕ
 ppmIn d = take (length d - 4) d
@@ -79,6 +84,17 @@ dataRight kind.Angle d = every isDigit d
 dataRight kind.Length d = every isDigit d
 dataRight kind.Constant d = every isDigit d
 dataRight kind.Pair d = every isDigit (ppmIn d) && (isSign (underIn d) && every isDigit (mmIn d))
+
+-- "8: the first wrong data byte" (request 104), from 0
+abbrev pub dataAt : Kind → List ℕ → ℕ
+dataAt kind.Missing d = 0
+dataAt kind.Numbered d = runOf isGraphic d
+dataAt kind.Text d = runOf isGraphic d
+dataAt kind.Angle d = runOf isDigit d
+dataAt kind.Length d = runOf isDigit d
+dataAt kind.Constant d = runOf isDigit d
+dataAt kind.Pair d =
+    cond (every isDigit (ppmIn d)) (cond (isSign (underIn d)) (length d - 3 + runOf isDigit (mmIn d)) (length d - 4)) (runOf isDigit (ppmIn d))
 
 -- what right data say
 abbrev pub figuresIn : Kind → List ℕ → Figures
@@ -109,24 +125,26 @@ countOr (valued.Counted c) = c
 abbrev pub recordIn : Family → Bool → List ℕ → Word
 recordIn f wide s = recordOf (indexIn f s) (infoIn f s) (countOr (valueIn f wide s)) (textField (kindAt f s) (dataIn wide s))
 
-abbrev pub faulty : Fault → OneWord
-faulty f = record { answer = Wrong f; word = blank }
+abbrev pub faulty : Fault → ℕ → OneWord
+faulty x at = record { answer = Wrong x at; word = blank }
 
 abbrev pub rightWord : Word → OneWord
 rightWord w = record { answer = Right; word = w }
 
--- the first rule that fails gives its fault
-abbrev pub unless : Bool → Fault → OneWord → OneWord
-unless holds f r = cond holds r (faulty f)
+-- the first rule that fails gives its fault, and tells a byte of the word, from 0
+abbrev pub unless : Bool → Fault → ℕ → OneWord → OneWord
+unless holds x at r = cond holds r (faulty x at)
 
--- "then 5 to 10 in order"
+-- "Refusals 5 to 10 tell the exact byte: the first that breaks the rule, and for 10 the first data byte" (request 104). "Order: 5, 15, 6 to 10."
+-- `first-breaks`, in proofs/Breaks.antt, shows that it is the first
 abbrev pub wordOf : Family → Bool → List ℕ → OneWord
 wordOf f wide s =
-    unless (leb (wordSize wide) (length s)) Short
-    (unless (indexRight f (pos 1 s) (pos 2 s) (pos 3 s)) Index
-    (unless (infoRight f (indexIn f s) (kindAt f s) (leadIn f s) (pos 4 s) (pos 5 s) (pos 6 s)) Information
-    (unless (signRight (kindAt f s) (pos 7 s)) Sign
-    (unless (dataRight (kindAt f s) (dataIn wide s)) Characters
-    (unless (eqb (getD s (7 + width wide) 0) 32) Separator
-    (unless (isCounted (valueIn f wide s)) Value
-    (rightWord (recordIn f wide s))))))))
+    unless (leb (wordSize wide) (length s)) Short 0
+    (unless (areDigits (pos 1 s) (pos 2 s)) Index (firstOther (pos 1 s))
+    (unless (listedBy f (pos 1 s) (pos 2 s) (pos 3 s)) Unlisted 0
+    (unless (allRight (marksIn f s)) Information (2 + firstWrong (marksIn f s))
+    (unless (signRight (kindAt f s) (pos 7 s)) Sign 6
+    (unless (dataRight (kindAt f s) (dataIn wide s)) Characters (7 + dataAt (kindAt f s) (dataIn wide s))
+    (unless (eqb (getD s (7 + width wide) 0) 32) Separator (7 + width wide)
+    (unless (isCounted (valueIn f wide s)) Value 7
+    (rightWord (recordIn f wide s)))))))))

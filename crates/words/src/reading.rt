@@ -1,8 +1,11 @@
 // One word read by value from the start of a part of the input. The positions are judged left to right, and the first that is wrong
 // refuses the word.
 ghost use mathlib.Core.Path.{_≡_};
+ghost use Prim.Native.Nat.{_≤_};
+ghost use lib.ListN.{length};
+ghost use Rattle.units.specs.Kinds.{areDigits, firstOther};
 ghost use Rattle.words.specs.Records.{width};
-ghost use Rattle.words.specs.Reading.{faultNumber, faulty, textField, wordOf};
+ghost use Rattle.words.specs.Reading.{faultNumber, faulty, unless, dataAt, textField, wordOf};
 ghost use Rattle.words.specs.Keeping.{digitsAt, pairAt, spelledAt, partedAt};
 use crate::records::Word;
 use crate::records::blank_word;
@@ -12,6 +15,7 @@ use units::counts::Valued;
 use units::counts::value_at;
 use units::information::Informed;
 use units::information::Signed;
+use units::information::info_at;
 use units::information::informed_by;
 use units::information::lead_of;
 use units::information::sign_at;
@@ -25,6 +29,7 @@ use units::kinds::textual;
 pub enum Fault {
     Short,
     Index,
+    Unlisted,
     Information,
     Sign,
     Characters,
@@ -32,9 +37,10 @@ pub enum Fault {
     Value,
 }
 
+// Wrong tells the byte of the word, from 0.
 pub enum Judged {
     Right,
-    Wrong(Fault),
+    Wrong(Fault, usize),
 }
 
 // The answer, and the record: blank where the word is refused.
@@ -54,13 +60,14 @@ pub enum Parted {
     Blank,
 }
 
-// The number that document 01 has for a fault.
+// The number that the rules have for a fault.
 pub fn fault_number(fault: Fault) -> u64
     ensures { λ r. ⌜ r ≡ faultNumber fault ⌝ }
 {
     match fault {
         Fault::Short => 2,
         Fault::Index => 5,
+        Fault::Unlisted => 15,
         Fault::Information => 6,
         Fault::Sign => 7,
         Fault::Characters => 8,
@@ -76,15 +83,28 @@ pub fn width_of(wide: bool) -> usize
     if wide { 16 } else { 8 }
 }
 
-fn wrong(fault: Fault) -> OneWord
-    ensures { λ r. ⌜ r ≡ faulty fault ⌝ }
+fn wrong(fault: Fault, at: usize) -> OneWord
+    ensures { λ r. ⌜ r ≡ faulty fault at ⌝ }
 {
-    let answer = Judged::Wrong(fault);
+    let answer = Judged::Wrong(fault, at);
     let word = blank_word();
     OneWord {
         answer: answer,
         word: word,
     }
+}
+
+// Positions 1-3 that are no index: a byte that is no digit, or digits that the family doesn't have.
+fn no_index(tens: u8, ones: u8) -> OneWord
+    ensures { λ r. ⌜ r ≡ unless (areDigits tens ones) Fault.Index (firstOther tens) (faulty Fault.Unlisted 0) ⌝ }
+{
+    if !figures::digit(tens) {
+        return wrong(Fault::Index, 0);
+    }
+    if !figures::digit(ones) {
+        return wrong(Fault::Index, 1);
+    }
+    wrong(Fault::Unlisted, 0)
 }
 
 fn digits_at(s: &[u8]) -> Spelled
@@ -139,6 +159,38 @@ fn spelled_at(kind: Kind, s: &[u8]) -> Spelled
     }
 }
 
+// The first byte of a pair's data that is wrong.
+fn pair_wrong(s: &[u8]) -> usize
+    requires { ⌜ 4 ≤ length (now s) ⌝ }
+    ensures { λ r. ⌜ (r ≡ dataAt Kind.Pair (now (s .entry))) × (r ≤ length (now (s .entry))) ⌝ }
+{
+    let at = s.len() - 4;
+    let ppm = figures::run_within(&s[0..at], b'0', b'9');
+    if ppm < at {
+        return ppm;
+    }
+    let Signed::Sign(_) = sign_at(Kind::Pair, s[at]) else {
+        return at;
+    };
+    let from = at + 1;
+    from + figures::run_within(&s[from..], b'0', b'9')
+}
+
+// The first byte of the data of a word of that kind that is wrong.
+fn data_wrong(kind: Kind, s: &[u8]) -> usize
+    requires { ⌜ 4 ≤ length (now s) ⌝ }
+    ensures { λ r. ⌜ (r ≡ dataAt kind (now (s .entry))) × (r ≤ length (now (s .entry))) ⌝ }
+{
+    match kind {
+        Kind::Missing => 0,
+        Kind::Pair => pair_wrong(s),
+        Kind::Angle => figures::run_within(s, b'0', b'9'),
+        Kind::Length => figures::run_within(s, b'0', b'9'),
+        Kind::Constant => figures::run_within(s, b'0', b'9'),
+        _ => figures::run_within(s, 33, 126),
+    }
+}
+
 fn parted_at(b: u8) -> Parted
     ensures { λ r. ⌜ r ≡ partedAt b ⌝ }
 {
@@ -166,26 +218,28 @@ pub fn read_word(s: &[u8], family: Family, wide: bool) -> OneWord
 {
     let end = 7 + width_of(wide);
     if s.len() <= end {
-        return wrong(Fault::Short);
+        return wrong(Fault::Short, 0);
     }
     let Indexed::Listed(index, kind) = index_at(family, s[0], s[1], s[2]) else {
-        return wrong(Fault::Index);
+        return no_index(s[0], s[1]);
     };
     let lead = lead_of(family, index, s[2]);
     let Informed::Right = informed_by(family, index, kind, lead, s[3], s[4], s[5]) else {
-        return wrong(Fault::Information);
+        let first = info_at(family, index, kind, lead, s[3], s[4], s[5]);
+        return wrong(Fault::Information, 2 + first);
     };
     let Signed::Sign(minus) = sign_at(kind, s[6]) else {
-        return wrong(Fault::Sign);
+        return wrong(Fault::Sign, 6);
     };
     let Spelled::Says(says) = spelled_at(kind, &s[7..end]) else {
-        return wrong(Fault::Characters);
+        let first = data_wrong(kind, &s[7..end]);
+        return wrong(Fault::Characters, 7 + first);
     };
     let Parted::Blank = parted_at(s[end]) else {
-        return wrong(Fault::Separator);
+        return wrong(Fault::Separator, end);
     };
     let Valued::Counted(count) = value_at(kind, index, s[5], minus, says) else {
-        return wrong(Fault::Value);
+        return wrong(Fault::Value, 7);
     };
     let text = text_of(kind, &s[7..end]);
     let word = record_of(index, [lead, s[3], s[4], s[5]], count, text);

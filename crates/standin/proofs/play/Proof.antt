@@ -6,10 +6,10 @@ use Rattle.standin.proofs.play.Statement.{statement}
 use Rattle.standin.proofs.play.Tie as tie
 
 abbrev Inv-loop : tie.InvT-loop
-Inv-loop image₀ port₀ turns₀ image port turns = length image ≡ length image₀
+Inv-loop image₀ why port₀ lines₀ turns₀ image port lines turns = length image ≡ length image₀
 
 abbrev μ-loop : tie.MeasureT-loop
-μ-loop image₀ port₀ turns₀ image port turns = turns
+μ-loop image₀ why port₀ lines₀ turns₀ image port lines turns = turns
 
 loop-holds : tie.Need-loop-holds Inv-loop μ-loop
 loop-holds c = refl

@@ -7,6 +7,7 @@ use borrow.Author.Needs.{needs}
 use lib.ListN.{length, take, drop, length-drop}
 use lib.Seq.{take-all}
 use Rattle.words.specs.Reading.{wordOf}
+use Rattle.words.proofs.Told.{told-within}
 use Rattle.words.specs.declared.reading.OneWord.{OneWord}
 use Rattle.blocks.specs.declared.judging.Stepped.{Stepped}
 use Rattle.blocks.specs.Judging.{isAt}
@@ -95,6 +96,26 @@ enum-told : tie.Need-enum-told
 enum-told c = search needs
 
 -- where a word was read the step is by what the word is
+word : (c : tie.After-read-word) →
+    let a = c .before .before .before .before .before .before .before .before .before .args in
+    c .read-word .result ≡ wordOf (a .family) (a .wide) (drop (a .at) (a .s .now))
+word c =
+    let a = c .before .before .before .before .before .before .before .before .before .args in
+    let s = a .s .now in
+    let rest = drop (a .at) s in
+    let left = length-drop (a .at) s in
+    let all : take (length s - a .at) rest ≡ rest = take-all (length s - a .at) rest (omega arith) in
+    c .read-word .ensures ∙ ap (wordOf (a .family) (a .wide)) all
+
+-- what the word's refusal tells is a byte of the word
+add-t28 : tie.Need-add-t28
+add-t28 c =
+    let read = c .before .before .before .before in
+    let a = read .before .before .before .before .before .before .before .before .before .args in
+    let left = length-drop (a .at) (a .s .now) in
+    let byte = told-within (a .family) (a .wide) (drop (a .at) (a .s .now)) _ _ (ap (λ (o : OneWord). o .answer) (sym (word read)) ∙ c .before .answer .given .1) in
+    omega (arith, byte)
+
 found : (c : tie.After-read-word) →
     let start = c .before .before .before .before .before .before .before in
     let word = c .read-word .result in
@@ -104,11 +125,9 @@ found c =
     let s = a .s .now in
     let rest = drop (a .at) s in
     let left = length-drop (a .at) s in
-    let all : take (length s - a .at) rest ≡ rest = take-all (length s - a .at) rest (omega arith) in
-    let read : c .read-word .result ≡ wordOf (a .family) (a .wide) rest = c .read-word .ensures ∙ ap (wordOf (a .family) (a .wide)) all in
     let more = no-end (c .before .before .before .before .before .before) in
     next-word (a .family) (a .wide) (a .places) (a .count) (a .at) rest more (omega arith) (omega arith) (omega arith)
-    ∙ ap (λ (o : OneWord). stepOf (a .at) o (o .answer)) (sym read)
+    ∙ ap (λ (o : OneWord). stepOf (a .at) o (o .answer)) (sym (word c))
 
 returns-5 : tie.Need-returns-5
 returns-5 c = c .stops4 .ensures ∙ sym (found (c .before .before .before .before .before) ∙ rw (c .before .before .answer .given .1))
@@ -136,6 +155,7 @@ step-spec =
     returns-4
     read-word-requires
     enum-known-answer
+    add-t28
     stops-requires-4
     enum-told
     returns-5

@@ -8,20 +8,21 @@ use borrow.Author.Needs.{needs}
 use Rattle.state.specs.declared.entries.State.{State}
 use Rattle.lines.specs.Orders.{doneOf}
 use Rattle.lines.specs.declared.shapes.Order.{Order}
-use Rattle.lines.specs.declared.shapes.Order.the-variants.{Not, Set, Conf, Put, Get, Undo, Keep}
+use Rattle.lines.specs.declared.shapes.Order.the-variants.{Not, Set, Conf, Put, Get, Undo, Keep, Unknown}
 use Rattle.lines.proofs.Shape.{order-put}
 use Rattle.lines.proofs.shapes.Order.{the-type}
 use Rattle.lines.proofs.orders.done.Statement.{statement}
 use Rattle.lines.proofs.orders.done.Tie as tie
 
-rest : (s : State) (t : List ℕ) (o : Order) → OneOf (0 ∷ 2 ∷ 4 ∷ []) (tagOf the-type o) → s ≡ doneOf s t o
+rest : (s : State) (t : List ℕ) (o : Order) → OneOf (0 ∷ 2 ∷ 4 ∷ 7 ∷ []) (tagOf the-type o) → s ≡ doneOf s t o
 rest s t Not h = refl
-rest s t (Set n p) h = absurd (miss (0 ∷ 2 ∷ 4 ∷ []) 1 tt h)
+rest s t (Set n p) h = absurd (miss (0 ∷ 2 ∷ 4 ∷ 7 ∷ []) 1 tt h)
 rest s t (Conf n) h = refl
-rest s t Put h = absurd (miss (0 ∷ 2 ∷ 4 ∷ []) 3 tt h)
+rest s t Put h = absurd (miss (0 ∷ 2 ∷ 4 ∷ 7 ∷ []) 3 tt h)
 rest s t Get h = refl
-rest s t Undo h = absurd (miss (0 ∷ 2 ∷ 4 ∷ []) 5 tt h)
-rest s t Keep h = absurd (miss (0 ∷ 2 ∷ 4 ∷ []) 6 tt h)
+rest s t Undo h = absurd (miss (0 ∷ 2 ∷ 4 ∷ 7 ∷ []) 5 tt h)
+rest s t Keep h = absurd (miss (0 ∷ 2 ∷ 4 ∷ 7 ∷ []) 6 tt h)
+rest s t Unknown h = refl
 
 set-done-requires : tie.Need-set-done-requires
 set-done-requires c κs = rw (c .before .order .given .1) at (c .before .before .before .before .pre .1 .1 .0)

@@ -50,8 +50,10 @@ body-length-spec =
     (λ c. search needs)
     (λ c. search needs)
     (λ c. search needs)
+    (λ c. search needs)
     returns-3
     (λ c. search needs)
     returns-5
+    (λ c. search needs)
     (λ c. search needs)
     (λ c. search needs))

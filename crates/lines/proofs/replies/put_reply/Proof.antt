@@ -15,7 +15,7 @@ use Rattle.lines.specs.Replies.{isWide, getBody, done, bodyOf}
 use Rattle.lines.specs.Keeping.{getN}
 use Rattle.figures.specs.Text.{endBytes}
 use Rattle.lines.specs.declared.shapes.Order.{Order}
-use Rattle.lines.specs.declared.shapes.Order.the-variants.{Not, Set, Conf, Put, Get, Undo, Keep}
+use Rattle.lines.specs.declared.shapes.Order.the-variants.{Not, Set, Conf, Put, Get, Undo, Keep, Unknown}
 use Rattle.lines.proofs.Shape.{to-end}
 use Rattle.lines.proofs.Replying.{laid-then, get-length, get-body, get-body-long, get-fits, reply-fits, reply-laid}
 use Rattle.lines.proofs.shapes.Order.{the-type}
@@ -31,6 +31,7 @@ rest s t Put h = refl
 rest s t Get h = absurd (miss (1 ∷ 3 ∷ 5 ∷ 6 ∷ []) 4 tt h)
 rest s t Undo h = refl
 rest s t Keep h = refl
+rest s t Unknown h = absurd (miss (1 ∷ 3 ∷ 5 ∷ 6 ∷ []) 7 tt h)
 
 abbrev start : tie.After-ends-lf → tie.Start
 start c = c .before .before .before
@@ -118,7 +119,7 @@ put-text-requires-2 c κs =
     let lf = c .before .before .before in
     let s = start lf in
     let a = s .args in
-    let is = rest (a .s) (a .text .now) (a .order) (c .before .before .match .keys4) in
+    let is = rest (a .s) (a .text .now) (a .order) (c .before .before .match .keys5) in
     reply-fits (a .s) (a .text .now) (a .order) done (lf .ends-lf .result) (length (a .room .now)) is (lf .ends-lf .ensures) (s .pre .1)
 
 returns : tie.Need-returns
@@ -164,11 +165,20 @@ returns-3 c =
 
 returns-4 : tie.Need-returns-4
 returns-4 c =
+    let none = c .before .before .before .before in
+    let lf = none .before .before in
+    let a = start lf .args in
+    let p = c .before .before .put-end3 in
+    let is = sym (ap (bodyOf (a .s) (a .text .now)) (none .enum-told3 .given .1)) in
+    reply-laid (a .s) (a .text .now) (a .order) [] (lf .ends-lf .result) (a .room .now) (p .last .1 .0) is (lf .ends-lf .ensures) (p .ensures)
+
+returns-5 : tie.Need-returns-5
+returns-5 c =
     let arm = c .before .before .before .before .before in
     let lf = arm .before in
     let a = start lf .args in
     let p = c .before .before .put-text2 in
-    let is = rest (a .s) (a .text .now) (a .order) (arm .match .keys4) in
+    let is = rest (a .s) (a .text .now) (a .order) (arm .match .keys5) in
     reply-laid (a .s) (a .text .now) (a .order) done (lf .ends-lf .result) (a .room .now) (p .last .1 .1 .0) is (lf .ends-lf .ensures) (p .ensures)
 
 pub put-reply-spec : {M : Type 1} → statement M
@@ -195,6 +205,8 @@ put-reply-spec =
     (λ c. search needs)
     (λ c κs. search needs)
     (λ c. search needs)
+    (λ c κs. search needs)
+    (λ c. search needs)
     put-text-requires-2
     (λ c. search needs)
     returns
@@ -203,4 +215,6 @@ put-reply-spec =
     (λ c. search needs)
     returns-3
     (λ c. search needs)
-    returns-4)
+    returns-4
+    (λ c. search needs)
+    returns-5)

@@ -1,12 +1,13 @@
 -- `order_of` meets its contract: the keywords one after the other, and what each goes on with.
 use Prim.Native.Nat.{ℕ}
 use mathlib.Core.Path.{_≡_, sym, _∙_}
-use mathlib.Core.Bool.{true, false}
+use mathlib.Core.Bool.{true, false, cond}
 use mathlib.Core.List.{List}
 use borrow.Author.Needs.{needs}
 use borrow.Author.Tests.{eq-eqb, ne-eqb}
 use Rattle.figures.specs.Bytes.{startsWith, sameBytes}
-use Rattle.lines.specs.Shapes.{set-slash, conf-slash, put-slash, get-i, undo-word}
+use Rattle.lines.specs.Shapes.{set-slash, conf-slash, put-slash, get-i, undo-word, hasKeyword, orderOf}
+use Rattle.lines.specs.declared.shapes.Order.the-variants.{Not, Unknown}
 use Rattle.lines.proofs.Shape.{to-end}
 use Rattle.figures.proofs.Bytes.{starts-length}
 use Rattle.lines.proofs.shapes.order_of.Statement.{statement}
@@ -96,13 +97,20 @@ returns-7 c =
     let c2 = c3 .before .before .before in
     rw (no-set (c2 .before .before .before), no-conf c2, no-put c3, no-get c5, no-undo c6, sym (c .before .same2 .ensures) ∙ c .if7 .taken)
 
-returns-8 : tie.Need-returns-8
-returns-8 c =
+-- and no keyword with the rest that it should have
+none : (c : tie.Else7) → let t = text4 (c .before .before .before .before .before .before .before) in orderOf t ≡ cond (hasKeyword t) Not Unknown
+none c =
     let c6 = c .before .before .before in
     let c5 = c6 .before .before .before in
     let c3 = c5 .before .before .before in
     let c2 = c3 .before .before .before in
     rw (no-set (c2 .before .before .before), no-conf c2, no-put c3, no-get c5, no-undo c6, sym (c .before .same2 .ensures) ∙ c .if7 .left)
+
+returns-8 : tie.Need-returns-8
+returns-8 c = sym (none (c .before .before) ∙ rw (sym (c .before .has-keyword .ensures) ∙ c .if8 .taken))
+
+returns-9 : tie.Need-returns-9
+returns-9 c = sym (none (c .before .before) ∙ rw (sym (c .before .has-keyword .ensures) ∙ c .if8 .left))
 
 pub order-of-spec : {M : Type 1} → statement M
 order-of-spec =
@@ -139,4 +147,6 @@ order-of-spec =
     (λ c. search needs)
     (λ c κs. search needs)
     returns-7
-    returns-8)
+    (λ c κs. search needs)
+    returns-8
+    returns-9)

@@ -7,22 +7,23 @@ use denote.Enum.Declared.{tagOf}
 use borrow.Author.Needs.{needs}
 use Rattle.lines.specs.Verdicts.{isAccepted}
 use Rattle.lines.specs.declared.verdicts.Verdict.{Verdict}
-use Rattle.lines.specs.declared.verdicts.Verdict.the-variants.{Accepted, Unended, Long, Shape, Setting, ReadOnly, Parameter, Index, Word, NeverPut}
+use Rattle.lines.specs.declared.verdicts.Verdict.the-variants.{Accepted, Unended, Long, Keyword, Shape, Setting, ReadOnly, Parameter, Index, Word, NeverPut}
 use Rattle.lines.specs.declared.verdicts.Verdict.the-variants.{Full, NoEntry, Room, NoState}
 use Rattle.lines.proofs.verdicts.Verdict.{the-type}
 use Rattle.lines.proofs.verdicts.is_accepted.Statement.{statement}
 use Rattle.lines.proofs.verdicts.is_accepted.Tie as tie
 
-rest : (v : Verdict) → OneOf (1 ∷ 2 ∷ 3 ∷ 4 ∷ 5 ∷ 6 ∷ 7 ∷ 8 ∷ 9 ∷ 10 ∷ 11 ∷ 12 ∷ 13 ∷ []) (tagOf the-type v) → false ≡ isAccepted v
-rest Accepted h = absurd (miss (1 ∷ 2 ∷ 3 ∷ 4 ∷ 5 ∷ 6 ∷ 7 ∷ 8 ∷ 9 ∷ 10 ∷ 11 ∷ 12 ∷ 13 ∷ []) 0 tt h)
+rest : (v : Verdict) → OneOf (1 ∷ 2 ∷ 3 ∷ 4 ∷ 5 ∷ 6 ∷ 7 ∷ 8 ∷ 9 ∷ 10 ∷ 11 ∷ 12 ∷ 13 ∷ 14 ∷ []) (tagOf the-type v) → false ≡ isAccepted v
+rest Accepted h = absurd (miss (1 ∷ 2 ∷ 3 ∷ 4 ∷ 5 ∷ 6 ∷ 7 ∷ 8 ∷ 9 ∷ 10 ∷ 11 ∷ 12 ∷ 13 ∷ 14 ∷ []) 0 tt h)
 rest Unended h = refl
 rest Long h = refl
+rest Keyword h = refl
 rest Shape h = refl
 rest Setting h = refl
 rest ReadOnly h = refl
 rest Parameter h = refl
 rest Index h = refl
-rest Word h = refl
+rest (Word x at) h = refl
 rest NeverPut h = refl
 rest Full h = refl
 rest NoEntry h = refl

@@ -67,9 +67,11 @@ order-verdict-spec =
     returns
     (λ c. search needs)
     (λ c. search needs)
+    (λ c. search needs)
     returns-3
     returns-4
     returns-5
     returns-6
     returns-7
+    (λ c. search needs)
     (λ c. search needs))

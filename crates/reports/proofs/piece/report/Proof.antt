@@ -15,12 +15,16 @@ put-words-requires c κs =
 
 returns : tie.Need-returns
 returns c =
-    let answer = c .before .before .before .before .before in
+    let place = c .before .before .before in
+    let line = place .before .before .before .before in
+    let answer = line .before .before .before in
     let head = answer .before .before .before .before in
     let judge = head .before .before .before in
     let a = judge .before .before .before .args in
-    refused-on (a .family) (judged (a .family) (a .piece .now) 32) (judge .judge .result) (judge .judge .ensures) (a .number) (a .place) (a .room .now)
-    (head .put-head .ensures) (answer .answer .given .0 .0) (answer .answer .given .1) (c .before .before .put-refusal .ensures)
+    let j = judge .judge in
+    refused-on (a .family) (a .piece .now) (judged (a .family) (a .piece .now) 32) (j .result) (j .ensures) (a .number) (a .place) (a .room .now)
+    (head .put-head .ensures) (answer .answer .given .0 .0) (answer .answer .given .1) (line .put-refusal .ensures)
+    (rw (place .refusal-tells .ensures) at (c .before .before .put-where .ensures))
 
 returns-2 : tie.Need-returns-2
 returns-2 c =
@@ -29,7 +33,8 @@ returns-2 c =
     let head = answer .before .before .before .before in
     let judge = head .before .before .before in
     let a = judge .before .before .before .args in
-    read-on (a .family) (judged (a .family) (a .piece .now) 32) (judge .judge .result) (judge .judge .ensures) (a .number) (a .place) (a .room .now)
+    let j = judge .judge in
+    read-on (a .family) (a .piece .now) (judged (a .family) (a .piece .now) 32) (j .result) (j .ensures) (a .number) (a .place) (a .room .now)
     (head .put-head .ensures) (answer .answer2 .given .0 .0) (answer .answer2 .given .1) (reading .put-reading .ensures)
     (c .before .before .put-words .ensures)
 
@@ -40,6 +45,8 @@ report-spec =
     (λ c κs. search needs)
     (λ c κs. search needs)
     (λ c. search needs)
+    (λ c κs. search needs)
+    (λ c κs. search needs)
     (λ c κs. search needs)
     (λ c. search needs)
     (λ c κs. search needs)

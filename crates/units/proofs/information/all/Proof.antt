@@ -5,10 +5,10 @@ use mathlib.Core.Logic.{⊎-elim}
 use Rattle.units.proofs.information.all.Statement.{statement}
 use Rattle.units.proofs.information.all.Tie as tie
 
-two : (c : tie.Joined1) → c .if1 .if2 ≡ c .before .args .a && c .before .args .b
+two : (c : tie.Joined1) → c .if1 .if2 ≡ c .before .args .m .0 && c .before .args .m .1
 two c = ⊎-elim (λ w. rw (w .0 .taken) (w .1)) (λ w. rw (w .0 .left) (w .1 ∙ w .0 .left)) (c .if1 .came)
 
-three : (c : tie.Joined2) → c .if2 .if3 ≡ (c .before .before .args .a && c .before .before .args .b) && c .before .before .args .c
+three : (c : tie.Joined2) → c .if2 .if3 ≡ (c .before .before .args .m .0 && c .before .before .args .m .1) && c .before .before .args .m .2
 three c =
     rw (← two (c .before))
     (⊎-elim (λ w. rw (w .0 .taken) (w .1)) (λ w. rw (w .0 .left) (w .1 ∙ w .0 .left)) (c .if2 .came))

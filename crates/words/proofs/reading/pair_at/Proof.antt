@@ -1,12 +1,12 @@
 -- `pair_at` meets its contract: each return is what its checks of the ppm, the sign and the mm leave of `pairAt`.
 use mathlib.Core.Bool.{true}
-use mathlib.Core.Path.{_≡_, sym, _∙_}
+use mathlib.Core.Path.{_≡_, sym, ap, _∙_}
 use borrow.Author.Needs.{needs}
-use Rattle.figures.specs.Decimal.{numberOf}
+use Rattle.figures.specs.Decimal.{numberOf, numberIn}
 use Rattle.units.specs.Information.{signRight, signOf}
 use Rattle.words.specs.Reading.{ppmIn, underIn, mmIn}
 use Rattle.units.specs.declared.kinds.Kind.the-variants as kind
-use Rattle.words.proofs.Checks.{said-not, said-number, sign-not, sign-is, ppm-in, mm-in, pair-by, pair-short, isNumber}
+use Rattle.words.proofs.Checks.{said-not, said-number, sign-not, sign-is, ppm-part, mm-part, pair-by, pair-short, isNumber}
 use Rattle.words.proofs.reading.pair_at.Statement.{statement}
 use Rattle.words.proofs.reading.pair_at.Tie as tie
 
@@ -37,7 +37,7 @@ enum-told c = search needs
 returns-2 : tie.Need-returns-2
 returns-2 c =
     let s = c .before .before .before .before .before .before .args .s .now in
-    let bad = said-not (ppmIn s) (c .before .before .number .ensures ∙ ppm-in s) (c .enum-told .given .1) in
+    let bad = said-not (ppmIn s) (c .before .before .number .ensures ∙ ap numberIn (ppm-part s)) (c .enum-told .given .1) in
     sym (pair-by s (c .before .before .before .before .if1 .left) ∙ rw bad)
 
 shared-slice-read-sign-at : tie.Need-shared-slice-read-sign-at
@@ -58,7 +58,7 @@ ppm-says : (c : tie.After-known-told) →
     (isNumber (ppmIn s) ≡ true) × (c .before .ppm .given .0 .0 ≡ numberOf (ppmIn s))
 ppm-says c =
     let s = c .before .before .before .before .before .before .before .args .s .now in
-    said-number (ppmIn s) (c .before .before .before .number .ensures ∙ ppm-in s) (c .before .ppm .given .1)
+    said-number (ppmIn s) (c .before .before .before .number .ensures ∙ ap numberIn (ppm-part s)) (c .before .ppm .given .1)
 
 under-says : (c : tie.After-known-told2) →
     let s = c .before .before .before .before .before .before .before .before .before .before .before .before .args .s .now in
@@ -101,7 +101,7 @@ returns-4 c =
     let ppm = under .before .before .before .before .before in
     let start = ppm .before .before .before .before .before in
     let s = start .before .before .args .s .now in
-    let bad = said-not (mmIn s) (c .before .before .number2 .ensures ∙ mm-in s (start .if1 .left)) (c .enum-told3 .given .1) in
+    let bad = said-not (mmIn s) (c .before .before .number2 .ensures ∙ ap numberIn (mm-part s (start .if1 .left))) (c .enum-told3 .given .1) in
     sym (pair-by s (start .if1 .left) ∙ rw (ppm-says ppm .0, under-says under .0, bad))
 
 returns-5 : tie.Need-returns-5
@@ -110,7 +110,7 @@ returns-5 c =
     let ppm = under .before .before .before .before .before in
     let start = ppm .before .before .before .before .before in
     let s = start .before .before .args .s .now in
-    let ok = said-number (mmIn s) (c .before .before .before .number2 .ensures ∙ mm-in s (start .if1 .left)) (c .before .mm .given .1) in
+    let ok = said-number (mmIn s) (c .before .before .before .number2 .ensures ∙ ap numberIn (mm-part s (start .if1 .left))) (c .before .mm .given .1) in
     sym (pair-by s (start .if1 .left) ∙ rw (ppm-says ppm .0, under-says under .0, ok .0, ppm-says ppm .1, under-says under .1, ok .1))
 
 pub pair-at-spec : {M : Type 1} → statement M

@@ -7,12 +7,12 @@ use native.Mathlib.Omega.{arith}
 use borrow.Author.Tests.{le-leb}
 use lib.Dec.{eqb, leb}
 use lib.ListN.{length, getD}
-use Rattle.units.specs.Kinds.{indexRight}
-use Rattle.units.specs.Information.{infoRight, signRight, signOf, signAt}
+use Rattle.units.specs.Kinds.{areDigits, listedBy}
+use Rattle.units.specs.Information.{allRight, signRight, signOf, signAt}
 use Rattle.units.specs.declared.kinds.Family.{Family}
 use Rattle.units.specs.declared.information.Informed.the-variants.{Not, Right}
 use Rattle.words.specs.Records.{width}
-use Rattle.words.specs.Reading.{wordSize, pos, indexIn, kindAt, leadIn, dataIn, dataRight, figuresIn, valueIn, isCounted, countOr}
+use Rattle.words.specs.Reading.{wordSize, pos, indexIn, kindAt, leadIn, marksIn, dataIn, dataRight, figuresIn, valueIn, isCounted, countOr}
 use Rattle.words.specs.Keeping.{spelledAt, partedAt}
 use Rattle.words.proofs.Checks.{index-is, informed-right, sign-is, spelled-says, parted-blank, data-part}
 use Rattle.words.proofs.reading.read_word.Tie as tie
@@ -56,7 +56,7 @@ sized c = le-leb (wordSize (wide c)) (length (bytes c)) (long c)
 pub indexed : (c : tie.After-known-told) →
     let s = bytes (by-index c) in
     let f = family (by-index c) in
-    (indexRight f (pos 1 s) (pos 2 s) (pos 3 s) ≡ true) × (c .before .index .given .0 .0 ≡ indexIn f s) × (c .before .index .given .0 .1 .0 ≡ kindAt f s)
+    ((areDigits (pos 1 s) (pos 2 s) ≡ true) × (listedBy f (pos 1 s) (pos 2 s) (pos 3 s) ≡ true)) × (c .before .index .given .0 .0 ≡ indexIn f s) × (c .before .index .given .0 .1 .0 ≡ kindAt f s)
 indexed c =
     let s = bytes (by-index c) in
     index-is (family (by-index c)) (pos 1 s) (pos 2 s) (pos 3 s) (c .before .before .before .index-at .ensures) (c .before .index .given .1)
@@ -69,7 +69,7 @@ abbrev pub infoIs : (at : tie.Else1) → Bool
 infoIs at =
     let s = bytes at in
     let f = family at in
-    infoRight f (indexIn f s) (kindAt f s) (leadIn f s) (pos 4 s) (pos 5 s) (pos 6 s)
+    allRight (marksIn f s)
 
 pub informs : (c : tie.After-informed-by) →
     c .informed-by .result ≡ cond (infoIs (by-index (c .before .before .before .before .before .before))) Right Not

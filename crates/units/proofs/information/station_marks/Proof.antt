@@ -1,28 +1,31 @@
--- `station_info` meets its contract: at each kind the four tests are those of the kind.
+-- `station_marks` meets its contract: at each kind the four tests are those of the kind.
 use borrow.Author.Needs.{needs}
-use Rattle.units.proofs.information.station_info.Statement.{statement}
-use Rattle.units.proofs.information.station_info.Tie as tie
+use Rattle.units.proofs.information.station_marks.Statement.{statement}
+use Rattle.units.proofs.information.station_marks.Tie as tie
+
+returns : tie.Need-returns
+returns c = rw (c .enum-told .given .1)
 
 returns-2 : tie.Need-returns-2
 returns-2 c = rw (c .before .enum-told2 .given .1) (c .numbered .ensures)
 
 returns-3 : tie.Need-returns-3
-returns-3 c = rw (c .before .before .before .before .before .enum-told3 .given .1) cc
+returns-3 c = rw (c .before .before .before .before .enum-told3 .given .1) cc
 
 returns-4 : tie.Need-returns-4
-returns-4 c = rw (c .before .before .before .before .before .enum-told4 .given .1) cc
+returns-4 c = rw (c .before .before .before .before .enum-told4 .given .1) cc
 
 returns-5 : tie.Need-returns-5
-returns-5 c = rw (c .before .before .before .before .before .enum-told5 .given .1) cc
+returns-5 c = rw (c .before .before .before .before .enum-told5 .given .1) cc
 
 returns-6 : tie.Need-returns-6
-returns-6 c = rw (c .before .before .before .before .enum-told6 .given .1) cc
+returns-6 c = rw (c .before .before .before .enum-told6 .given .1) cc
 
 returns-7 : tie.Need-returns-7
-returns-7 c = rw (c .before .before .before .before .before .enum-told7 .given .1) cc
+returns-7 c = rw (c .before .before .before .before .enum-told7 .given .1) cc
 
-pub station-info-spec : {M : Type 1} → statement M
-station-info-spec =
+pub station-marks-spec : {M : Type 1} → statement M
+station-marks-spec =
     tie.close
     (tie.spec
     (λ c. search needs)
@@ -33,15 +36,7 @@ station-info-spec =
     (λ c κs. search needs)
     (λ c κs. search needs)
     (λ c κs. search needs)
-    (λ c κs. search needs)
     (λ c. search needs)
-    (λ c κs. search needs)
-    (λ c κs. search needs)
-    (λ c κs. search needs)
-    (λ c κs. search needs)
-    (λ c κs. search needs)
-    (λ c. search needs)
-    (λ c κs. search needs)
     (λ c κs. search needs)
     (λ c κs. search needs)
     (λ c κs. search needs)
@@ -55,9 +50,12 @@ station-info-spec =
     (λ c κs. search needs)
     (λ c κs. search needs)
     (λ c κs. search needs)
-    (λ c κs. search needs)
-    (λ c κs. search needs)
     (λ c. search needs)
+    (λ c κs. search needs)
+    (λ c κs. search needs)
+    (λ c κs. search needs)
+    (λ c κs. search needs)
+    returns
     returns-2
     returns-3
     returns-4

@@ -1,4 +1,4 @@
--- `level_info` meets its contract: at each kind that a level has the tests are those of the kind, and the last arm has the others.
+-- `level_marks` meets its contract: at each kind that a level has the tests are those of the kind, and the last arm has the others.
 use Prim.Native.Nat.{ℕ}
 use mathlib.Core.Path.{_≡_, refl}
 use mathlib.Core.Bool.{false}
@@ -6,15 +6,15 @@ use mathlib.Core.List.{[], _∷_}
 use types.Run.{OneOf, miss}
 use denote.Enum.Declared.{tagOf}
 use borrow.Author.Needs.{needs}
-use Rattle.units.specs.Information.{levelInfo}
+use Rattle.units.specs.Information.{marks, levelMarks}
 use Rattle.units.specs.declared.kinds.Kind.{Kind}
 use Rattle.units.specs.declared.kinds.Kind.the-variants.{Missing, Numbered, Text, Angle, Length, Constant, Pair}
 use Rattle.units.proofs.kinds.Kind.{the-type}
-use Rattle.units.proofs.information.level_info.Statement.{statement}
-use Rattle.units.proofs.information.level_info.Tie as tie
+use Rattle.units.proofs.information.level_marks.Statement.{statement}
+use Rattle.units.proofs.information.level_marks.Tie as tie
 
 -- the last arm's kinds
-rest : (i : ℕ) (k : Kind) (a b c d : ℕ) → OneOf (0 ∷ 3 ∷ 5 ∷ 6 ∷ []) (tagOf the-type k) → false ≡ levelInfo i k a b c d
+rest : (i : ℕ) (k : Kind) (a b c d : ℕ) → OneOf (0 ∷ 3 ∷ 5 ∷ 6 ∷ []) (tagOf the-type k) → marks false false false false ≡ levelMarks i k a b c d
 rest i Missing a b c d h = refl
 rest i Numbered a b c d h = absurd (miss (0 ∷ 3 ∷ 5 ∷ 6 ∷ []) 1 tt h)
 rest i Text a b c d h = absurd (miss (0 ∷ 3 ∷ 5 ∷ 6 ∷ []) 2 tt h)
@@ -27,16 +27,16 @@ returns : tie.Need-returns
 returns c = rw (c .before .enum-told .given .1) (c .numbered .ensures)
 
 returns-2 : tie.Need-returns-2
-returns-2 c = rw (c .before .before .before .before .before .enum-told2 .given .1) cc
+returns-2 c = rw (c .before .before .before .before .enum-told2 .given .1) cc
 
 returns-3 : tie.Need-returns-3
-returns-3 c = rw (c .before .before .before .before .before .enum-told3 .given .1) cc
+returns-3 c = rw (c .before .before .before .before .enum-told3 .given .1) cc
 
 returns-4 : tie.Need-returns-4
 returns-4 c = let a = c .before .args in rest (a .index) (a .kind) (a .a) (a .b) (a .c) (a .d) (c .match .keys4)
 
-pub level-info-spec : {M : Type 1} → statement M
-level-info-spec =
+pub level-marks-spec : {M : Type 1} → statement M
+level-marks-spec =
     tie.close
     (tie.spec
     (λ c. search needs)
@@ -46,9 +46,7 @@ level-info-spec =
     (λ c κs. search needs)
     (λ c κs. search needs)
     (λ c κs. search needs)
-    (λ c κs. search needs)
     (λ c. search needs)
-    (λ c κs. search needs)
     (λ c κs. search needs)
     (λ c κs. search needs)
     (λ c κs. search needs)

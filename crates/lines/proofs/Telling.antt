@@ -1,0 +1,134 @@
+-- What a line's verdict tells beside its number: "26 also tells which of 6 to 10 it was, with the byte in the line" (request 104), and no other tells either.
+use Prim.Native.Nat.{ℕ, zero, suc, _+_, _<_, _≤_}
+use mathlib.Core.Path.{_≡_, refl, sym, _∙_}
+use mathlib.Core.Bool.{Bool, true, false, cond, _&&_}
+use mathlib.Core.List.{List, []}
+use native.Mathlib.Omega.{arith}
+use borrow.Author.Tests.{eqb-true, eq-eqb, ne-eqb}
+use lib.Dec.{eqb, leb}
+use lib.ListN.{length, getD, drop, length-drop}
+use Rattle.figures.specs.Bytes.{within}
+use Rattle.figures.proofs.Bytes.{within-bounds, bounds-within}
+use Rattle.figures.proofs.Tests.{both, by-test}
+use Rattle.units.specs.Kinds.{indexOf}
+use Rattle.words.specs.Reading.{faultNumber, pos}
+use Rattle.words.specs.declared.reading.Judged.{Judged}
+use Rattle.words.specs.declared.reading.Judged.the-variants.{Right, Wrong}
+use Rattle.instrument.specs.Settings.{rowAt, settingPlace, isAsked, inRange}
+use Rattle.instrument.specs.Values.{putJudged, isPut}
+use Rattle.instrument.specs.declared.settings.Series.{Series}
+use Rattle.instrument.specs.declared.settings.Found.{Found}
+use Rattle.instrument.specs.declared.settings.Found.the-variants.{Nothing, At}
+use Rattle.instrument.specs.declared.values.Value.{Value}
+use Rattle.instrument.proofs.Which.{put-which, put-within}
+use Rattle.state.specs.Entries.{entriesN}
+use Rattle.state.specs.Image.{stateIn, isImage}
+use Rattle.state.specs.declared.entries.State.{State}
+use Rattle.lines.specs.Shapes.{isEnded, textOf, groupsIn, orderOf}
+use Rattle.lines.specs.Verdicts.{verdictNumber, verdictWhich, verdictByte, fullVerdict, setBy, confBy, placeNamed, valueHeld}
+use Rattle.lines.specs.Verdicts.{afterWord, putBy, putVerdict, getBy, getVerdict, orderVerdict, lineVerdict}
+use Rattle.lines.specs.Machine.{outcome, run, step, told, played, call}
+use Rattle.lines.specs.declared.shapes.Order.{Order}
+use Rattle.lines.specs.declared.verdicts.Verdict.{Verdict}
+use Rattle.lines.specs.declared.verdicts.Verdict.the-variants.{Accepted, Unended, Long, ReadOnly, Parameter}
+use Rattle.lines.specs.declared.verdicts.Verdict.the-variants.{NeverPut, Full, NoEntry, Room, NoState}
+use Rattle.lines.proofs.Shape.{order-by}
+use Rattle.lines.proofs.Lookups.{value-found, named}
+
+-- a fault of 6 to 10 at a byte of the word after `PUT/`, or neither
+abbrev pub tells : Verdict → Bool
+tells v =
+    cond (eqb (verdictNumber v) 26) (within 6 10 (verdictWhich v) && within 4 19 (verdictByte v)) (eqb (verdictWhich v) 0 && eqb (verdictByte v) 0)
+
+abbrev Tells : Verdict → Type 0
+Tells v = tells v ≡ true
+
+cond-tells : (b : Bool) (v w : Verdict) → Tells v → Tells w → Tells (cond b v w)
+cond-tells true v w p q = p
+cond-tells false v w p q = q
+
+full-tells : (count : ℕ) → Tells (fullVerdict count)
+full-tells count = cond-tells (leb entriesN count) Full Accepted refl refl
+
+set-tells : (k : Series) (count p : ℕ) (f : Found) → Tells (setBy k count p f)
+set-tells k count p Nothing = refl
+set-tells k count p (At i) =
+    cond-tells (isAsked (rowAt k i)) ReadOnly _ refl (cond-tells (inRange (rowAt k i) p) (fullVerdict count) Parameter (full-tells count) refl)
+
+conf-tells : (f : Found) → Tells (confBy f)
+conf-tells Nothing = refl
+conf-tells (At i) = refl
+
+-- a word of 16 bytes that names a stored value
+put-tells : (count : ℕ) (word : List ℕ) → length word ≡ 16 → Tells (putVerdict count word)
+put-tells count word long = go (placeNamed (pos 1 word) (pos 2 word)) refl
+  where
+    by : (i : ℕ) (j : Judged) → placeNamed (pos 1 word) (pos 2 word) ≡ At i → putJudged i word ≡ j → Tells (afterWord count j)
+    by i Right f e = full-tells count
+    by i (Wrong x at) f e =
+        let digits = named (pos 1 word) (pos 2 word) i f in
+        let found = value-found (indexOf (pos 1 word) (pos 2 word)) i (digits .2) in
+        let which = put-which i word x at (found .0) (omega arith) (found .1) (rw (digits .0, digits .1)) e in
+        rw (bounds-within 6 10 (faultNumber x) (which .0) (which .1), bounds-within 4 19 (4 + at) (omega arith) (omega (arith, put-within i word x at e)))
+
+    go : (f : Found) → placeNamed (pos 1 word) (pos 2 word) ≡ f → Tells (putBy count word f)
+    go Nothing e = refl
+    go (At i) e = by i (putJudged i word) e refl
+
+get-tells : (values : List Value) (n : ℕ) (g : List ℕ) → Tells (getVerdict values n g)
+unfolding getVerdict
+get-tells values zero g = refl
+get-tells values (suc n) g = by (placeNamed (getD g 3 0) (getD g 4 0)) (get-tells values n (drop 5 g))
+  where
+    by : (f : Found) → Tells (getVerdict values n (drop 5 g)) → Tells (getBy values f (getVerdict values n (drop 5 g)))
+    by Nothing later = refl
+    by (At i) later = cond-tells (isPut (valueHeld values i .kept)) _ NeverPut later refl
+
+pub line-tells : (s : State) (line : List ℕ) → Tells (lineVerdict s line)
+line-tells s line =
+    let t = textOf line in
+    let order : Tells (orderVerdict s t (orderOf t)) =
+    order-by (λ (o : Order). Tells (orderVerdict s t o)) t refl refl
+    (λ _ n p. set-tells (s .series) (s .count) p (settingPlace (s .series) n))
+    (λ n. conf-tells (settingPlace (s .series) n))
+    (λ _ long. put-tells (s .count) (drop 4 t) (omega (arith, length-drop 4 t)))
+    (λ _ _. get-tells (s .values) (groupsIn (drop 5 t)) (drop 5 t))
+    (λ _. cond-tells (eqb (s .count) 0) NoEntry Accepted refl refl)
+    (λ _. refl) in
+    cond-tells (isEnded line) _ Unended (cond-tells (leb (length t) 100) _ Long order refl) refl
+
+-- 30 and 31 tell neither
+pub step-tells : (s : State) (line : List ℕ) (room : ℕ) → Tells (step s line room .verdict)
+step-tells s line room = by (leb (length (run s line .reply)) room)
+  where
+    by : (b : Bool) → Tells (cond b (run s line) (outcome Room [] s) .verdict)
+    by true = line-tells s line
+    by false = refl
+
+pub call-tells : (image line room : List ℕ) → Tells (call image line room .answer .verdict)
+call-tells image line room = by (isImage image)
+  where
+    by : (b : Bool) → Tells (cond b (played (step (stateIn image) line (length room)) room) (record { answer = told NoState 0; image = image; room = room }) .answer .verdict)
+    by true = step-tells (stateIn image) line (length room)
+    by false = refl
+
+-- so 26 tells one of 6 to 10, and a byte of the word
+pub word-tells : (v : Verdict) → tells v ≡ true → verdictNumber v ≡ 26
+    → ((6 ≤ verdictWhich v) × (verdictWhich v ≤ 10)) × ((4 ≤ verdictByte v) × (verdictByte v < 20))
+word-tells v t e =
+    let parts = both (within 6 10 (verdictWhich v)) (within 4 19 (verdictByte v)) (rw (eq-eqb (verdictNumber v) 26 e) at t) in
+    let byte = within-bounds 4 19 (verdictByte v) (parts .1) in
+    (within-bounds 6 10 (verdictWhich v) (parts .0), (byte .0, omega arith))
+
+-- and every other nothing
+pub other-tells : (v : Verdict) → tells v ≡ true → (verdictNumber v ≡ 26 → ⊥) → (verdictWhich v ≡ 0) × (verdictByte v ≡ 0)
+other-tells v t e =
+    let parts = both (eqb (verdictWhich v) 0) (eqb (verdictByte v) 0) (rw (ne-eqb (verdictNumber v) 26 e) at t) in
+    (eqb-true (verdictWhich v) 0 (parts .0), eqb-true (verdictByte v) 0 (parts .1))
+
+pub tells-small : (v : Verdict) → tells v ≡ true → (verdictWhich v ≤ 10) × (verdictByte v < 20)
+tells-small v t =
+    by-test (eqb (verdictNumber v) 26)
+    (λ q. let told = word-tells v t (eqb-true (verdictNumber v) 26 q) in (told .0 .1, told .1 .1))
+    (λ q. let told = other-tells v t (λ is. let z : true ≡ false = sym (eq-eqb (verdictNumber v) 26 is) ∙ q in let y : _≡_ {A = ℕ} 0 1 = cc in omega arith) in
+    (omega arith, omega arith))
