@@ -65,11 +65,10 @@ uint64_t gsi_read(const uint8_t *block, size_t n, gsi_word *list, size_t places)
    or on the mm of what is no pair included, 14 for a room shorter than the block (tells the bytes needed); the whole room is as before. */
 uint64_t gsi_write(const gsi_word *list, size_t words, uint64_t wide, uint64_t crlf, uint8_t *block, size_t room);
 
-/* The same two for a digital level's block (NA2002, NA3003). What a level's word can't be is refused as gsi_read refuses: 15 for digits that
-   are no index of a level, three of them where position 3 has one, 6 for positions 3-6 (4-6 after an index of three digits) by the level's rules; 10
-   never comes. 13 is a record that no word of a level
-   gives: one whose index a level doesn't have, an index of three digits with info[0] other than 0, one of two digits (but 11 and 41) without the
-   dot at info[0]. */
+/* The same two for a digital level's block (NA2002, NA3003). What a level's word can't be is refused as gsi_read refuses, at the same bytes: 15 for
+   digits that are no index of a level, three of them where position 3 has one, 6 for positions 3-6 (4-6 after an index of three digits) by the level's
+   rules; 10 never comes. 13 is a record that no word of a level gives: one whose index a level doesn't have, an index of three digits with info[0] other
+   than 0, one of two digits (but 11 and 41) without the dot at info[0]. */
 uint64_t gsi_read_level(const uint8_t *block, size_t n, gsi_word *list, size_t places);
 uint64_t gsi_write_level(const gsi_word *list, size_t words, uint64_t wide, uint64_t crlf, uint8_t *block, size_t room);
 
