@@ -136,7 +136,7 @@ abbrev pub unless : Bool → Fault → ℕ → OneWord → OneWord
 unless holds x at r = cond holds r (faulty x at)
 
 -- "Refusals 5 to 10 tell the exact byte: the first that breaks the rule, and for 10 the first data byte" (request 104). "Order: 5, 15, 6 to 10."
--- `first-breaks`, in proofs/Breaks.antt, shows that it is the first
+-- `first-breaks`, of crate damage, shows that it is the first
 abbrev pub wordOf : Family → Bool → List ℕ → OneWord
 wordOf f wide s =
     unless (leb (wordSize wide) (length s)) Short 0
