@@ -1,7 +1,7 @@
 -- The bench readings of request 104: the byte that each refusal tells, in blocks of both families and both widths, and what 22, 39 and 26 are of a line.
 use Prim.Native.Nat.{ℕ}
 use Prim.Native.String.{String}
-use mathlib.Core.List.{List, [], _∷_, _++_}
+use mathlib.Core.List.{List, [], _∷_}
 use Rattle.figures.specs.Text.{codes}
 use Rattle.bench.specs.Readings.{Reading, refused, tells, word}
 

@@ -19,7 +19,8 @@ use Rattle.units.specs.Information.{isDot, stationMarks, allRight, firstWrong, 
 use Rattle.units.specs.Counts.{valueAt}
 use Rattle.units.proofs.Positions.{tensOf, onesOf, index-on, index-below, tens-digit, ones-digit, sign-on, sign-right}
 use Rattle.words.specs.Records.{isGraphic}
-use Rattle.words.specs.Reading.{pos, wordOf, indexIn, kindAt, marksIn, dataIn, dataRight, figuresIn, countOr, isCounted, valueIn, recordIn, unless, rightWord, wordSize}
+use Rattle.words.specs.Reading.{pos, wordOf, indexIn, kindAt, marksIn, dataIn, dataRight, figuresIn}
+use Rattle.words.specs.Reading.{countOr, isCounted, valueIn, recordIn, unless, rightWord, wordSize}
 use Rattle.words.proofs.Places.{Places, spread, placesIn, Tells, tellsBy, rules, recordBy, word-spread}
 use Rattle.words.proofs.Signs.{minus-as-plus}
 use Rattle.units.specs.declared.kinds.Family.the-variants.{Station}
@@ -31,7 +32,8 @@ use Rattle.words.specs.declared.reading.Fault.the-variants.{Short, Information}
 use Rattle.words.specs.declared.reading.Judged as one
 use Rattle.words.specs.declared.reading.OneWord.{OneWord}
 use Rattle.words.specs.declared.records.Word.{Word}
-use Rattle.instrument.specs.Values.{unitsOf, stored, noStored, storedAt, isRightWord, putMarks, putRight, putKept, valueWord, keptRight, eightOf, eightBytes}
+use Rattle.instrument.specs.Values.{unitsOf, stored, noStored, storedAt, isRightWord, putMarks, putRight}
+use Rattle.instrument.specs.Values.{putKept, valueWord, keptRight, eightOf, eightBytes}
 use Rattle.instrument.specs.declared.values.Stored.{Stored}
 use Rattle.instrument.specs.declared.values.Eight.{Eight}
 use Rattle.instrument.specs.declared.values.Kept.{Kept}

@@ -30,8 +30,8 @@ use Rattle.lines.specs.Keeping.{ranOf, Ends}
 use Rattle.lines.specs.declared.shapes.Order.{Order}
 use Rattle.lines.specs.declared.shapes.Order.the-variants as order
 use Rattle.lines.specs.declared.verdicts.Verdict.{Verdict}
-use Rattle.lines.specs.declared.verdicts.Verdict.the-variants.{Accepted, Unended, Long, Keyword, Shape, Setting, ReadOnly, Parameter, Index, Word, NeverPut}
-use Rattle.lines.specs.declared.verdicts.Verdict.the-variants.{Full, NoEntry, Room, NoState}
+use Rattle.lines.specs.declared.verdicts.Verdict.the-variants.{Accepted, Unended, Long, Keyword, Shape, Setting, ReadOnly, Parameter, Index, Word}
+use Rattle.lines.specs.declared.verdicts.Verdict.the-variants.{NeverPut, Full, NoEntry, Room, NoState}
 use Rattle.lines.specs.declared.machine.Ran.{Ran}
 use Rattle.lines.proofs.Shape.{from-start}
 use Rattle.lines.proofs.Replying.{laid-none}

@@ -26,7 +26,8 @@ use Rattle.instrument.proofs.Kept.{put-kept-right}
 use Rattle.instrument.proofs.Ranges.{range-high}
 use Rattle.state.proofs.Images.{image-of}
 use Rattle.lines.specs.Shapes.{endOf, isEnded, textOf, conf-slash, get-i, undo-word, keep-word, orderOf}
-use Rattle.lines.specs.Verdicts.{isAccepted, setBy, setVerdict, fullVerdict, placeNamed, afterWord, putBy, putVerdict, undoVerdict, orderVerdict, lineVerdict}
+use Rattle.lines.specs.Verdicts.{isAccepted, setBy, setVerdict, fullVerdict, placeNamed, afterWord, putBy, putVerdict, undoVerdict}
+use Rattle.lines.specs.Verdicts.{orderVerdict, lineVerdict}
 use Rattle.lines.specs.Orders.{doneOf}
 use Rattle.lines.specs.Replies.{replyOf}
 use Rattle.lines.specs.Machine.{Outcome, outcome, step, Calls}

@@ -85,7 +85,8 @@ order-by P t none unknown set conf put get undo keep =
     (either P (startsWith conf-slash t) _ _ (λ _. either P (numberRight g) _ _ (λ _. conf _) none)
     (either P (startsWith put-slash t) _ _ (λ e. either P (eqb (length t) 20) _ _ (λ long. put e (eqb-true (length t) 20 long)) none)
     (either P (startsWith get-i t) _ _
-    (λ e. either P (ltb 0 (length g) && groupsRight (groupsIn g) g) _ _ (λ r. let some = and-eq-true-iff (ltb 0 (length g)) _ .0 r in get e (ltb-true 0 (length g) (some .0), some .1)) none)
+    (λ e. either P (ltb 0 (length g) && groupsRight (groupsIn g) g) _ _
+    (λ r. let some = and-eq-true-iff (ltb 0 (length g)) _ .0 r in get e (ltb-true 0 (length g) (some .0), some .1)) none)
     (either P (sameBytes t undo-word) _ _ undo
     (either P (sameBytes t keep-word) _ _ keep (either P (hasKeyword t) _ _ (λ _. none) unknown))))))
 

@@ -108,7 +108,8 @@ step-tells s line room = by (leb (length (run s line .reply)) room)
 pub call-tells : (image line room : List ℕ) → Tells (call image line room .answer .verdict)
 call-tells image line room = by (isImage image)
   where
-    by : (b : Bool) → Tells (cond b (played (step (stateIn image) line (length room)) room) (record { answer = told NoState 0; image = image; room = room }) .answer .verdict)
+    by : (b : Bool)
+        → Tells (cond b (played (step (stateIn image) line (length room)) room) (record { answer = told NoState 0; image = image; room = room }) .answer .verdict)
     by true = step-tells (stateIn image) line (length room)
     by false = refl
 
@@ -132,3 +133,12 @@ tells-small v t =
     (λ q. let told = word-tells v t (eqb-true (verdictNumber v) 26 q) in (told .0 .1, told .1 .1))
     (λ q. let told = other-tells v t (λ is. let z : true ≡ false = sym (eq-eqb (verdictNumber v) 26 is) ∙ q in let y : _≡_ {A = ℕ} 0 1 = cc in omega arith) in
     (omega arith, omega arith))
+
+-- so of every call
+pub call-word : (image line room : List ℕ) → let v = call image line room .answer .verdict in verdictNumber v ≡ 26
+    → ((6 ≤ verdictWhich v) × (verdictWhich v ≤ 10)) × ((4 ≤ verdictByte v) × (verdictByte v < 20))
+call-word image line room e = word-tells (call image line room .answer .verdict) (call-tells image line room) e
+
+pub call-other : (image line room : List ℕ) → let v = call image line room .answer .verdict in (verdictNumber v ≡ 26 → ⊥)
+    → (verdictWhich v ≡ 0) × (verdictByte v ≡ 0)
+call-other image line room e = other-tells (call image line room .answer .verdict) (call-tells image line room) e

@@ -1,14 +1,14 @@
 -- What the writer refuses by 13 because of the family: three digits in a total station's block, three digits with another first byte than 0, and
 -- two digits without their dot.
 use Prim.Native.Nat.{ℕ, _<_, _≤_}
-use mathlib.Core.Path.{_≡_, refl, sym, _∙_}
+use mathlib.Core.Path.{_≡_, refl, sym}
 use mathlib.Core.Bool.{Bool, true, false, _&&_, false≢true}
 use native.Mathlib.Omega.{arith}
 use borrow.Author.Tests.{eqb-true, lt-ltb, le-ltb}
 use lib.Dec.{eqb, ltb}
 use lib.ListN.{length, getD}
 use Rattle.figures.proofs.Tests.{both, by-test}
-use Rattle.units.specs.Kinds.{levelKind, kindOf}
+use Rattle.units.specs.Kinds.{levelKind}
 use Rattle.units.specs.Information.{isLead, levelMarks, allRight, infoRight}
 use Rattle.units.specs.declared.kinds.Family.{Family}
 use Rattle.units.specs.declared.kinds.Family.the-variants.{Station, Level}

@@ -167,7 +167,8 @@ places-read f wide p w l e =
     let letters : dataOf (width wide) (figuresOf (countOf f r)) (r .text) ≡ p .letters =
     ap (λ (n : Count). dataOf (width wide) (figuresOf n) (r .text)) (told .3)
     ∙ rw (told .1, ← l) (data-back k (p .letters) (omega arith) (omega arith) (j .letters)) in
-    let head = head-back f (p .tens) (p .ones) (p .first) (p .second) (p .mode) (p .unit) (index-right f (p .tens) (p .ones) (p .first) (j .digits) (j .listed)) in
+    let index = index-right f (p .tens) (p .ones) (p .first) (j .digits) (j .listed) in
+    let head = head-back f (p .tens) (p .ones) (p .first) (p .second) (p .mode) (p .unit) index in
     let bytes : bytesOf f wide r ≡ spread p [] =
     bytes-spread f wide r p head (ap signByte (told .2) ∙ sign-back (p .sign) (sign .0)) letters (j .end) in (
       ap (isRight f wide) (sym is) ∙ right,

@@ -113,7 +113,8 @@ add-t28 c =
     let read = c .before .before .before .before in
     let a = read .before .before .before .before .before .before .before .before .before .args in
     let left = length-drop (a .at) (a .s .now) in
-    let byte = told-within (a .family) (a .wide) (drop (a .at) (a .s .now)) _ _ (ap (λ (o : OneWord). o .answer) (sym (word read)) ∙ c .before .answer .given .1) in
+    let wrong = ap (λ (o : OneWord). o .answer) (sym (word read)) ∙ c .before .answer .given .1 in
+    let byte = told-within (a .family) (a .wide) (drop (a .at) (a .s .now)) _ _ wrong in
     omega (arith, byte)
 
 found : (c : tie.After-read-word) →

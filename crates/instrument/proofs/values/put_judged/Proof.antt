@@ -26,7 +26,8 @@ returns-5 c =
     let at = c .before .before .before .before in
     let row = at .before .before .before .stored-at .ensures in
     let low = le-leb _ _ (rw row at (c .before .before .if4 .left)) in
-    rw (eq-eqb _ 46 (at .before .before .if1 .left), eq-eqb _ 46 (at .before .if2 .left), eq-eqb _ 46 (at .if3 .left), low, lt-leb _ _ (rw row at (c .if5 .taken)))
+    let high = lt-leb _ _ (rw row at (c .if5 .taken)) in
+    rw (eq-eqb _ 46 (at .before .before .if1 .left), eq-eqb _ 46 (at .before .if2 .left), eq-eqb _ 46 (at .if3 .left), low, high)
 
 -- dots and a unit of the place: what is left is the word
 returns-6 : tie.Need-returns-6

@@ -7,8 +7,8 @@ use denote.Enum.Declared.{tagOf}
 use borrow.Author.Needs.{needs}
 use Rattle.lines.specs.Verdicts.{isAccepted}
 use Rattle.lines.specs.declared.verdicts.Verdict.{Verdict}
-use Rattle.lines.specs.declared.verdicts.Verdict.the-variants.{Accepted, Unended, Long, Keyword, Shape, Setting, ReadOnly, Parameter, Index, Word, NeverPut}
-use Rattle.lines.specs.declared.verdicts.Verdict.the-variants.{Full, NoEntry, Room, NoState}
+use Rattle.lines.specs.declared.verdicts.Verdict.the-variants.{Accepted, Unended, Long, Keyword, Shape, Setting, ReadOnly, Parameter, Index, Word}
+use Rattle.lines.specs.declared.verdicts.Verdict.the-variants.{NeverPut, Full, NoEntry, Room, NoState}
 use Rattle.lines.proofs.verdicts.Verdict.{the-type}
 use Rattle.lines.proofs.verdicts.is_accepted.Statement.{statement}
 use Rattle.lines.proofs.verdicts.is_accepted.Tie as tie

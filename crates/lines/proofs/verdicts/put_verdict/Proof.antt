@@ -21,7 +21,8 @@ add-t17 : tie.Need-add-t17
 add-t17 c =
     let judged = c .before .before .before in
     let place = judged .before .before in
-    let byte = put-within (place .place .given .0 .0) (place .before .before .before .args .t2) _ _ (sym (judged .put-judged .ensures) ∙ c .before .fault .given .1) in
+    let wrong = sym (judged .put-judged .ensures) ∙ c .before .fault .given .1 in
+    let byte = put-within (place .place .given .0 .0) (place .before .before .before .args .t2) _ _ wrong in
     omega (arith, byte)
 
 returns-2 : tie.Need-returns-2

@@ -1,7 +1,7 @@
 -- `why::put_why` meets its contract: nothing where the line was accepted, and otherwise the parts one after the other.
 use mathlib.Core.Path.{_≡_, refl, sym, ap, _∙_}
-use mathlib.Core.List.{List, map}
-use Prim.Native.Nat.{ℕ, _-_}
+use mathlib.Core.List.{map}
+use Prim.Native.Nat.{_-_}
 use native.Mathlib.Omega.{arith}
 use borrow.Author.Needs.{needs, length-unmapped}
 use borrow.Author.Tests.{eq-eqb, ne-eqb}

@@ -5,10 +5,14 @@ use Rattle.units.proofs.information.numbered.Statement.{statement}
 use Rattle.units.proofs.information.numbered.Tie as tie
 
 returns : tie.Need-returns
-returns c = rw (sym (c .before .before .before .before .digit .ensures) ∙ c .before .before .before .if1 .taken, ← c .before .before .digit2 .ensures, ← c .before .digit3 .ensures, ← c .digit4 .ensures)
+returns c =
+    let first = sym (c .before .before .before .before .digit .ensures) ∙ c .before .before .before .if1 .taken in
+    rw (first, ← c .before .before .digit2 .ensures, ← c .before .digit3 .ensures, ← c .digit4 .ensures)
 
 returns-2 : tie.Need-returns-2
-returns-2 c = rw (sym (c .before .before .before .before .before .digit .ensures) ∙ c .before .before .before .before .if1 .left, ← c .before .before .before .dot .ensures, ← c .before .before .dot2 .ensures, ← c .before .dot3 .ensures, ← c .dot4 .ensures)
+returns-2 c =
+    let first = sym (c .before .before .before .before .before .digit .ensures) ∙ c .before .before .before .before .if1 .left in
+    rw (first, ← c .before .before .before .dot .ensures, ← c .before .before .dot2 .ensures, ← c .before .dot3 .ensures, ← c .dot4 .ensures)
 
 pub numbered-spec : {M : Type 1} → statement M
 numbered-spec =

@@ -29,11 +29,12 @@ returns c =
 
 returns-2 : tie.Need-returns-2
 returns-2 c =
-    let at = c .before .before .before .before .before .before .before .before .before in
+    let told = c .before .before .before in
+    let at = told .before .before .before .before .before .before in
     let s = bytes at in
     rw (sized at)
     (c .no-index .ensures
-    ∙ sym (index-not (family at) (pos 1 s) (pos 2 s) (pos 3 s) _ _ (c .before .before .before .before .before .index-at .ensures) (c .before .before .before .enum-told .given .1)))
+    ∙ sym (index-not (family at) (pos 1 s) (pos 2 s) (pos 3 s) _ _ (told .before .before .index-at .ensures) (told .enum-told .given .1)))
 
 add-wrong : tie.Need-add-wrong
 add-wrong c = omega (arith, c .info-at .ensures .1)
@@ -43,7 +44,8 @@ returns-3 c =
     let lead = c .before .before .before .before .before .before .before .before .before .before .before in
     let index = lead .before .before in
     let at = by-index index in
-    let bad : infoIs at ≡ false = informed-not (informs (c .before .before .before .before .before .before .before)) (c .before .before .before .before .before .enum-told3 .given .1) in
+    let told = c .before .before .before .before .before in
+    let bad : infoIs at ≡ false = informed-not (informs (told .before .before)) (told .enum-told3 .given .1) in
     let first : c .before .info-at .result ≡ firstWrong (marksIn (family at) (bytes at)) =
     rw (← led lead, ← indexed index .2, ← indexed index .1) (c .before .info-at .ensures .0) in
     rw (sized at, indexed index .0 .0, indexed index .0 .1, bad, ← first) (c .wrong2 .ensures)

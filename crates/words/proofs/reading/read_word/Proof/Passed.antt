@@ -56,7 +56,9 @@ sized c = le-leb (wordSize (wide c)) (length (bytes c)) (long c)
 pub indexed : (c : tie.After-known-told) →
     let s = bytes (by-index c) in
     let f = family (by-index c) in
-    ((areDigits (pos 1 s) (pos 2 s) ≡ true) × (listedBy f (pos 1 s) (pos 2 s) (pos 3 s) ≡ true)) × (c .before .index .given .0 .0 ≡ indexIn f s) × (c .before .index .given .0 .1 .0 ≡ kindAt f s)
+    ((areDigits (pos 1 s) (pos 2 s) ≡ true) × (listedBy f (pos 1 s) (pos 2 s) (pos 3 s) ≡ true))
+    × (c .before .index .given .0 .0 ≡ indexIn f s)
+    × (c .before .index .given .0 .1 .0 ≡ kindAt f s)
 indexed c =
     let s = bytes (by-index c) in
     index-is (family (by-index c)) (pos 1 s) (pos 2 s) (pos 3 s) (c .before .before .before .index-at .ensures) (c .before .index .given .1)
