@@ -59,13 +59,13 @@ module _ (x : Fault) (at : ℕ) (low : 6 ≤ faultNumber x) (high : faultNumber 
       let (near, fault, place) = failed (width wide) n (isCounted (valueIn f wide s)) (sym (word-told f wide s whole digits listed) ∙ e) in
       record { whole = whole; digits = digits; listed = listed; near = near; fault = fault; place = place }
 
--- the same bytes at the start, and after position 2
+-- the same bytes at the start, and after some of them
 
-same-byte : (m i : ℕ) (s t : List ℕ) → take m t ≡ take m s → i < m → getD t i 0 ≡ getD s i 0
+pub same-byte : (m i : ℕ) (s t : List ℕ) → take m t ≡ take m s → i < m → getD t i 0 ≡ getD s i 0
 same-byte m i s t e h = sym (getD-take m t i 0 h) ∙ ap (λ l. getD l i 0) e ∙ getD-take m s i 0 h
 
-take-later : (m : ℕ) (s : List ℕ) → 2 ≤ length s → drop 2 (take (2 + m) s) ≡ take m (drop 2 s)
-take-later m s h = ap (drop 2) (take-add 2 m s) ∙ drop-at (take 2 s) (take m (drop 2 s)) 2 (length-take-le 2 s h)
+pub take-later : (n m : ℕ) (s : List ℕ) → n ≤ length s → drop n (take (n + m) s) ≡ take m (drop n s)
+take-later n m s h = ap (drop n) (take-add n m s) ∙ drop-at (take n s) (take m (drop n s)) n (length-take-le n s h)
 
 -- 6 and 7 tell none of the data
 before-data : (w n : ℕ) → faultNumber (faultAt w n) < 8 → n ≤ 4
@@ -92,7 +92,7 @@ module _ (f : Family) (wide : Bool) (s : List ℕ) (x : Fault) (at : ℕ) (r : R
       let three = same-byte (suc at) 2 s t same (omega arith) in
       let far : suc at ≡ 2 + suc n = omega arith in
       let later : take (suc n) (drop 2 t) ≡ take (suc n) (drop 2 s) =
-      sym (take-later (suc n) t (omega arith)) ∙ ap (drop 2) (rw far at same) ∙ take-later (suc n) s (omega arith) in
+      sym (take-later 2 (suc n) t (omega arith)) ∙ ap (drop 2) (rw far at same) ∙ take-later 2 (suc n) s (omega arith) in
       let count : passed (testsIn f wide t) (drop 2 t) ≡ n = rw (one, two, three) (passed-again (testsIn f wide s) (drop 2 s) (drop 2 t) later) in
       let fails : told w (isCounted (valueIn f wide t)) n ≡ Wrong x at = rw (lt-ltb n (6 + w) (r .near)) (cc (r .fault, r .place)) in
       word-told f wide t long (rw (one, two) (r .digits)) (rw (one, two, three) (r .listed)) ∙ ap (told w (isCounted (valueIn f wide t))) count ∙ fails

@@ -5,4 +5,5 @@ pub mod Answers
 pub mod Kept
 pub mod Breaks
 pub mod Blocks
+pub mod Never
 pub mod Examples
