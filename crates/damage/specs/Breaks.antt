@@ -1,5 +1,5 @@
--- "The first that breaks the rule" (request 104): every byte before it can be kept in some word that is accepted or refused later, and no word with the
--- bytes up to and including it is right.
+-- The byte that is told is "the first that breaks the rule" (request 104): every byte before it can be kept in some word that is accepted or refused
+-- later, and no word with the bytes up to and including it is right.
 use Prim.Native.Nat.{ℕ, suc, _≤_}
 use mathlib.Core.Path.{_≡_}
 use mathlib.Core.Bool.{Bool}

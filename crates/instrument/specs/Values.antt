@@ -60,7 +60,7 @@ abbrev pub isPut : Kept → Bool
 isPut Never = false
 isPut (Put u m d) = true
 
--- "A PUT word has dots at 3-5 (3-6 for text) and otherwise obeys the block rules." "The unit of a stored value belongs to 6" (request 104)
+-- "A PUT word has dots at 3-5 (3-6 for text) and otherwise obeys the block rules." All four are of 6, the unit of the value too
 abbrev pub putMarks : ℕ → List ℕ → Marks
 putMarks place b =
     marks (isDot (pos 3 b)) (isDot (pos 4 b)) (isDot (pos 5 b)) (within (storedAt place .1) (storedAt place .2) (pos 6 b))

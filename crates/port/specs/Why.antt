@@ -1,5 +1,5 @@
--- What is said of a refused line where the stand-in is asked why: "number, which and byte of each refused line" (request 104). `line=4 refused=26 which=8
--- byte=14` and LF, the line as it is shown, and under it a caret at the byte; which, byte and caret stand where 26 tells them.
+-- What is said of a refused line where the stand-in is asked why: its number, and what "26 also tells" (request 104). `line=4 refused=26 which=8 byte=14`
+-- and LF, the line as it is shown, and under it a caret at the byte; which, byte and caret stand where 26 tells them.
 use Prim.Native.Nat.{ℕ}
 use mathlib.Core.Bool.{cond}
 use mathlib.Core.List.{List, [], _++_, map}

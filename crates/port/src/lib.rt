@@ -80,6 +80,7 @@ fn answer(image: &mut [u8], port: Port, room: &mut [u8]) -> Told
     line(image, &text[0..n + 1], room)
 }
 
+// What is told of a byte that ends no line.
 fn nothing() -> Told
     ensures { λ r. ⌜ r ≡ told Verdict.Accepted 0 ⌝ }
 {

@@ -52,14 +52,14 @@ readingText r =
 abbrev pub refusalText : Refusal → List ℕ
 refusalText r = codes " refused=" ++ (decimalOf (refusalNumber r) ++ (codes " place=" ++ (decimalOf (refusalTells r) ++ codes "\n")))
 
--- "the block's text up to its end": what comes before the first CR, and no more than the longest block has there and the byte in its CR's place
+-- the text of a refused block up to its end: what comes before the first CR, and no more than the longest block has there and the byte in its CR's place
 abbrev pub textMost : ℕ
 textMost = 770
 
 abbrev pub textIn : List ℕ → List ℕ
 textIn piece = take (min (runOf (isOther 13) piece) textMost) piece
 
--- "and under it a caret at the byte"
+-- and under it a caret at the byte, so that nobody counts columns (request 104)
 abbrev pub whereText : List ℕ → ℕ → List ℕ
 whereText piece place = map shown (textIn piece) ++ (codes "\n" ++ caretText place)
 

@@ -168,7 +168,7 @@ fn read_file(path: &[u8], sheet: &mut [u8]) -> Start {
     }
 }
 
-// A series, a sheet file, or nothing, which is a TPS100; the argument was just read. What starts with two hyphens is no file but ./--NAME is.
+// A series, a sheet file, or nothing, which is a TPS100; the argument was just read. A name that starts with two hyphens is no file: ./--NAME is.
 fn asked(arguments: usize, name: &[u8], sheet: &mut [u8]) -> Start {
     if arguments == 0 {
         return fresh(Series::Tps100);

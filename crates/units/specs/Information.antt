@@ -49,7 +49,7 @@ marks a b c d = record { 0 = a; 1 = b; 2 = c; 3 = d }
 abbrev pub marksBy : (ℕ → Bool) → ℕ → ℕ → ℕ → ℕ → Marks
 marksBy p a b c d = marks (p a) (p b) (p c) (p d)
 
--- four digits or four dots: the first byte chooses, "and is itself wrong if it is neither" (request 104)
+-- "four digits (block number) or four dots": the first byte chooses between them, and is itself wrong where it is neither
 abbrev pub numberedMarks : ℕ → ℕ → ℕ → ℕ → Marks
 numberedMarks a b c d = cond (isDigit a) (marksBy isDigit a b c d) (marksBy isDot a b c d)
 
@@ -99,7 +99,7 @@ allRight m = m .0 && (m .1 && (m .2 && m .3))
 abbrev pub infoRight : Family → ℕ → Kind → ℕ → ℕ → ℕ → ℕ → Bool
 infoRight f i k a b c d = allRight (infoMarks f i k a b c d)
 
--- "6: the first of positions 3-6 (4-6 after a three-digit index) that breaks its rule" (request 104), of the four from 0
+-- of 6 "the first that breaks the rule" (request 104): which of positions 3-6, from 0; after an index of three digits the first of them is right
 abbrev pub firstWrong : Marks → ℕ
 firstWrong m = cond (m .0) (cond (m .1) (cond (m .2) 3 2) 1) 0
 

@@ -89,7 +89,7 @@ abbrev pub listedBy : Family → ℕ → ℕ → ℕ → Bool
 listedBy Station tens ones third = isListed (stationKind (indexOf tens ones))
 listedBy Level tens ones third = levelListed (indexOf tens ones) third
 
--- two digits at positions 1-2; "5: the first of positions 1-2 that is no digit" (request 104), from 0
+-- two digits at positions 1-2; and of 5 "the first that breaks the rule" (request 104): the first that is no digit, from 0
 abbrev pub areDigits : ℕ → ℕ → Bool
 areDigits tens ones = isDigit tens && isDigit ones
 

@@ -85,7 +85,7 @@ dataRight kind.Length d = every isDigit d
 dataRight kind.Constant d = every isDigit d
 dataRight kind.Pair d = every isDigit (ppmIn d) && (isSign (underIn d) && every isDigit (mmIn d))
 
--- "8: the first wrong data byte" (request 104), from 0
+-- of 8 "the first that breaks the rule" (request 104): the first wrong data byte, from 0
 abbrev pub dataAt : Kind → List ℕ → ℕ
 dataAt kind.Missing d = 0
 dataAt kind.Numbered d = runOf isGraphic d
@@ -135,8 +135,8 @@ rightWord w = record { answer = Right; word = w }
 abbrev pub unless : Bool → Fault → ℕ → OneWord → OneWord
 unless holds x at r = cond holds r (faulty x at)
 
--- "Refusals 5 to 10 tell the exact byte: the first that breaks the rule, and for 10 the first data byte" (request 104). "Order: 5, 15, 6 to 10."
--- `first-breaks`, of crate damage, shows that it is the first
+-- "Refusals 5 to 10 tell the exact byte: the first that breaks the rule, and for 10 the first data byte", and 15 comes "right after 5, telling the start of
+-- the word" (request 104). `first-breaks`, of crate damage, shows that it is the first
 abbrev pub wordOf : Family → Bool → List ℕ → OneWord
 wordOf f wide s =
     unless (leb (wordSize wide) (length s)) Short 0
