@@ -5,31 +5,112 @@ ghost use Rattle.instrument.specs.Rows.{keyBytes};
 ghost use Rattle.instrument.specs.Settings.{rows100, rows300, noRow, settingNumber, rowAt};
 use crate::settings::Series;
 
-// TPS100's, from the start of five bytes. They stand by themselves, so that a row is short.
+// Each from the start of five bytes, by its setting's number. They stand by name: a byte string that is taken out in an arm of a `match` has memory of its
+// own there, and thirty of those are dear to prove.
+const K30: [u8; 5] = *b"s30=\0";
+
+const K32: [u8; 5] = *b"s32=\0";
+
+const K34: [u8; 5] = *b"s34=\0";
+
+const K40: [u8; 5] = *b"s40=\0";
+
+const K41: [u8; 5] = *b"s41=\0";
+
+const K42: [u8; 5] = *b"s42=\0";
+
+const K43: [u8; 5] = *b"s43=\0";
+
+const K44: [u8; 5] = *b"s44=\0";
+
+const K49: [u8; 5] = *b"s49=\0";
+
+const K50: [u8; 5] = *b"s50=\0";
+
+const K51: [u8; 5] = *b"s51=\0";
+
+const K55: [u8; 5] = *b"s55=\0";
+
+const K56: [u8; 5] = *b"s56=\0";
+
+const K70: [u8; 5] = *b"s70=\0";
+
+const K71: [u8; 5] = *b"s71=\0";
+
+const K73: [u8; 5] = *b"s73=\0";
+
+const K75: [u8; 5] = *b"s75=\0";
+
+const K76: [u8; 5] = *b"s76=\0";
+
+const K78: [u8; 5] = *b"s78=\0";
+
+const K80: [u8; 5] = *b"s80=\0";
+
+const K81: [u8; 5] = *b"s81=\0";
+
+const K90: [u8; 5] = *b"s90=\0";
+
+const K91: [u8; 5] = *b"s91=\0";
+
+const K95: [u8; 5] = *b"s95=\0";
+
+const K102: [u8; 5] = *b"s102=";
+
+const K103: [u8; 5] = *b"s103=";
+
+const K104: [u8; 5] = *b"s104=";
+
+const K105: [u8; 5] = *b"s105=";
+
+const K106: [u8; 5] = *b"s106=";
+
+const K120: [u8; 5] = *b"s120=";
+
+const K122: [u8; 5] = *b"s122=";
+
+const K135: [u8; 5] = *b"s135=";
+
+const K136: [u8; 5] = *b"s136=";
+
+const K137: [u8; 5] = *b"s137=";
+
+const K160: [u8; 5] = *b"s160=";
+
+const K161: [u8; 5] = *b"s161=";
+
+const K170: [u8; 5] = *b"s170=";
+
+const K171: [u8; 5] = *b"s171=";
+
+// The key of a row of noughts, past a series' last.
+const NONE: [u8; 5] = *b"s0=\0\0";
+
+// TPS100's. They stand apart from the rows, so that a row is short.
 fn key_100(place: usize) -> [u8; 5]
     ensures { λ r. ⌜ r ≡ keyBytes "s" (settingNumber (getD rows100 place noRow)) ⌝ }
 {
     match place {
-        0 => *b"s30=\0",
-        1 => *b"s32=\0",
-        2 => *b"s34=\0",
-        3 => *b"s40=\0",
-        4 => *b"s41=\0",
-        5 => *b"s44=\0",
-        6 => *b"s49=\0",
-        7 => *b"s50=\0",
-        8 => *b"s70=\0",
-        9 => *b"s71=\0",
-        10 => *b"s73=\0",
-        11 => *b"s76=\0",
-        12 => *b"s80=\0",
-        13 => *b"s81=\0",
-        14 => *b"s95=\0",
-        15 => *b"s102=",
-        16 => *b"s103=",
-        17 => *b"s135=",
-        18 => *b"s136=",
-        _ => *b"s0=\0\0",
+        0 => K30,
+        1 => K32,
+        2 => K34,
+        3 => K40,
+        4 => K41,
+        5 => K44,
+        6 => K49,
+        7 => K50,
+        8 => K70,
+        9 => K71,
+        10 => K73,
+        11 => K76,
+        12 => K80,
+        13 => K81,
+        14 => K95,
+        15 => K102,
+        16 => K103,
+        17 => K135,
+        18 => K136,
+        _ => NONE,
     }
 }
 
@@ -38,37 +119,37 @@ fn key_300(place: usize) -> [u8; 5]
     ensures { λ r. ⌜ r ≡ keyBytes "s" (settingNumber (getD rows300 place noRow)) ⌝ }
 {
     match place {
-        0 => *b"s41=\0",
-        1 => *b"s42=\0",
-        2 => *b"s43=\0",
-        3 => *b"s50=\0",
-        4 => *b"s51=\0",
-        5 => *b"s55=\0",
-        6 => *b"s56=\0",
-        7 => *b"s70=\0",
-        8 => *b"s71=\0",
-        9 => *b"s73=\0",
-        10 => *b"s75=\0",
-        11 => *b"s76=\0",
-        12 => *b"s78=\0",
-        13 => *b"s90=\0",
-        14 => *b"s91=\0",
-        15 => *b"s95=\0",
-        16 => *b"s102=",
-        17 => *b"s103=",
-        18 => *b"s104=",
-        19 => *b"s105=",
-        20 => *b"s106=",
-        21 => *b"s120=",
-        22 => *b"s122=",
-        23 => *b"s135=",
-        24 => *b"s136=",
-        25 => *b"s137=",
-        26 => *b"s160=",
-        27 => *b"s161=",
-        28 => *b"s170=",
-        29 => *b"s171=",
-        _ => *b"s0=\0\0",
+        0 => K41,
+        1 => K42,
+        2 => K43,
+        3 => K50,
+        4 => K51,
+        5 => K55,
+        6 => K56,
+        7 => K70,
+        8 => K71,
+        9 => K73,
+        10 => K75,
+        11 => K76,
+        12 => K78,
+        13 => K90,
+        14 => K91,
+        15 => K95,
+        16 => K102,
+        17 => K103,
+        18 => K104,
+        19 => K105,
+        20 => K106,
+        21 => K120,
+        22 => K122,
+        23 => K135,
+        24 => K136,
+        25 => K137,
+        26 => K160,
+        27 => K161,
+        28 => K170,
+        29 => K171,
+        _ => NONE,
     }
 }
 

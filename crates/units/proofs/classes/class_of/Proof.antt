@@ -13,7 +13,7 @@ use Rattle.figures.proofs.Tests.{run}
 use Rattle.units.proofs.classes.class_of.Statement.{statement}
 use Rattle.units.proofs.classes.class_of.Tie as tie
 
--- the table of src/classes.rt, a hundred to a row
+-- the rows of src/classes.rt, a hundred to each
 classes : List (List ℕ)
 classes =
     codes "0000000000000000000000000000000000000000000000000000000000000000000000000000000000000000000000000000"
@@ -54,39 +54,39 @@ class-at three row h e =
 
 returns : tie.Need-returns
 unfolding classes
-returns c = c .class-in .ensures ∙ class-at (c .before .before .before .args .three) 0 (omega arith) (c .before .before .match .keys1)
+returns c = c .class-in .ensures ∙ class-at (c .before .before .args .three) 0 (omega arith) (c .before .match .keys1)
 
 returns-2 : tie.Need-returns-2
 unfolding classes
-returns-2 c = c .class-in2 .ensures ∙ class-at (c .before .before .before .args .three) 1 (omega arith) (c .before .before .match .keys2)
+returns-2 c = c .class-in2 .ensures ∙ class-at (c .before .before .args .three) 1 (omega arith) (c .before .match .keys2)
 
 returns-3 : tie.Need-returns-3
 unfolding classes
-returns-3 c = c .class-in3 .ensures ∙ class-at (c .before .before .before .args .three) 2 (omega arith) (c .before .before .match .keys3)
+returns-3 c = c .class-in3 .ensures ∙ class-at (c .before .before .args .three) 2 (omega arith) (c .before .match .keys3)
 
 returns-4 : tie.Need-returns-4
 unfolding classes
-returns-4 c = c .class-in4 .ensures ∙ class-at (c .before .before .before .args .three) 3 (omega arith) (c .before .before .match .keys4)
+returns-4 c = c .class-in4 .ensures ∙ class-at (c .before .before .args .three) 3 (omega arith) (c .before .match .keys4)
 
 returns-5 : tie.Need-returns-5
 unfolding classes
-returns-5 c = c .class-in5 .ensures ∙ class-at (c .before .before .before .args .three) 4 (omega arith) (c .before .before .match .keys5)
+returns-5 c = c .class-in5 .ensures ∙ class-at (c .before .before .args .three) 4 (omega arith) (c .before .match .keys5)
 
 returns-6 : tie.Need-returns-6
 unfolding classes
-returns-6 c = c .class-in6 .ensures ∙ class-at (c .before .before .before .args .three) 5 (omega arith) (c .before .before .match .keys6)
+returns-6 c = c .class-in6 .ensures ∙ class-at (c .before .before .args .three) 5 (omega arith) (c .before .match .keys6)
 
 returns-7 : tie.Need-returns-7
 unfolding classes
-returns-7 c = c .class-in7 .ensures ∙ class-at (c .before .before .before .args .three) 6 (omega arith) (c .before .before .match .keys7)
+returns-7 c = c .class-in7 .ensures ∙ class-at (c .before .before .args .three) 6 (omega arith) (c .before .match .keys7)
 
 returns-8 : tie.Need-returns-8
 unfolding classes
-returns-8 c = c .class-in8 .ensures ∙ class-at (c .before .before .before .args .three) 7 (omega arith) (c .before .before .match .keys8)
+returns-8 c = c .class-in8 .ensures ∙ class-at (c .before .before .args .three) 7 (omega arith) (c .before .match .keys8)
 
 returns-9 : tie.Need-returns-9
 unfolding classes
-returns-9 c = c .class-in9 .ensures ∙ class-at (c .before .before .before .args .three) 8 (omega arith) (c .before .before .match .keys9)
+returns-9 c = c .class-in9 .ensures ∙ class-at (c .before .before .args .three) 8 (omega arith) (c .before .match .keys9)
 
 -- what is none of nine rows is the tenth
 past-four : (n : ℕ) → (n ≡ 0 → ⊥) → (n ≡ 1 → ⊥) → (n ≡ 2 → ⊥) → (n ≡ 3 → ⊥) → (n ≡ 4 → ⊥) → 4 < n
@@ -98,9 +98,9 @@ tenth n h p a b c d = omega arith
 returns-10 : tie.Need-returns-10
 unfolding classes
 returns-10 c =
-    let start = c .before .before .before in
+    let start = c .before .before in
     let three = start .args .three in
-    let rest = c .before .before .match .rest in
+    let rest = c .before .match .rest in
     let five = rest .0 .0 .0 .0 in
     let past = past-four (three / 100) (five .0 .0 .0 .0 .1) (five .0 .0 .0 .1) (five .0 .0 .1) (five .0 .1) (five .1) in
     c .class-in10 .ensures
@@ -110,25 +110,15 @@ pub class-of-spec : {M : Type 1} → statement M
 class-of-spec =
     tie.close
     (tie.spec
-    (λ c. search needs)
     (λ c κs. search needs)
-    (λ c. search needs)
     (λ c κs. search needs)
-    (λ c. search needs)
     (λ c κs. search needs)
-    (λ c. search needs)
     (λ c κs. search needs)
-    (λ c. search needs)
     (λ c κs. search needs)
-    (λ c. search needs)
     (λ c κs. search needs)
-    (λ c. search needs)
     (λ c κs. search needs)
-    (λ c. search needs)
     (λ c κs. search needs)
-    (λ c. search needs)
     (λ c κs. search needs)
-    (λ c. search needs)
     (λ c κs. search needs)
     returns
     returns-2
