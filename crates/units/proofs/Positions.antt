@@ -1,4 +1,4 @@
--- Positions 1-2 and 7: an index and its two digits, and a sign and its byte, say each other.
+-- Positions 1-7: an index and its two digits, and a sign and its byte, say each other; four marks are equal where each is.
 use Prim.Native.Nat.{ℕ, _+_, _/_, _%_, _<_, _≤_}
 use mathlib.Core.Path.{_≡_, refl, sym, ap, _∙_}
 use mathlib.Core.Bool.{Bool, true, false, cond, not, _&&_, false≢true}
@@ -10,7 +10,7 @@ use Rattle.figures.specs.Bytes.{among, every}
 use Rattle.figures.specs.Decimal.{isDigit, digitsOf}
 use Rattle.figures.proofs.Bytes.{within-bounds, bounds-within, above-within}
 use Rattle.units.specs.Kinds.{stationKind, isListed, isTextual, indexOf, namedBy}
-use Rattle.units.specs.Information.{firstWrong, signByte, signOf, isSign, signRight}
+use Rattle.units.specs.Information.{marks, firstWrong, signByte, signOf, isSign, signRight}
 use Rattle.units.specs.declared.information.Marks.{Marks}
 use Rattle.units.specs.declared.kinds.Kind.{Kind}
 use Rattle.units.specs.declared.kinds.Kind.the-variants.{Missing}
@@ -128,3 +128,8 @@ sign-of k b e =
 
 pub sign-right : (k : Kind) (m : ℕ) → SignFor k m → signRight k (signByte m) ≡ true
 sign-right k m h = by-test (eqb m 0) (λ q. rw q) (λ q. by-test (isTextual k) (λ t. absurd (eqb-false m 0 q (h .plus t))) (λ t. rw (q, t)))
+
+-- four marks
+
+pub four-marks : {a b c d a′ b′ c′ d′ : Bool} → a ≡ a′ → b ≡ b′ → c ≡ c′ → d ≡ d′ → marks a b c d ≡ marks a′ b′ c′ d′
+four-marks p q r s i = marks (p i) (q i) (r i) (s i)

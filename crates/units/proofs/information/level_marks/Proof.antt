@@ -10,6 +10,7 @@ use Rattle.units.specs.Information.{marks, levelMarks}
 use Rattle.units.specs.declared.kinds.Kind.{Kind}
 use Rattle.units.specs.declared.kinds.Kind.the-variants.{Missing, Numbered, Text, Angle, Length, Constant, Pair}
 use Rattle.units.proofs.kinds.Kind.{the-type}
+use Rattle.units.proofs.Positions.{four-marks}
 use Rattle.units.proofs.information.level_marks.Statement.{statement}
 use Rattle.units.proofs.information.level_marks.Tie as tie
 
@@ -27,10 +28,22 @@ returns : tie.Need-returns
 returns c = rw (c .before .enum-told .given .1) (c .numbered .ensures)
 
 returns-2 : tie.Need-returns-2
-returns-2 c = rw (c .before .before .before .before .enum-told2 .given .1) cc
+returns-2 c =
+    rw (c .before .before .before .before .enum-told2 .given .1)
+    (four-marks
+    (c .before .before .before .lead .ensures)
+    (c .before .before .free .ensures)
+    (c .before .free2 .ensures)
+    (c .free3 .ensures))
 
 returns-3 : tie.Need-returns-3
-returns-3 c = rw (c .before .before .before .before .enum-told3 .given .1) cc
+returns-3 c =
+    rw (c .before .before .before .before .enum-told3 .given .1)
+    (four-marks
+    (c .before .before .before .lead2 .ensures)
+    (c .before .before .flag .ensures)
+    (c .before .level-mode .ensures)
+    (c .level-unit .ensures))
 
 returns-4 : tie.Need-returns-4
 returns-4 c = let a = c .before .args in rest (a .index) (a .kind) (a .a) (a .b) (a .c) (a .d) (c .match .keys4)

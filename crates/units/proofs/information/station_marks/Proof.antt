@@ -1,14 +1,9 @@
 -- `station_marks` meets its contract: at each kind the four tests are those of the kind.
-use mathlib.Core.Path.{_≡_, refl}
-use mathlib.Core.Bool.{Bool}
+use mathlib.Core.Path.{refl}
 use borrow.Author.Needs.{needs}
-use Rattle.units.specs.Information.{marks}
+use Rattle.units.proofs.Positions.{four-marks}
 use Rattle.units.proofs.information.station_marks.Statement.{statement}
 use Rattle.units.proofs.information.station_marks.Tie as tie
-
--- four marks are equal where each is
-four : {a b c d a′ b′ c′ d′ : Bool} → a ≡ a′ → b ≡ b′ → c ≡ c′ → d ≡ d′ → marks a b c d ≡ marks a′ b′ c′ d′
-four p q r s i = marks (p i) (q i) (r i) (s i)
 
 returns : tie.Need-returns
 returns c = rw (c .enum-told .given .1)
@@ -19,7 +14,7 @@ returns-2 c = rw (c .before .enum-told2 .given .1) (c .numbered .ensures)
 returns-3 : tie.Need-returns-3
 returns-3 c =
     rw (c .before .before .before .before .enum-told3 .given .1)
-    (four
+    (four-marks
     (c .before .before .before .dot .ensures)
     (c .before .before .free .ensures)
     (c .before .free2 .ensures)
@@ -28,7 +23,7 @@ returns-3 c =
 returns-4 : tie.Need-returns-4
 returns-4 c =
     rw (c .before .before .before .before .enum-told4 .given .1)
-    (four
+    (four-marks
     (c .before .before .before .dot2 .ensures)
     (c .before .before .angle-mark .ensures)
     (c .before .mode .ensures)
@@ -37,7 +32,7 @@ returns-4 c =
 returns-5 : tie.Need-returns-5
 returns-5 c =
     rw (c .before .before .before .before .enum-told5 .given .1)
-    (four
+    (four-marks
     (c .before .before .before .dot3 .ensures)
     (c .before .before .dot4 .ensures)
     (c .before .mode2 .ensures)
@@ -46,7 +41,7 @@ returns-5 c =
 returns-6 : tie.Need-returns-6
 returns-6 c =
     rw (c .before .before .before .enum-told6 .given .1)
-    (four
+    (four-marks
     (c .before .before .dot5 .ensures)
     (c .before .dot6 .ensures)
     (c .mode3 .ensures)
@@ -55,7 +50,7 @@ returns-6 c =
 returns-7 : tie.Need-returns-7
 returns-7 c =
     rw (c .before .before .before .before .enum-told7 .given .1)
-    (four
+    (four-marks
     (c .before .before .before .dot7 .ensures)
     (c .before .before .dot8 .ensures)
     (c .before .mode4 .ensures)
