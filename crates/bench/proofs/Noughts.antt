@@ -9,7 +9,7 @@ use Rattle.blocks.specs.Composing.{unlessWrong, wordsBytes}
 use Rattle.instrument.specs.Rows.{seek}
 use Rattle.instrument.specs.Settings.{rows100}
 use Rattle.instrument.specs.Values.{stored}
-use Rattle.lines.specs.Shapes.{groupsRight}
+use Rattle.commands.specs.Shapes.{groupsRight}
 use Rattle.lines.specs.Verdicts.{getVerdict}
 use Rattle.lines.specs.Replies.{getWords}
 use Rattle.lines.specs.Demand.{after}

@@ -28,17 +28,17 @@ use Rattle.instrument.specs.declared.values.Kept.the-variants.{Never}
 use Rattle.instrument.specs.declared.values.Value.{Value}
 use Rattle.state.specs.Entries.{valueOf, isState, valuesRight}
 use Rattle.state.specs.declared.entries.State.{State}
-use Rattle.lines.specs.Shapes.{textOf, isPlain, isEnded, groupsRight, groupsIn, orderOf}
+use Rattle.commands.specs.Shapes.{textOf, isPlain, isEnded, groupsRight, groupsIn, orderOf}
 use Rattle.lines.specs.Verdicts.{isAccepted, placeNamed, afterWord, putVerdict, valueHeld, getBy, getVerdict, orderVerdict, lineVerdict}
 use Rattle.lines.specs.Orders.{putOf, putNamed, doneOf}
 use Rattle.lines.specs.Replies.{endsLf, isWide, star, getWords, replyEnd, replyOf}
 use Rattle.lines.specs.Machine.{Outcome, run}
-use Rattle.lines.specs.declared.shapes.Order.{Order}
-use Rattle.lines.specs.declared.shapes.Order.the-variants.{Not, Set, Conf, Put, Get, Undo, Keep, Unknown}
+use Rattle.commands.specs.declared.shapes.Order.{Order}
+use Rattle.commands.specs.declared.shapes.Order.the-variants.{Not, Set, Conf, Put, Get, Undo, Keep, Unknown}
 use Rattle.lines.specs.declared.verdicts.Verdict.{Verdict}
 use Rattle.lines.specs.declared.verdicts.Verdict.the-variants.{Accepted, NeverPut}
 use Rattle.lines.proofs.Parts.{parts, values-at}
-use Rattle.lines.proofs.Shape.{order-by, order-put, order-get, groups-length}
+use Rattle.commands.proofs.Shape.{order-by, order-put, order-get, groups-length}
 use Rattle.lines.proofs.Lookups.{value-found, named}
 use Rattle.lines.proofs.Runs as runs
 use Rattle.lines.proofs.Runs.{PutRuns, put-runs}

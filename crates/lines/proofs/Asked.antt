@@ -20,12 +20,12 @@ use Rattle.state.specs.declared.entries.Item.{Item}
 use Rattle.state.specs.declared.entries.Item.the-variants.{Free, Setting, Stored}
 use Rattle.state.specs.declared.entries.Former.{Former}
 use Rattle.state.specs.declared.entries.State.{State}
-use Rattle.lines.specs.Shapes.{textOf, orderOf}
+use Rattle.commands.specs.Shapes.{textOf, orderOf}
 use Rattle.lines.specs.Verdicts.{placeNamed, orderVerdict}
 use Rattle.lines.specs.Orders.{settingsBack, newest, putNamed, undoOf, doneOf}
 use Rattle.lines.specs.Machine.{Outcome, step}
-use Rattle.lines.specs.declared.shapes.Order.{Order}
-use Rattle.lines.specs.declared.shapes.Order.the-variants as order
+use Rattle.commands.specs.declared.shapes.Order.{Order}
+use Rattle.commands.specs.declared.shapes.Order.the-variants as order
 use Rattle.lines.specs.declared.verdicts.Verdict.the-variants.{Accepted}
 use Rattle.lines.proofs.Parts.{Parts, parts, entries-stand}
 use Rattle.lines.proofs.Runs.{Comes, stays, runs, comes, set-runs}

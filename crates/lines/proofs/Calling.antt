@@ -21,19 +21,19 @@ use Rattle.state.specs.declared.entries.State.{State}
 use Rattle.state.specs.declared.image.Known.the-variants.{Not, Is}
 use Rattle.state.specs.declared.image.Decoded.{Decoded}
 use Rattle.state.proofs.Images.{image-of, decoded-is, decoded-not}
-use Rattle.lines.specs.Shapes.{fromEnd, endOf, textOf, isPlain, isEnded, orderOf}
+use Rattle.commands.specs.Shapes.{fromEnd, endOf, textOf, isPlain, isEnded, orderOf}
 use Rattle.lines.specs.Verdicts.{isAccepted, orderVerdict, placeNamed, lineVerdict}
 use Rattle.lines.specs.Orders.{takenBack, newest, setNamed, putNamed, doneOf}
 use Rattle.lines.specs.Replies.{replyEnd, wrong, bodyOf}
 use Rattle.lines.specs.Machine.{Outcome, outcome, run, step, told, Calls}
 use Rattle.lines.specs.Keeping.{ranOf, Ends}
-use Rattle.lines.specs.declared.shapes.Order.{Order}
-use Rattle.lines.specs.declared.shapes.Order.the-variants as order
+use Rattle.commands.specs.declared.shapes.Order.{Order}
+use Rattle.commands.specs.declared.shapes.Order.the-variants as order
 use Rattle.lines.specs.declared.verdicts.Verdict.{Verdict}
 use Rattle.lines.specs.declared.verdicts.Verdict.the-variants.{Accepted, Unended, Long, Keyword, Shape, Setting, ReadOnly, Parameter, Index, Word}
 use Rattle.lines.specs.declared.verdicts.Verdict.the-variants.{NeverPut, Full, NoEntry, Room, NoState}
 use Rattle.lines.specs.declared.machine.Ran.{Ran}
-use Rattle.lines.proofs.Shape.{from-start}
+use Rattle.commands.proofs.Shape.{from-start}
 use Rattle.lines.proofs.Replying.{laid-none}
 
 -- the room

@@ -10,14 +10,14 @@ use lib.ListN.{length}
 use Rattle.instrument.specs.declared.settings.Series.the-variants.{Tps100, Tps300}
 use Rattle.state.specs.Entries.{factoryState}
 use Rattle.state.specs.declared.entries.State.{State}
-use Rattle.lines.specs.Shapes.{isEnded, textOf, orderOf}
+use Rattle.commands.specs.Shapes.{isEnded, textOf, orderOf}
 use Rattle.lines.specs.Verdicts.{verdictNumber, isAccepted, orderVerdict, undoVerdict, lineVerdict}
 use Rattle.lines.specs.Machine.{outcome, run, step}
 use Rattle.lines.specs.Demand.{Start, Call, contentsOf, after, marks, playAll, stands}
-use Rattle.lines.specs.declared.shapes.Order.the-variants.{Undo}
+use Rattle.commands.specs.declared.shapes.Order.the-variants.{Undo}
 use Rattle.lines.specs.declared.verdicts.Verdict.the-variants.{Accepted, NoEntry, Room}
 use Rattle.lines.proofs.Starts.{factory-start}
-use Rattle.lines.proofs.Shape.{order-undo}
+use Rattle.commands.proofs.Shape.{order-undo}
 use Rattle.lines.proofs.Tracks.{Tracks, contents, undo-stands, tracks}
 
 start-tracks : (s : State) → Start s → (cs : List Call) → Tracks (contentsOf s) (after s cs) (marks s cs [])

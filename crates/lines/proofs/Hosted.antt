@@ -8,11 +8,11 @@ use Rattle.state.specs.Entries.{isState}
 use Rattle.state.specs.Image.{imageOf, stateIn}
 use Rattle.state.specs.declared.entries.State.{State}
 use Rattle.state.proofs.Images.{image-is, image-back}
-use Rattle.lines.specs.Shapes.{isEnded, textOf, orderOf}
+use Rattle.commands.specs.Shapes.{isEnded, textOf, orderOf}
 use Rattle.lines.specs.Verdicts.{isAccepted}
 use Rattle.lines.specs.Machine.{run, step, told, Called, played, call}
 use Rattle.lines.specs.Demand.{Start, contentsOf, after, marks, playAll, stands, Lent, inRoom, imageAfter}
-use Rattle.lines.specs.declared.shapes.Order.the-variants.{Undo}
+use Rattle.commands.specs.declared.shapes.Order.the-variants.{Undo}
 use Rattle.lines.specs.declared.verdicts.Verdict.the-variants.{NoState}
 use Rattle.lines.proofs.States.{step-state, after-state}
 use Rattle.lines.proofs.Demand as demand

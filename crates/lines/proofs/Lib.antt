@@ -9,7 +9,6 @@ pub mod Demand
 pub mod Asked
 pub mod Hosted
 pub mod Wrong
-pub mod Shape
 pub mod Lookups
 pub mod Replying
 pub mod Broken

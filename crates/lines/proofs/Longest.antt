@@ -12,7 +12,7 @@ use Rattle.instrument.specs.Settings.{rows100, parameterOf}
 use Rattle.instrument.specs.declared.settings.Series.{Series}
 use Rattle.instrument.specs.declared.settings.Series.the-variants.{Tps100}
 use Rattle.state.specs.declared.entries.State.{State}
-use Rattle.lines.specs.Shapes.{isEnded, textOf, orderOf}
+use Rattle.commands.specs.Shapes.{isEnded, textOf, orderOf}
 use Rattle.lines.specs.Verdicts.{isAccepted, orderVerdict, lineVerdict}
 use Rattle.lines.specs.Replies.{endsLf, isWide, replyEnd, wrong, bodyOf}
 use Rattle.lines.specs.Machine.{run, step}

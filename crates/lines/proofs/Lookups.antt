@@ -20,7 +20,7 @@ use Rattle.instrument.specs.declared.settings.Found.the-variants.{Nothing, At}
 use Rattle.instrument.specs.declared.values.Value.{Value}
 use Rattle.instrument.proofs.Seek.{found-at}
 use Rattle.instrument.proofs.Ranges.{rows-long, settings-few}
-use Rattle.lines.specs.Shapes.{groupsIn}
+use Rattle.commands.specs.Shapes.{groupsIn}
 use Rattle.lines.specs.Verdicts.{placeNamed, getBy, getVerdict}
 use Rattle.lines.specs.declared.verdicts.Verdict.the-variants.{Accepted}
 

@@ -22,16 +22,16 @@ use Rattle.instrument.specs.declared.values.Kept.{Kept}
 use Rattle.instrument.specs.declared.values.Kept.the-variants.{Never, Put}
 use Rattle.instrument.specs.declared.values.Value.{Value}
 use Rattle.state.specs.declared.entries.State.{State}
-use Rattle.lines.specs.Shapes.{groupsIn, orderOf}
+use Rattle.commands.specs.Shapes.{groupsIn, orderOf}
 use Rattle.lines.specs.Verdicts.{confBy, confVerdict, placeNamed, valueHeld, getBy, getVerdict, orderVerdict}
 use Rattle.lines.specs.Replies.{endsLf, isWide, replyEnd, confBody, star, getWords, getBody, bodyOf}
 use Rattle.lines.specs.Keeping.{GetFits, getN}
 use Rattle.figures.specs.Text.{endBytes}
-use Rattle.lines.specs.declared.shapes.Order.{Order}
-use Rattle.lines.specs.declared.shapes.Order.the-variants as order
+use Rattle.commands.specs.declared.shapes.Order.{Order}
+use Rattle.commands.specs.declared.shapes.Order.the-variants as order
 use Rattle.lines.specs.declared.verdicts.Verdict.{Verdict}
 use Rattle.lines.specs.declared.verdicts.Verdict.the-variants.{Accepted, NeverPut}
-use Rattle.lines.proofs.Shape.{groups-length, order-get, to-end}
+use Rattle.commands.proofs.Shape.{groups-length, order-get, to-end}
 use Rattle.lines.proofs.Lookups.{place-in}
 
 pub same-place : (f : Found) (i j : ℕ) → f ≡ At i → f ≡ At j → i ≡ j

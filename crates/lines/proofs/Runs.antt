@@ -25,17 +25,17 @@ use Rattle.state.specs.declared.entries.State.{State}
 use Rattle.instrument.proofs.Kept.{put-kept-right}
 use Rattle.instrument.proofs.Ranges.{range-high}
 use Rattle.state.proofs.Images.{image-of}
-use Rattle.lines.specs.Shapes.{endOf, isEnded, textOf, conf-slash, get-i, undo-word, keep-word, orderOf}
+use Rattle.commands.specs.Shapes.{endOf, isEnded, textOf, conf-slash, get-i, undo-word, keep-word, orderOf}
 use Rattle.lines.specs.Verdicts.{isAccepted, setBy, setVerdict, fullVerdict, placeNamed, afterWord, putBy, putVerdict, undoVerdict}
 use Rattle.lines.specs.Verdicts.{orderVerdict, lineVerdict}
 use Rattle.lines.specs.Orders.{doneOf}
 use Rattle.lines.specs.Replies.{replyOf}
 use Rattle.lines.specs.Machine.{Outcome, outcome, step, Calls}
-use Rattle.lines.specs.declared.shapes.Order.{Order}
+use Rattle.commands.specs.declared.shapes.Order.{Order}
 use Rattle.lines.specs.declared.verdicts.Verdict.{Verdict}
 use Rattle.lines.specs.declared.verdicts.Verdict.the-variants.{Accepted, Unended, Long, ReadOnly, Parameter, Full, NoEntry, Room}
 use Rattle.lines.specs.declared.machine.Ran.{Ran}
-use Rattle.lines.proofs.Shape.{order-by}
+use Rattle.commands.proofs.Shape.{order-by}
 use Rattle.lines.proofs.Lookups.{setting-in, value-found, named}
 use Rattle.lines.proofs.Calling.{accepted-is, RanOn, ran-image, ran-ends, laid-down, call-some}
 

@@ -8,17 +8,17 @@ use lib.ListN.{drop, length-drop}
 use Rattle.instrument.specs.Values.{putKept}
 use Rattle.state.specs.Entries.{isState}
 use Rattle.state.specs.declared.entries.State.{State}
-use Rattle.lines.specs.Shapes.{textOf, orderOf}
+use Rattle.commands.specs.Shapes.{textOf, orderOf}
 use Rattle.lines.specs.Verdicts.{orderVerdict}
 use Rattle.lines.specs.Orders.{doneOf}
 use Rattle.lines.specs.Machine.{Outcome, step}
 use Rattle.lines.specs.Demand.{Call, after}
-use Rattle.lines.specs.declared.shapes.Order.{Order}
-use Rattle.lines.specs.declared.shapes.Order.the-variants.{Not, Set, Conf, Put, Get, Undo, Keep, Unknown}
+use Rattle.commands.specs.declared.shapes.Order.{Order}
+use Rattle.commands.specs.declared.shapes.Order.the-variants.{Not, Set, Conf, Put, Get, Undo, Keep, Unknown}
 use Rattle.lines.specs.declared.verdicts.Verdict.the-variants.{Accepted}
 use Rattle.lines.proofs.Parts.{Parts, parts, whole}
 use Rattle.lines.proofs.Lasting.{set-parts, put-parts, undo-parts, keep-parts}
-use Rattle.lines.proofs.Shape.{order-put}
+use Rattle.commands.proofs.Shape.{order-put}
 use Rattle.lines.proofs.Runs.{Comes, stays, runs, comes, set-runs, put-runs}
 
 done-parts : (s : State) (t : List ℕ) (o : Order) → orderOf t ≡ o → orderVerdict s t o ≡ Accepted → Parts s → Parts (doneOf s t o)

@@ -24,15 +24,15 @@ use Rattle.instrument.proofs.Which.{put-which, put-within}
 use Rattle.state.specs.Entries.{entriesN}
 use Rattle.state.specs.Image.{stateIn, isImage}
 use Rattle.state.specs.declared.entries.State.{State}
-use Rattle.lines.specs.Shapes.{isEnded, textOf, groupsIn, orderOf}
+use Rattle.commands.specs.Shapes.{isEnded, textOf, groupsIn, orderOf}
 use Rattle.lines.specs.Verdicts.{verdictNumber, verdictWhich, verdictByte, fullVerdict, setBy, confBy, placeNamed, valueHeld}
 use Rattle.lines.specs.Verdicts.{afterWord, putBy, putVerdict, getBy, getVerdict, orderVerdict, lineVerdict}
 use Rattle.lines.specs.Machine.{outcome, run, step, told, played, call}
-use Rattle.lines.specs.declared.shapes.Order.{Order}
+use Rattle.commands.specs.declared.shapes.Order.{Order}
 use Rattle.lines.specs.declared.verdicts.Verdict.{Verdict}
 use Rattle.lines.specs.declared.verdicts.Verdict.the-variants.{Accepted, Unended, Long, ReadOnly, Parameter}
 use Rattle.lines.specs.declared.verdicts.Verdict.the-variants.{NeverPut, Full, NoEntry, Room, NoState}
-use Rattle.lines.proofs.Shape.{order-by}
+use Rattle.commands.proofs.Shape.{order-by}
 use Rattle.lines.proofs.Lookups.{value-found, named}
 
 -- a fault of 6 to 10 at a byte of the word after `PUT/`, or neither

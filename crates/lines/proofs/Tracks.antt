@@ -9,14 +9,14 @@ use lib.ListN.{drop}
 use Rattle.instrument.specs.Values.{putKept}
 use Rattle.state.specs.Entries.{isState}
 use Rattle.state.specs.declared.entries.State.{State}
-use Rattle.lines.specs.Shapes.{textOf, orderOf}
+use Rattle.commands.specs.Shapes.{textOf, orderOf}
 use Rattle.lines.specs.Verdicts.{isAccepted, undoVerdict, orderVerdict}
 use Rattle.lines.specs.Orders.{setOf, putOf, undoOf, doneOf}
 use Rattle.lines.specs.Machine.{Outcome, step}
 use Rattle.lines.specs.Demand.{Call, Contents, contentsOf, setting, value, stores, play, playAll, after}
 use Rattle.lines.specs.Demand.{Mark, stored, kept, strike, mark, marked, marks, stands}
-use Rattle.lines.specs.declared.shapes.Order.{Order}
-use Rattle.lines.specs.declared.shapes.Order.the-variants.{Not, Set, Conf, Put, Get, Undo, Keep, Unknown}
+use Rattle.commands.specs.declared.shapes.Order.{Order}
+use Rattle.commands.specs.declared.shapes.Order.the-variants.{Not, Set, Conf, Put, Get, Undo, Keep, Unknown}
 use Rattle.lines.specs.declared.verdicts.Verdict.the-variants.{Accepted, NoEntry}
 use Rattle.lines.proofs.Parts.{Parts, parts}
 use Rattle.lines.proofs.Undone.{undo-set, undo-put}

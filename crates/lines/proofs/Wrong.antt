@@ -13,13 +13,13 @@ use Rattle.instrument.specs.Settings.{rows100}
 use Rattle.instrument.specs.declared.settings.Series.the-variants.{Tps100}
 use Rattle.state.specs.Entries as entries
 use Rattle.state.specs.declared.entries.State.{State}
-use Rattle.lines.specs.Shapes.{textOf, orderOf}
+use Rattle.commands.specs.Shapes.{textOf, orderOf}
 use Rattle.lines.specs.Verdicts.{isAccepted}
 use Rattle.lines.specs.Replies.{replyEnd, done}
 use Rattle.lines.specs.Machine.{Outcome, outcome, step}
 use Rattle.lines.specs.Demand.{Call, after, Contents, contentsOf, Mark, strike, mark, marked, marks, playAll}
-use Rattle.lines.specs.declared.shapes.Order.{Order}
-use Rattle.lines.specs.declared.shapes.Order.the-variants.{Not, Set, Conf, Put, Get, Undo, Keep, Unknown}
+use Rattle.commands.specs.declared.shapes.Order.{Order}
+use Rattle.commands.specs.declared.shapes.Order.the-variants.{Not, Set, Conf, Put, Get, Undo, Keep, Unknown}
 use Rattle.lines.specs.Demand.{Start}
 use Rattle.lines.proofs.Starts.{factory-start}
 use Rattle.lines.proofs.Demand.{played}

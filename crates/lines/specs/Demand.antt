@@ -14,11 +14,11 @@ use Rattle.instrument.specs.declared.settings.Found.the-variants.{Nothing, At}
 use Rattle.instrument.specs.declared.values.Kept.{Kept}
 use Rattle.instrument.specs.declared.values.Value.{Value}
 use Rattle.state.specs.declared.entries.State.{State}
-use Rattle.lines.specs.Shapes.{textOf, orderOf}
+use Rattle.commands.specs.Shapes.{textOf, orderOf}
 use Rattle.lines.specs.Verdicts.{placeNamed, isAccepted}
 use Rattle.lines.specs.Machine.{step, call}
-use Rattle.lines.specs.declared.shapes.Order.{Order}
-use Rattle.lines.specs.declared.shapes.Order.the-variants.{Not, Set, Conf, Put, Get, Undo, Keep, Unknown}
+use Rattle.commands.specs.declared.shapes.Order.{Order}
+use Rattle.commands.specs.declared.shapes.Order.the-variants.{Not, Set, Conf, Put, Get, Undo, Keep, Unknown}
 
 -- the factory state or a loaded sheet: a state with no undo entry
 pub record Start (s : State) : Type 0 where

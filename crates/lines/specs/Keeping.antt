@@ -6,14 +6,17 @@ use mathlib.Core.Bool.{Bool, true}
 use lib.ListN.{length}
 use Rattle.figures.specs.Bytes.{laid}
 use Rattle.words.specs.Reading.{wordSize}
+use Rattle.state.specs.declared.entries.Item.{Item}
+use Rattle.state.specs.declared.entries.Former.{Former}
 use Rattle.state.specs.declared.entries.State.{State}
+use Rattle.lines.specs.Orders.{stateOf, settingsBack, valuesBack}
 use Rattle.lines.specs.declared.verdicts.Verdict.{Verdict}
 use Rattle.lines.specs.declared.machine.Ran.{Ran}
 use Rattle.lines.specs.Machine.{Outcome, replyInRoom, told}
 use Rattle.instrument.specs.declared.values.Value.{Value}
-use Rattle.lines.specs.Shapes.{groupsRight, groupsIn, orderOf}
+use Rattle.commands.specs.Shapes.{groupsRight, groupsIn, orderOf}
 use Rattle.lines.specs.Verdicts.{getVerdict, orderVerdict}
-use Rattle.lines.specs.declared.shapes.Order.{Order}
+use Rattle.commands.specs.declared.shapes.Order.{Order}
 use Rattle.lines.specs.declared.verdicts.Verdict.the-variants.{Accepted}
 use Rattle.lines.specs.Replies.{star}
 
@@ -24,6 +27,11 @@ ranOf v n s = record { told = told v n; state = s }
 abbrev pub Ends : State → Outcome → List ℕ → Ran → List ℕ → Type 0
 Ends s o room r room′ =
     let f = replyInRoom s (length room) o in (r ≡ ranOf (f .verdict) (length (f .reply)) (f .next)) × (room′ ≡ laid (f .reply) room)
+
+-- an item with its former content again, and the list as it stands
+abbrev pub restored : State → Item → Former → State
+restored s item former =
+    stateOf (s .series) (settingsBack (s .settings) item former) (valuesBack (s .values) item former) (s .undo) (s .count)
 
 -- what the code that runs a line and writes its reply may rely on: the line is accepted, and for GET what it answers fits
 abbrev pub Accepts : State → List ℕ → Order → Type 0

@@ -1,4 +1,3 @@
-pub mod Shapes
 pub mod Verdicts
 pub mod Orders
 pub mod Replies

@@ -8,7 +8,7 @@ use lib.ListN.{length}
 use Rattle.figures.specs.Bytes.{laid}
 use Rattle.state.specs.Image.{imageOf, stateIn, isImage}
 use Rattle.state.specs.declared.entries.State.{State}
-use Rattle.lines.specs.Shapes.{textOf, orderOf}
+use Rattle.commands.specs.Shapes.{textOf, orderOf}
 use Rattle.lines.specs.Verdicts.{isAccepted, lineVerdict}
 use Rattle.lines.specs.Orders.{doneOf}
 use Rattle.lines.specs.Replies.{replyOf}

@@ -21,8 +21,8 @@ use Rattle.state.specs.declared.entries.Former.{Former}
 use Rattle.state.specs.declared.entries.Entry.{Entry}
 use Rattle.state.specs.declared.entries.State.{State}
 use Rattle.lines.specs.Verdicts.{placeNamed, valueHeld}
-use Rattle.lines.specs.declared.shapes.Order.{Order}
-use Rattle.lines.specs.declared.shapes.Order.the-variants as order
+use Rattle.commands.specs.declared.shapes.Order.{Order}
+use Rattle.commands.specs.declared.shapes.Order.the-variants as order
 
 abbrev pub stateOf : Series → List ℕ → List Value → List Entry → ℕ → State
 stateOf k settings values undo count = record { series = k; settings = settings; values = values; undo = undo; count = count }

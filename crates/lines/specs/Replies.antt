@@ -13,10 +13,10 @@ use Rattle.instrument.specs.declared.settings.Found.{Found}
 use Rattle.instrument.specs.declared.settings.Found.the-variants.{Nothing, At}
 use Rattle.instrument.specs.declared.values.Value.{Value}
 use Rattle.state.specs.declared.entries.State.{State}
-use Rattle.lines.specs.Shapes.{groupsIn}
+use Rattle.commands.specs.Shapes.{groupsIn}
 use Rattle.lines.specs.Verdicts.{placeNamed, valueHeld, isAccepted}
-use Rattle.lines.specs.declared.shapes.Order.{Order}
-use Rattle.lines.specs.declared.shapes.Order.the-variants as order
+use Rattle.commands.specs.declared.shapes.Order.{Order}
+use Rattle.commands.specs.declared.shapes.Order.the-variants as order
 use Rattle.lines.specs.declared.verdicts.Verdict.{Verdict}
 
 abbrev pub endsLf : State → Bool

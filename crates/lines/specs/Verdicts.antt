@@ -19,9 +19,9 @@ use Rattle.instrument.specs.declared.settings.Found.the-variants.{Nothing, At}
 use Rattle.instrument.specs.declared.values.Kept.the-variants.{Never}
 use Rattle.instrument.specs.declared.values.Value.{Value}
 use Rattle.state.specs.declared.entries.State.{State}
-use Rattle.lines.specs.Shapes.{isEnded, textOf, groupsIn, orderOf}
-use Rattle.lines.specs.declared.shapes.Order.{Order}
-use Rattle.lines.specs.declared.shapes.Order.the-variants as order
+use Rattle.commands.specs.Shapes.{isEnded, textOf, groupsIn, orderOf}
+use Rattle.commands.specs.declared.shapes.Order.{Order}
+use Rattle.commands.specs.declared.shapes.Order.the-variants as order
 use Rattle.lines.specs.declared.verdicts.Verdict.{Verdict}
 use Rattle.lines.specs.declared.verdicts.Verdict.the-variants.{Accepted, Unended, Long, Keyword, Shape, Setting, ReadOnly, Parameter}
 use Rattle.lines.specs.declared.verdicts.Verdict.the-variants.{Index, Word, NeverPut, Full, NoEntry, Room, NoState}

@@ -2,5 +2,4 @@
 pub mod machine;
 pub mod orders;
 pub mod replies;
-pub mod shapes;
 pub mod verdicts;

@@ -1,17 +1,17 @@
 // What an accepted line does to the state.
 ghost use mathlib.Core.Path.{_≡_};
-ghost use Prim.Native.Nat.{_<_, _≤_};
-ghost use Rattle.state.specs.Entries.{entriesN};
+ghost use Prim.Native.Nat.{_+_, _<_, _≤_};
+ghost use Rattle.state.specs.Entries.{entriesN, entryOf};
 ghost use Rattle.instrument.specs.Values.{valuesN};
 ghost use Rattle.instrument.specs.Settings.{settingsMost};
 ghost use Rattle.lines.specs.Verdicts.{setVerdict, putVerdict};
-ghost use Rattle.lines.specs.Orders.{setOf, putOf, undoOf, keepOf, setDone, putDone, doneOf};
-ghost use Rattle.lines.specs.Keeping.{Accepts};
+ghost use Rattle.lines.specs.Orders.{stateOf, pushed, setOf, putOf, undoOf, keepOf, setDone, putDone, doneOf};
+ghost use Rattle.lines.specs.Keeping.{restored, Accepts};
 ghost use Rattle.lines.specs.declared.verdicts.Verdict as Verdict;
-use crate::shapes::Order;
 use crate::verdicts::place_named;
 use crate::verdicts::setting_of;
 use crate::verdicts::word_of;
+use commands::shapes::Order;
 use figures::casts::place_of;
 use instrument::settings::Found;
 use instrument::settings::SETTINGS;
@@ -34,25 +34,42 @@ fn byte(n: usize) -> u8
     n as u8
 }
 
+// An item and what stood there before.
+fn entry_of(item: Item, parameter: u8, kept: Kept) -> Entry
+    ensures { λ r. ⌜ r ≡ entryOf item parameter kept ⌝ }
+{
+    let former = Former {
+        parameter: parameter,
+        kept: kept,
+    };
+    Entry {
+        item: item,
+        former: former,
+    }
+}
+
+// An entry more.
+fn push(s: State, entry: Entry) -> State
+    requires { ⌜ s .count < entriesN ⌝ }
+    ensures { λ r. ⌜ r ≡ stateOf (s .series) (s .settings) (s .values) (pushed s entry) (s .count + 1) ⌝ }
+{
+    let n = s.count;
+    let mut t = s;
+    t.undo[n] = entry;
+    t.count = n + 1;
+    t
+}
+
 // The parameter stored, and the former one kept in an entry.
 pub(crate) fn set(s: State, place: usize, parameter: u8) -> State
     requires { ⌜ (place < settingsMost) × (s .count < entriesN) ⌝ }
     ensures { λ r. ⌜ r ≡ setOf s place parameter ⌝ }
 {
-    let n = s.count;
     let item = Item::Setting(byte(place));
     let never = Kept::Never;
-    let former = Former {
-        parameter: s.settings[place],
-        kept: never,
-    };
-    let mut t = s;
-    t.undo[n] = Entry {
-        item: item,
-        former: former,
-    };
+    let entry = entry_of(item, s.settings[place], never);
+    let mut t = push(s, entry);
     t.settings[place] = parameter;
-    t.count = n + 1;
     t
 }
 
@@ -61,22 +78,41 @@ pub(crate) fn put(s: State, place: usize, kept: Kept) -> State
     requires { ⌜ (place < valuesN) × (s .count < entriesN) ⌝ }
     ensures { λ r. ⌜ r ≡ putOf s place kept ⌝ }
 {
-    let n = s.count;
     let item = Item::Stored(byte(place));
     let value = s.values[place];
     let was = value.kept;
-    let former = Former {
-        parameter: 0,
-        kept: was,
-    };
-    let mut t = s;
-    t.undo[n] = Entry {
-        item: item,
-        former: former,
-    };
+    let entry = entry_of(item, 0, was);
+    let mut t = push(s, entry);
     t.values[place] = Value { kept: kept };
-    t.count = n + 1;
     t
+}
+
+// An item with its former content again; a place past the end changes nothing.
+fn restore(s: State, item: Item, former: Former) -> State
+    ensures { λ r. ⌜ r ≡ restored s item former ⌝ }
+{
+    match item {
+        Item::Free => s,
+        Item::Setting(b) => {
+            let place = place_of(b);
+            if SETTINGS <= place {
+                return s;
+            }
+            let mut t = s;
+            t.settings[place] = former.parameter;
+            t
+        }
+        Item::Stored(b) => {
+            let place = place_of(b);
+            if VALUES <= place {
+                return s;
+            }
+            let kept = former.kept;
+            let mut t = s;
+            t.values[place] = Value { kept: kept };
+            t
+        }
+    }
 }
 
 // The newest entry taken back.
@@ -91,30 +127,11 @@ pub(crate) fn undo(s: State) -> State
     let entry = s.undo[n];
     let item = entry.item;
     let former = entry.former;
-    let kept = former.kept;
     let blank = blank_entry();
     let mut t = s;
     t.undo[n] = blank;
     t.count = n;
-    match item {
-        Item::Free => t,
-        Item::Setting(b) => {
-            let place = place_of(b);
-            if SETTINGS <= place {
-                return t;
-            }
-            t.settings[place] = former.parameter;
-            t
-        }
-        Item::Stored(b) => {
-            let place = place_of(b);
-            if VALUES <= place {
-                return t;
-            }
-            t.values[place] = Value { kept: kept };
-            t
-        }
-    }
+    restore(t, item, former)
 }
 
 // The list emptied.

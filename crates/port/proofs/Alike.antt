@@ -10,7 +10,7 @@ use lib.ListN.{length, length-append}
 use lib.Seq.{take-at, getD-at}
 use Rattle.state.specs.Image.{isImage, stateIn}
 use Rattle.state.specs.declared.entries.State.{State}
-use Rattle.lines.specs.Shapes.{fromEnd, endOf, textOf, isPlain, isEnded}
+use Rattle.commands.specs.Shapes.{fromEnd, endOf, textOf, isPlain, isEnded}
 use Rattle.lines.specs.Replies.{wrong, replyEnd}
 use Rattle.lines.specs.Machine.{Outcome, outcome, run, replyInRoom, told, Called, played, call}
 use Rattle.lines.specs.declared.verdicts.Verdict.the-variants.{Unended, Long, NoState}

@@ -11,7 +11,7 @@ use lib.ListN.{length, take, set, length-append, length-set, drop-of-length-le}
 use lib.Seq.{take-suc-set, length-take-le, take-all, set-split}
 use Rattle.figures.specs.Bytes.{every}
 use Rattle.figures.proofs.Bytes.{every-append}
-use Rattle.lines.specs.Shapes.{isPlain}
+use Rattle.commands.specs.Shapes.{isPlain}
 use Rattle.lines.specs.Machine.{Called, call}
 use Rattle.port.specs.Port.{isEnd, quietPort, keptBy, Heard, waits, runs, heard, linesFrom, linesOf, Spoken, spokenBy, calledBy}
 use Rattle.port.specs.declared.Port.{Port}

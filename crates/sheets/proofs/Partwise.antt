@@ -13,7 +13,7 @@ use lib.Seq.{append-snoc, take-all, take-suc-set, drop-drop, drop-append-seam}
 use Rattle.figures.specs.Bytes.{startsWith}
 use Rattle.figures.proofs.Bytes.{starts-append, starts-true}
 use Rattle.figures.proofs.Tests.{both, by-test}
-use Rattle.lines.proofs.Shape.{to-end}
+use Rattle.commands.proofs.Shape.{to-end}
 use Rattle.sheets.specs.Lines.{linesBy, Part, wrongAt, partBy}
 use Rattle.sheets.specs.Keeping.{lineAs}
 use Rattle.sheets.specs.declared.writing.Line.{Line}

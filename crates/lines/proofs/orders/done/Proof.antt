@@ -7,10 +7,10 @@ use denote.Enum.Declared.{tagOf}
 use borrow.Author.Needs.{needs}
 use Rattle.state.specs.declared.entries.State.{State}
 use Rattle.lines.specs.Orders.{doneOf}
-use Rattle.lines.specs.declared.shapes.Order.{Order}
-use Rattle.lines.specs.declared.shapes.Order.the-variants.{Not, Set, Conf, Put, Get, Undo, Keep, Unknown}
-use Rattle.lines.proofs.Shape.{order-put}
-use Rattle.lines.proofs.shapes.Order.{the-type}
+use Rattle.commands.specs.declared.shapes.Order.{Order}
+use Rattle.commands.specs.declared.shapes.Order.the-variants.{Not, Set, Conf, Put, Get, Undo, Keep, Unknown}
+use Rattle.commands.proofs.Shape.{order-put}
+use Rattle.commands.proofs.shapes.Order.{the-type}
 use Rattle.lines.proofs.orders.done.Statement.{statement}
 use Rattle.lines.proofs.orders.done.Tie as tie
 

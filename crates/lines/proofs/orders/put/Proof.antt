@@ -4,7 +4,7 @@ use Rattle.lines.proofs.orders.put.Statement.{statement}
 use Rattle.lines.proofs.orders.put.Tie as tie
 
 returns : tie.Need-returns
-returns c = rw (c .before .byte .ensures)
+returns c = rw (c .push .ensures, c .before .entry-of .ensures, c .before .before .before .byte .ensures)
 
 pub put-spec : {M : Type 1} → statement M
 put-spec =
@@ -13,9 +13,8 @@ put-spec =
     (λ c κs. search needs)
     (λ c. search needs)
     (λ c. search needs)
-    (λ c. search needs)
-    (λ c. search needs)
-    (λ c. search needs)
+    (λ c κs. search needs)
+    (λ c κs. search needs)
     (λ c. search needs)
     (λ c. search needs)
     returns)

@@ -10,15 +10,15 @@ use borrow.Author.Needs.{needs}
 use lib.ListN.{length, drop}
 use Rattle.figures.specs.Bytes.{laid}
 use Rattle.state.specs.declared.entries.State.{State}
-use Rattle.lines.specs.Shapes.{groupsIn}
+use Rattle.commands.specs.Shapes.{groupsIn}
 use Rattle.lines.specs.Replies.{isWide, getBody, done, bodyOf}
 use Rattle.lines.specs.Keeping.{getN}
 use Rattle.figures.specs.Text.{endBytes}
-use Rattle.lines.specs.declared.shapes.Order.{Order}
-use Rattle.lines.specs.declared.shapes.Order.the-variants.{Not, Set, Conf, Put, Get, Undo, Keep, Unknown}
-use Rattle.lines.proofs.Shape.{to-end}
+use Rattle.commands.specs.declared.shapes.Order.{Order}
+use Rattle.commands.specs.declared.shapes.Order.the-variants.{Not, Set, Conf, Put, Get, Undo, Keep, Unknown}
+use Rattle.commands.proofs.Shape.{to-end}
 use Rattle.lines.proofs.Replying.{laid-then, get-length, get-body, get-body-long, get-fits, reply-fits, reply-laid}
-use Rattle.lines.proofs.shapes.Order.{the-type}
+use Rattle.commands.proofs.shapes.Order.{the-type}
 use Rattle.lines.proofs.replies.put_reply.Statement.{statement}
 use Rattle.lines.proofs.replies.put_reply.Tie as tie
 

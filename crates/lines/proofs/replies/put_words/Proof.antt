@@ -4,7 +4,7 @@ use native.Mathlib.Omega.{arith}
 use borrow.Author.Needs.{needs}
 use lib.ListN.{length, length-append}
 use Rattle.figures.proofs.Bytes.{length-mid}
-use Rattle.lines.specs.Shapes.{groupsIn}
+use Rattle.commands.specs.Shapes.{groupsIn}
 use Rattle.lines.specs.Replies.{star, getWords}
 use Rattle.lines.proofs.Replying.{laid-then}
 use Rattle.lines.proofs.replies.put_words.Statement.{statement}

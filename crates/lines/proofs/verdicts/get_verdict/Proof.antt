@@ -6,9 +6,9 @@ use borrow.Author.Needs.{needs}
 use borrow.Author.Tests.{not-true, not-false}
 use lib.ListN.{length, getD, drop, drop-of-length-le}
 use Rattle.instrument.specs.declared.settings.Found.the-variants.{At}
-use Rattle.lines.specs.Shapes.{groupsIn}
+use Rattle.commands.specs.Shapes.{groupsIn}
 use Rattle.lines.specs.Verdicts.{placeNamed, getBy, getVerdict}
-use Rattle.lines.proofs.Shape.{groups-length}
+use Rattle.commands.proofs.Shape.{groups-length}
 use Rattle.lines.proofs.Lookups.{place-in, get-more, get-none}
 use Rattle.lines.proofs.verdicts.get_verdict.Statement.{statement}
 use Rattle.lines.proofs.verdicts.get_verdict.Tie as tie

@@ -5,8 +5,8 @@ use Prim.Native.Nat.{_≤_}
 use borrow.Author.Needs.{needs}
 use borrow.Author.Tests.{eq-eqb, ne-eqb}
 use lib.ListN.{length, drop}
-use Rattle.lines.specs.Shapes.{groupsRight, groupsIn}
-use Rattle.lines.proofs.Shape.{to-end, order-put, order-get}
+use Rattle.commands.specs.Shapes.{groupsRight, groupsIn}
+use Rattle.commands.proofs.Shape.{to-end, order-put, order-get}
 use Rattle.lines.proofs.verdicts.order_verdict.Statement.{statement}
 use Rattle.lines.proofs.verdicts.order_verdict.Tie as tie
 

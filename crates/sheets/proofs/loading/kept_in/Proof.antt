@@ -9,7 +9,7 @@ use lib.ListN.{length, drop, replicate, drop-of-length-le}
 use Rattle.figures.specs.Bytes.{startsWith, laid}
 use Rattle.instrument.specs.declared.values.Stored.{Stored}
 use Rattle.instrument.specs.declared.values.Kept.the-variants.{Never}
-use Rattle.lines.proofs.Shape.{to-end}
+use Rattle.commands.proofs.Shape.{to-end}
 use Rattle.sheets.specs.Sheet.{valueKey, keptLine}
 use Rattle.sheets.specs.Keeping.{keyLength}
 use Rattle.sheets.proofs.Keyed.{value-keyed}

@@ -2,7 +2,7 @@
 ghost use mathlib.Core.Path.{_≡_};
 ghost use Prim.Native.Nat.{_≤_};
 ghost use lib.ListN.{length, drop};
-ghost use Rattle.lines.specs.Shapes.{endOf, isPlain, numberShape, setOrder, confOrder, groupRight, getOrder, hasKeyword, orderOf};
+ghost use Rattle.commands.specs.Shapes.{endOf, isPlain, numberShape, setOrder, confOrder, groupRight, getOrder, hasKeyword, orderOf};
 use figures::Said;
 use figures::digit;
 use figures::number;
@@ -24,7 +24,7 @@ pub enum Order {
 }
 
 // The length of a line's end: 1 for CR, 2 for CR LF, 0 for none.
-pub(crate) fn end_of(line: &[u8]) -> usize
+pub fn end_of(line: &[u8]) -> usize
     ensures { λ r. ⌜ r ≡ endOf (now (line .entry)) ⌝ }
 {
     let n = line.len();
@@ -47,7 +47,7 @@ pub(crate) fn end_of(line: &[u8]) -> usize
 }
 
 // Whether there is no CR and no LF.
-pub(crate) fn is_plain(s: &[u8]) -> bool
+pub fn is_plain(s: &[u8]) -> bool
     ensures { λ r. ⌜ r ≡ isPlain (now (s .entry)) ⌝ }
 {
     let mut i = 0;
@@ -167,7 +167,7 @@ fn has_keyword(text: &[u8]) -> bool
 }
 
 // The shape of a line without its end.
-pub(crate) fn order_of(text: &[u8]) -> Order
+pub fn order_of(text: &[u8]) -> Order
     ensures { λ r. ⌜ r ≡ orderOf (now (text .entry)) ⌝ }
 {
     if starts(text, b"SET/") {

@@ -1,9 +1,9 @@
 -- `conf_order` meets its contract: it has what `number_of` answers.
 use mathlib.Core.Path.{sym, _∙_}
 use borrow.Author.Needs.{needs}
-use Rattle.lines.proofs.Shape.{number-is, number-not}
-use Rattle.lines.proofs.shapes.conf_order.Statement.{statement}
-use Rattle.lines.proofs.shapes.conf_order.Tie as tie
+use Rattle.commands.proofs.Shape.{number-is, number-not}
+use Rattle.commands.proofs.shapes.conf_order.Statement.{statement}
+use Rattle.commands.proofs.shapes.conf_order.Tie as tie
 
 returns : tie.Need-returns
 returns c = rw (number-not _ (sym (c .enum-told .given .1) ∙ c .before .before .number-of .ensures))

@@ -6,12 +6,12 @@ use mathlib.Core.List.{List}
 use borrow.Author.Needs.{needs}
 use borrow.Author.Tests.{eq-eqb, ne-eqb}
 use Rattle.figures.specs.Bytes.{startsWith, sameBytes}
-use Rattle.lines.specs.Shapes.{set-slash, conf-slash, put-slash, get-i, undo-word, hasKeyword, orderOf}
-use Rattle.lines.specs.declared.shapes.Order.the-variants.{Not, Unknown}
-use Rattle.lines.proofs.Shape.{to-end}
+use Rattle.commands.specs.Shapes.{set-slash, conf-slash, put-slash, get-i, undo-word, hasKeyword, orderOf}
+use Rattle.commands.specs.declared.shapes.Order.the-variants.{Not, Unknown}
+use Rattle.commands.proofs.Shape.{to-end}
 use Rattle.figures.proofs.Bytes.{starts-length}
-use Rattle.lines.proofs.shapes.order_of.Statement.{statement}
-use Rattle.lines.proofs.shapes.order_of.Tie as tie
+use Rattle.commands.proofs.shapes.order_of.Statement.{statement}
+use Rattle.commands.proofs.shapes.order_of.Tie as tie
 
 -- the line, where each test stands
 abbrev text1 : tie.After-starts → List ℕ

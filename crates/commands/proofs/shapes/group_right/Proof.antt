@@ -2,9 +2,9 @@
 use mathlib.Core.Path.{sym, _∙_}
 use borrow.Author.Needs.{needs}
 use borrow.Author.Tests.{le-leb, lt-leb, not-true, not-false}
-use Rattle.lines.proofs.Shape.{to-end}
-use Rattle.lines.proofs.shapes.group_right.Statement.{statement}
-use Rattle.lines.proofs.shapes.group_right.Tie as tie
+use Rattle.commands.proofs.Shape.{to-end}
+use Rattle.commands.proofs.shapes.group_right.Statement.{statement}
+use Rattle.commands.proofs.shapes.group_right.Tie as tie
 
 abbrev start : tie.After-group → tie.Start
 start c = c .before .before

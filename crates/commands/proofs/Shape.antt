@@ -13,10 +13,10 @@ use Rattle.figures.specs.Bytes.{startsWith, sameBytes}
 use Rattle.figures.specs.Decimal.{numberOf}
 use Rattle.figures.specs.declared.Said.the-variants as said
 use Rattle.figures.proofs.Bytes.{same-true, starts-length}
-use Rattle.lines.specs.Shapes.{slashAt, numberRight, numberShape, groupRight, groupsRight, groupsIn, hasKeyword, orderOf}
-use Rattle.lines.specs.Shapes.{set-slash, conf-slash, put-slash, get-i, undo-word, keep-word}
-use Rattle.lines.specs.declared.shapes.Order.{Order}
-use Rattle.lines.specs.declared.shapes.Order.the-variants.{Not, Set, Conf, Put, Get, Undo, Keep, Unknown}
+use Rattle.commands.specs.Shapes.{slashAt, numberRight, numberShape, groupRight, groupsRight, groupsIn, hasKeyword, orderOf}
+use Rattle.commands.specs.Shapes.{set-slash, conf-slash, put-slash, get-i, undo-word, keep-word}
+use Rattle.commands.specs.declared.shapes.Order.{Order}
+use Rattle.commands.specs.declared.shapes.Order.the-variants.{Not, Set, Conf, Put, Get, Undo, Keep, Unknown}
 
 -- parts of a line
 

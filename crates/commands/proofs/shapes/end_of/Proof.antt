@@ -6,8 +6,8 @@ use borrow.Author.Needs.{needs}
 use borrow.Author.Tests.{le-leb, lt-leb, eq-eqb, ne-eqb}
 use lib.Dec.{leb}
 use lib.ListN.{length}
-use Rattle.lines.proofs.shapes.end_of.Statement.{statement}
-use Rattle.lines.proofs.shapes.end_of.Tie as tie
+use Rattle.commands.proofs.shapes.end_of.Statement.{statement}
+use Rattle.commands.proofs.shapes.end_of.Tie as tie
 
 returns : tie.Need-returns
 returns c = rw (lt-leb 1 (length (c .before .args .line .now)) (omega arith))

@@ -6,11 +6,11 @@ use borrow.Author.Needs.{needs}
 use borrow.Author.Tests.{lt-ltb, le-ltb}
 use lib.ListN.{length, take, drop}
 use Rattle.figures.specs.Decimal.{numberOf}
-use Rattle.lines.specs.Shapes.{numberRight, numberShape}
-use Rattle.lines.specs.declared.shapes.Order.the-variants.{Set}
-use Rattle.lines.proofs.Shape.{number-is, number-not, from-start, to-end}
-use Rattle.lines.proofs.shapes.set_order.Statement.{statement}
-use Rattle.lines.proofs.shapes.set_order.Tie as tie
+use Rattle.commands.specs.Shapes.{numberRight, numberShape}
+use Rattle.commands.specs.declared.shapes.Order.the-variants.{Set}
+use Rattle.commands.proofs.Shape.{number-is, number-not, from-start, to-end}
+use Rattle.commands.proofs.shapes.set_order.Statement.{statement}
+use Rattle.commands.proofs.shapes.set_order.Tie as tie
 
 returns : tie.Need-returns
 returns c = rw (← c .before .run-before .ensures .0, le-ltb _ _ (c .if1 .taken))

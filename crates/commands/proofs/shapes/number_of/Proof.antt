@@ -7,8 +7,8 @@ use borrow.Author.Needs.{needs}
 use borrow.Author.Tests.{le-leb, lt-leb, eq-eqb, ne-eqb}
 use lib.Dec.{eqb}
 use lib.ListN.{length, getD}
-use Rattle.lines.proofs.shapes.number_of.Statement.{statement}
-use Rattle.lines.proofs.shapes.number_of.Tie as tie
+use Rattle.commands.proofs.shapes.number_of.Statement.{statement}
+use Rattle.commands.proofs.shapes.number_of.Tie as tie
 
 returns : tie.Need-returns
 returns c = rw (lt-leb 1 (length (c .before .before .args .s .now)) (omega arith))

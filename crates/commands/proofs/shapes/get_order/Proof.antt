@@ -5,10 +5,10 @@ use native.Mathlib.Omega.{arith}
 use borrow.Author.Tests.{le-ltb, lt-ltb, not-true, not-false}
 use lib.ListN.{length, drop, length-drop, drop-of-length-le}
 use lib.Seq.{drop-drop}
-use Rattle.lines.specs.Shapes.{groupsRight, groupsIn}
-use Rattle.lines.proofs.Shape.{not-so, groups-more, groups-length, groups-none}
-use Rattle.lines.proofs.shapes.get_order.Statement.{statement}
-use Rattle.lines.proofs.shapes.get_order.Tie as tie
+use Rattle.commands.specs.Shapes.{groupsRight, groupsIn}
+use Rattle.commands.proofs.Shape.{not-so, groups-more, groups-length, groups-none}
+use Rattle.commands.proofs.shapes.get_order.Statement.{statement}
+use Rattle.commands.proofs.shapes.get_order.Tie as tie
 
 abbrev Inv-loop : tie.InvT-loop
 Inv-loop s at₀ at =

@@ -6,9 +6,9 @@ use Prim.Native.Nat.{ℕ}
 use borrow.Author.Needs.{needs}
 use Rattle.figures.specs.Text.{codes}
 use Rattle.figures.specs.Bytes.{startsWith}
-use Rattle.lines.specs.Shapes.{undo-word}
-use Rattle.lines.proofs.shapes.has_keyword.Statement.{statement}
-use Rattle.lines.proofs.shapes.has_keyword.Tie as tie
+use Rattle.commands.specs.Shapes.{undo-word}
+use Rattle.commands.proofs.shapes.has_keyword.Statement.{statement}
+use Rattle.commands.proofs.shapes.has_keyword.Tie as tie
 
 -- the line, where each test stands
 abbrev text1 : tie.After-starts → List ℕ

@@ -5,9 +5,9 @@ use native.Mathlib.Omega.{arith}
 use borrow.Author.Tests.{eq-eqb, ne-eqb}
 use lib.ListN.{length, drop, getD}
 use Rattle.figures.proofs.Bytes.{every-more, every-not, every-all}
-use Rattle.lines.specs.Shapes.{isPlain}
-use Rattle.lines.proofs.shapes.is_plain.Statement.{statement}
-use Rattle.lines.proofs.shapes.is_plain.Tie as tie
+use Rattle.commands.specs.Shapes.{isPlain}
+use Rattle.commands.proofs.shapes.is_plain.Statement.{statement}
+use Rattle.commands.proofs.shapes.is_plain.Tie as tie
 
 abbrev Inv-loop : tie.InvT-loop
 Inv-loop s i₀ i = (i ≤ length s) × (isPlain s ≡ isPlain (drop i s))

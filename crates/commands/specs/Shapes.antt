@@ -9,8 +9,8 @@ use Rattle.figures.specs.Bytes.{within, every, runOf, isOther, startsWith, same
 use Rattle.figures.specs.Decimal.{isDigit, numberOf}
 use Rattle.figures.specs.declared.Said.{Said}
 use Rattle.figures.specs.declared.Said.the-variants as said
-use Rattle.lines.specs.declared.shapes.Order.{Order}
-use Rattle.lines.specs.declared.shapes.Order.the-variants.{Not, Set, Conf, Put, Get, Undo, Keep, Unknown}
+use Rattle.commands.specs.declared.shapes.Order.{Order}
+use Rattle.commands.specs.declared.shapes.Order.the-variants.{Not, Set, Conf, Put, Get, Undo, Keep, Unknown}
 
 -- the byte at a place from the end, the last at 1
 abbrev pub fromEnd : ℕ → List ℕ → ℕ
