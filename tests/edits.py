@@ -22,10 +22,13 @@ import tempfile
 
 ROOT = os.path.dirname(os.path.dirname(os.path.abspath(__file__)))
 
-# What the checker says where a proof no longer has the shape of the code. Everything else that it refuses in a proof is a fact.
-SHAPE = re.compile(r"has no field|that can be named from here|is not a field|is not in scope|takes no argument|too (?:many|few) arguments|is not a function")
-# What it says of a declaration that only cites one that was refused.
+# What the checker says of a declaration that only cites one that was refused.
 CITES = re.compile(r"was not admitted \(.*\), so this cannot be checked")
+# What it says where a proof no longer has the shape of the code: a need, a field or a name that isn't there any more, or, in the declaration that hands a
+# function's needs over, an answer to another need (but not one that differs in a number). Everything else that it refuses in a proof is a fact.
+SHAPE = re.compile(r"has no field|that can be named from here|is not a field|is not in scope|^`[^`]*-spec`: (?!`(?:search|omega|rw|simp|cc)`|.* where one has `\d+`)")
+# What it says of a function that has no file of proof, where it finds none by itself: the need that fails.
+SEARCHED = re.compile(r"no proof: .*`search` does not close `")
 
 
 class Program:
@@ -102,7 +105,7 @@ class Log:
         return [said for file, said in self.own(function) if not CITES.search(said) and not SHAPE.search(said)]
 
     def shapes(self, function=None):
-        return [said for file, said in self.own(function) if SHAPE.search(said)]
+        return [said for file, said in self.own(function) if SHAPE.search(said) and not CITES.search(said)]
 
     def own(self, function):
         if function is None:
@@ -113,11 +116,13 @@ class Log:
     def refused(self, function):
         """What is missing for the function to be refused at a fact of its own; an empty text where nothing is."""
         verdict = self.verdicts.get(function, "not named")
-        if verdict not in ("not proved", "no proof"):
+        if SEARCHED.match(verdict):
+            return ""
+        if verdict != "not proved":
             return f"{function} is {verdict}"
         if self.shapes(function):
             return f"{function} fails at the shape of its proof: {self.shapes(function)[0][:160]}"
-        return "" if self.facts(function) else f"{function} is {verdict}, and at no fact of its own"
+        return "" if self.facts(function) else f"{function} is not proved, but at no fact of its own"
 
 
 def judge(crate, programs, log):
@@ -224,6 +229,8 @@ def self_test():
     two = "first: x.\nfile: src/lib.rt\nold:     low() + a\nnew:     low() + 1\nsecond: y.\nfile: src/lib.rt\nold: const PAIR: Row = Row(LOW, 2);\nnew: const PAIR: Row = Row(LOW, 3);\n"
     fact = "/w/proofs/{0}/Proof.antt:1:1: error: `returns`: `omega`: the goal does not follow from what it read\n"
     cited = "/w/proofs/{0}/Proof.antt:2:1: error: `{0}-spec`: `returns` was not admitted (it has holes), so this cannot be checked\n"
+    cites, other = "`returns` was not admitted (it has holes), so this cannot be checked", "computed as far as they go, the two values are `a`"
+    searched = "fn things::both: no proof: expected `both-spec` in /w/proofs/both/Proof.antt; `search` does not close `returns`\n"
     shape = "/w/proofs/{0}/Proof.antt:1:1: error: `returns`: record `Start` has no field `before`\n"
     no = "fn things::{0}: not proved\n"
     calls = "fn things::{0}: not proved; it calls `things::low`, which is not proved\n"
@@ -235,6 +242,8 @@ def self_test():
         ("one of two is refused for what it calls", two, cited.format("both") + fact.format("pair") + calls.format("both") + no.format("pair"), False),
         ("one of two fails at the shape", two, right.replace(fact.format("both"), shape.format("both")), False),
         ("one of two fails at the shape besides a fact", two, shape.format("both") + right, False),
+        ("one of two answers needs of another shape", two, right.replace(cited.format("both"), cited.format("both").replace(cites, other)), False),
+        ("one of two has no file of proof", two, right.replace(no.format("both"), searched), True),
         ("the fact is another function's", two, cited.format("both") + fact.format("pair") + no.format("both") + no.format("pair"), False),
         ("no reader of the constant is refused", two, fact.format("both") + no.format("both") + yes.format("pair"), False),
         ("two change one function", two.replace("const PAIR: Row = Row(LOW, 2);", "fn both(a: u8) -> u8 {", 1), right, False),

@@ -22,6 +22,7 @@ use Rattle.instrument.specs.declared.settings.Row.{Row}
 use Rattle.instrument.specs.declared.settings.Found.{Found}
 use Rattle.instrument.specs.declared.settings.Found.the-variants.{Nothing, At}
 use Rattle.state.specs.declared.entries.State.{State}
+use Rattle.figures.proofs.Tests.{by-test}
 use Rattle.instrument.proofs.Kept.{put-kept-right}
 use Rattle.instrument.proofs.Ranges.{range-high}
 use Rattle.state.proofs.Images.{image-of}
@@ -31,6 +32,7 @@ use Rattle.lines.specs.Verdicts.{orderVerdict, lineVerdict}
 use Rattle.lines.specs.Orders.{doneOf}
 use Rattle.lines.specs.Replies.{replyOf}
 use Rattle.lines.specs.Machine.{Outcome, outcome, step, Calls}
+use Rattle.lines.specs.Keeping.{isAsking}
 use Rattle.commands.specs.declared.shapes.Order.{Order}
 use Rattle.lines.specs.declared.verdicts.Verdict.{Verdict}
 use Rattle.lines.specs.declared.verdicts.Verdict.the-variants.{Accepted, Unended, Long, ReadOnly, Parameter, Full, NoEntry, Room}
@@ -111,11 +113,11 @@ module _ (image line room : List ℕ) (r : Ran) (room′ : List ℕ) (h : RanOn 
   pub call-refused : isAccepted (r .told .verdict) ≡ false → Calls image line room (r .told) image room′
   call-refused n = call-left (λ a. absurd (false≢true (sym n ∙ a)))
 
-  pub call-conf : startsWith conf-slash line ≡ true → Calls image line room (r .told) image room′
-  call-conf p = call-left (λ _. asks-idle standing line (length line - endOf line) 67 _ p refl refl refl refl)
-
-  pub call-get : startsWith get-i line ≡ true → Calls image line room (r .told) image room′
-  call-get p = call-left (λ _. asks-idle standing line (length line - endOf line) 71 _ p refl refl refl refl)
+  pub call-asks : isAsking line ≡ true → Calls image line room (r .told) image room′
+  call-asks p =
+      let n = length line - endOf line in
+      by-test (startsWith conf-slash line) (λ q. call-left (λ _. asks-idle standing line n 67 _ q refl refl refl refl))
+      (λ q. call-left (λ _. asks-idle standing line n 71 _ (rw q at p) refl refl refl refl))
 
 -- SET
 

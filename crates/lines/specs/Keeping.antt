@@ -2,9 +2,9 @@
 use Prim.Native.Nat.{ℕ, _+_, _*_, _≤_}
 use mathlib.Core.Path.{_≡_}
 use mathlib.Core.List.{List}
-use mathlib.Core.Bool.{Bool, true}
+use mathlib.Core.Bool.{Bool, true, _||_}
 use lib.ListN.{length}
-use Rattle.figures.specs.Bytes.{laid}
+use Rattle.figures.specs.Bytes.{startsWith, laid}
 use Rattle.words.specs.Reading.{wordSize}
 use Rattle.state.specs.declared.entries.Item.{Item}
 use Rattle.state.specs.declared.entries.Former.{Former}
@@ -14,11 +14,15 @@ use Rattle.lines.specs.declared.verdicts.Verdict.{Verdict}
 use Rattle.lines.specs.declared.machine.Ran.{Ran}
 use Rattle.lines.specs.Machine.{Outcome, replyInRoom, told}
 use Rattle.instrument.specs.declared.values.Value.{Value}
-use Rattle.commands.specs.Shapes.{groupsRight, groupsIn, orderOf}
+use Rattle.commands.specs.Shapes.{conf-slash, get-i, groupsRight, groupsIn, orderOf}
 use Rattle.lines.specs.Verdicts.{getVerdict, orderVerdict}
 use Rattle.commands.specs.declared.shapes.Order.{Order}
 use Rattle.lines.specs.declared.verdicts.Verdict.the-variants.{Accepted}
 use Rattle.lines.specs.Replies.{star}
+
+-- how the code tells an accepted line that alters nothing: by how it starts
+abbrev pub isAsking : List ℕ → Bool
+isAsking line = startsWith conf-slash line || startsWith get-i line
 
 -- what a line that runs to an outcome comes to in a room
 abbrev pub ranOf : Verdict → ℕ → State → Ran

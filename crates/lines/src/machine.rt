@@ -9,7 +9,7 @@ ghost use Rattle.lines.specs.Verdicts.{isAccepted};
 ghost use Rattle.lines.specs.Orders.{doneOf};
 ghost use Rattle.lines.specs.Replies.{wrong, replyEnd, bodyOf};
 ghost use Rattle.lines.specs.Machine.{outcome, run, Calls};
-ghost use Rattle.lines.specs.Keeping.{ranOf, Ends, Accepts};
+ghost use Rattle.lines.specs.Keeping.{isAsking, ranOf, Ends, Accepts};
 use crate::orders::done;
 use crate::replies::body_length;
 use crate::replies::ends_lf;
@@ -111,6 +111,16 @@ fn run_line(s: State, line: &[u8], room: &mut [u8]) -> Ran
     accept(s, text, order, room)
 }
 
+// Whether an accepted line only asks: CONF and GET alter nothing, so that the image needn't be laid down again.
+fn asks(line: &[u8]) -> bool
+    ensures { λ r. ⌜ r ≡ isAsking (now (line .entry)) ⌝ }
+{
+    if starts(line, b"CONF/") {
+        return true;
+    }
+    starts(line, b"GET/I")
+}
+
 // One line on a lent image. 31 and 30 leave everything as it was; any other refusal writes its reply and leaves the image.
 pub fn line(image: &mut [u8], text: &[u8], room: &mut [u8]) -> Told
     ensures { λ r. ⌜ Calls (now (image .entry)) (now (text .entry)) (now (room .entry)) r (now (image .exit)) (now (room .exit)) ⌝ }
@@ -132,11 +142,7 @@ pub fn line(image: &mut [u8], text: &[u8], room: &mut [u8]) -> Told
     if !is_accepted(verdict) {
         return told;
     }
-    // CONF and GET alter nothing, so that the image needn't be laid down again
-    if starts(text, b"CONF/") {
-        return told;
-    }
-    if starts(text, b"GET/I") {
+    if asks(text) {
         return told;
     }
     encode(next, image);

@@ -4,7 +4,7 @@ use mathlib.Core.Path.{sym, _∙_}
 use borrow.Author.Needs.{needs}
 use borrow.Author.Tests.{not-true}
 use Rattle.lines.proofs.Calling.{decoded-few, call-none, RanOn, call-some}
-use Rattle.lines.proofs.Runs.{call-refused, call-conf, call-get}
+use Rattle.lines.proofs.Runs.{call-refused, call-asks}
 use Rattle.lines.proofs.machine.line.Statement.{statement}
 use Rattle.lines.proofs.machine.line.Tie as tie
 
@@ -18,8 +18,8 @@ decoded c = c .before .before .before .before .before
 abbrev ran : tie.After-is-accepted → tie.After-run-line
 ran c = c .before .before .before .before .before
 
-abbrev judged : tie.After-starts → tie.After-is-accepted
-judged c = c .before .before .before
+abbrev judged : tie.After-asks → tie.After-is-accepted
+judged c = c .before .before
 
 ran-on : (c : tie.After-run-line) →
     let a = start (decoded c) .args in
@@ -45,16 +45,11 @@ returns-2 c =
     call-refused _ _ _ _ _ (ran-on (ran (c .before))) (sym (q .ensures) ∙ not-true (q .result) (c .if1 .taken))
 
 returns-3 : tie.Need-returns-3
-returns-3 c = call-conf _ _ _ _ _ (ran-on (ran (judged (c .before)))) (sym (c .before .starts .ensures) ∙ c .if2 .taken)
+returns-3 c = call-asks _ _ _ _ _ (ran-on (ran (judged (c .before)))) (sym (c .before .asks .ensures) ∙ c .if2 .taken)
 
 returns-4 : tie.Need-returns-4
 returns-4 c =
-    let asked = c .before .before .before .before in
-    call-get _ _ _ _ _ (ran-on (ran (judged asked))) (sym (c .before .starts2 .ensures) ∙ c .if3 .taken)
-
-returns-5 : tie.Need-returns-5
-returns-5 c =
-    let asked = c .before .before .before .before .before .before .before .before in
+    let asked = c .before .before .before .before .before in
     call-some _ _ _ _ _ (ran-on (ran (judged asked))) _ (c .before .before .encode .ensures)
 
 pub line-spec : {M : Type 1} → statement M
@@ -71,17 +66,11 @@ line-spec =
     (λ c. search needs)
     (λ c. search needs)
     returns-2
-    (λ c. search needs)
     (λ c κs. search needs)
     (λ c. search needs)
     (λ c. search needs)
     returns-3
-    (λ c. search needs)
     (λ c κs. search needs)
     (λ c. search needs)
     (λ c. search needs)
-    returns-4
-    (λ c κs. search needs)
-    (λ c. search needs)
-    (λ c. search needs)
-    returns-5)
+    returns-4)
