@@ -8,87 +8,129 @@ use Rattle.figures.specs.Text.{codes}
 use Rattle.figures.specs.Decimal.{digitsOf, decimalOf}
 use Rattle.units.specs.Information.{signByte}
 use Rattle.units.specs.declared.kinds.Family.{Family}
-use Rattle.units.specs.declared.counts.Whole.{Whole}
 use Rattle.units.specs.declared.counts.Count.{Count}
-use Rattle.units.specs.declared.counts.Count.the-variants.{Nothing, Text, Gon, Degree, Tenth, Mil, Metre, Feet, Inch, Ppm, Pair}
+use Rattle.units.specs.declared.counts.Count.the-variants as count
 use Rattle.words.specs.Records.{width, typedOf}
 use Rattle.words.specs.declared.records.Word.{Word}
-use Rattle.measures.specs.declared.Decimals.{Decimals}
-use Rattle.measures.specs.declared.Decimals.the-variants.{One, Three, Four, Five}
+use Rattle.measures.specs.declared.Step.{Step}
+use Rattle.measures.specs.declared.Step.the-variants.{One, Three, Four, Five, Half}
+use Rattle.measures.specs.declared.Unit.{Unit}
+use Rattle.measures.specs.declared.Unit.the-variants as unit
+use Rattle.measures.specs.declared.Shown.{Shown}
+use Rattle.measures.specs.declared.Shown.the-variants.{Nothing, Text, Measure, Tenths, Pair}
+
+abbrev pub indexDigits : ℕ → ℕ
+indexDigits i = cond (ltb i 100) 2 3
 
 -- index and information as positions 1-6 have them: `31 info=..01`, `331 info=106`
 abbrev pub indexText : ℕ → List ℕ → List ℕ
 indexText i info = cond (ltb i 100) (digitsOf 2 i ++ (codes " info=" ++ info)) (digitsOf 3 i ++ (codes " info=" ++ drop 1 info))
 
 -- the decimals of a metre or a foot
-abbrev pub decimalsOf : ℕ → Decimals
+abbrev pub decimalsOf : ℕ → Step
 decimalsOf n = cond (eqb n 3) Three (cond (eqb n 4) Four Five)
 
-abbrev pub placesOf : Decimals → ℕ
-placesOf One = 1
-placesOf Three = 3
-placesOf Four = 4
-placesOf Five = 5
-
-abbrev pub powerOf : Decimals → ℕ
+-- how many steps make one of the unit
+abbrev pub powerOf : Step → ℕ
 powerOf One = 10
 powerOf Three = 1000
 powerOf Four = 10000
 powerOf Five = 100000
+powerOf Half = 2000
 
-abbrev pub powerText : Decimals → List ℕ
-powerText One = codes "10"
-powerText Three = codes "1000"
-powerText Four = codes "10000"
-powerText Five = codes "100000"
+-- how many decimals are shown
+abbrev pub placesOf : Step → ℕ
+placesOf One = 1
+placesOf Three = 3
+placesOf Four = 4
+placesOf Five = 5
+placesOf Half = 4
+
+-- and the number whose last digits they are
+abbrev pub lastOf : Step → ℕ → ℕ
+lastOf One n = n
+lastOf Three n = n
+lastOf Four n = n
+lastOf Five n = n
+lastOf Half n = n % 2000 * 5
+
+abbrev pub unitText : Unit → List ℕ
+unitText unit.Gon = codes "gon"
+unitText unit.Degree = codes "deg"
+unitText unit.Mil = codes "mil"
+unitText unit.Millimetre = codes "mm"
+unitText unit.Metre = codes "m"
+unitText unit.Feet = codes "ft"
+unitText unit.Inch = codes "in"
+unitText unit.Ppm = codes "ppm"
+
+-- each unit's name is a part of it
+abbrev pub unitNames : List ℕ
+unitNames = codes "gondegmilmmftinppm"
 
 -- a sign and the fewest digits
-abbrev pub signedOf : Whole → List ℕ
-signedOf w = (signByte (w .minus) ∷ []) ++ decimalOf (w .size)
+abbrev pub signedOf : ℕ → ℕ → List ℕ
+signedOf m n = (signByte m ∷ []) ++ decimalOf n
 
--- a minus where there is one
-abbrev pub minusText : ℕ → List ℕ
-minusText m = cond (eqb m 0) [] (codes "-")
+-- ` count=+265965 step=1/`
+abbrev pub startText : ℕ → ℕ → List ℕ
+startText m n = (codes " count=" ++ signedOf m n) ++ codes " step=1/"
 
--- ` count=+265965 step=1/1000ft reads=265.965ft`
-abbrev pub measureText : Whole → Decimals → List ℕ → List ℕ
-measureText w d unit =
-    codes " count=" ++ (signedOf w ++ (codes " step=1/" ++ (powerText d ++ (unit ++ (codes " reads="
-    ++ (minusText (w .minus) ++ (decimalOf (w .size / powerOf d) ++ (codes "." ++ (digitsOf (placesOf d) (w .size) ++ unit)))))))))
+-- ` reads=`, and a minus where there is one
+abbrev pub readsSize : ℕ → ℕ
+readsSize m = cond (eqb m 0) 7 8
+
+abbrev pub readsText : ℕ → ℕ → List ℕ
+readsText m n = cond (eqb m 0) (codes " reads=") (codes " reads=-") ++ decimalOf n
+
+-- a mark, and the last k digits of n
+abbrev pub partText : ℕ → ℕ → ℕ → List ℕ
+partText mark k n = (mark ∷ []) ++ digitsOf k n
+
+-- ` count=+265965 step=1/1000ft reads=265.965ft`; inches with four decimals: ` count=+101981 step=1/2000in reads=50.9905in`
+abbrev pub measureText : ℕ → ℕ → Step → Unit → List ℕ
+measureText m n step u =
+    startText m n ++ (decimalOf (powerOf step) ++ (unitText u ++ (readsText m (n / powerOf step)
+    ++ (partText 46 (placesOf step) (lastOf step n) ++ unitText u))))
 
 -- degrees, minutes and seconds as D-MM-SS.T: ` count=+10075730 step=1/10s reads=279-52-53.0`
-abbrev pub tenthText : Whole → List ℕ
-tenthText w =
-    codes " count=" ++ (signedOf w ++ (codes " step=1/10s reads=" ++ (minusText (w .minus) ++ (decimalOf (w .size / 36000)
-    ++ (codes "-" ++ (digitsOf 2 (w .size / 600 % 60) ++ (codes "-" ++ (digitsOf 2 (w .size / 10 % 60) ++ (codes "." ++ digitsOf 1 (w .size % 10))))))))))
-
--- inches with four decimals: ` count=+101981 step=1/2000in reads=50.9905in`
-abbrev pub inchText : Whole → List ℕ
-inchText w =
-    codes " count=" ++ (signedOf w ++ (codes " step=1/2000in reads=" ++ (minusText (w .minus) ++ (decimalOf (w .size / 2000)
-    ++ (codes "." ++ (digitsOf 4 (w .size % 2000 * 5) ++ codes "in"))))))
+abbrev pub tenthText : ℕ → ℕ → List ℕ
+tenthText m n =
+    startText m n ++ (codes "10s" ++ (readsText m (n / 36000)
+    ++ (partText 45 2 (n / 600 % 60) ++ (partText 45 2 (n / 10 % 60) ++ partText 46 1 (n % 10)))))
 
 -- ` ppm=+9 mm=+0`
-abbrev pub pairText : Whole → Whole → List ℕ
-pairText ppm mm = codes " ppm=" ++ (signedOf ppm ++ (codes " mm=" ++ signedOf mm))
+abbrev pub pairText : ℕ → ℕ → ℕ → ℕ → List ℕ
+pairText m ppm m′ mm = (codes " ppm=" ++ signedOf m ppm) ++ (codes " mm=" ++ signedOf m′ mm)
 
 -- ` text=00000003`
-abbrev pub shownText : Bool → List ℕ → List ℕ
-shownText wide text = codes " text=" ++ take (width wide) text
+abbrev pub keyedText : Bool → List ℕ → List ℕ
+keyedText wide text = codes " text=" ++ take (width wide) text
 
 -- by what is counted; 58 counts 1/10 mm
+abbrev pub shownOf : ℕ → Count → Shown
+shownOf i count.Nothing = Nothing
+shownOf i count.Text = Text
+shownOf i (count.Gon c) = Measure (c .0 .minus) (c .0 .size) Five unit.Gon
+shownOf i (count.Degree c) = Measure (c .0 .minus) (c .0 .size) Five unit.Degree
+shownOf i (count.Tenth c) = Tenths (c .0 .minus) (c .0 .size)
+shownOf i (count.Mil c) = Measure (c .0 .minus) (c .0 .size) Four unit.Mil
+shownOf i (count.Metre c) =
+    cond (eqb i 58) (Measure (c .0 .minus) (c .0 .size) One unit.Millimetre) (Measure (c .0 .minus) (c .0 .size) (decimalsOf (c .1)) unit.Metre)
+shownOf i (count.Feet c) = Measure (c .0 .minus) (c .0 .size) (decimalsOf (c .1)) unit.Feet
+shownOf i (count.Inch c) = Measure (c .0 .minus) (c .0 .size) Half unit.Inch
+shownOf i (count.Ppm c) = Measure (c .0 .minus) (c .0 .size) Four unit.Ppm
+shownOf i (count.Pair p q) = Pair (p .minus) (p .size) (q .minus) (q .size)
+
+abbrev pub shownText : Bool → List ℕ → Shown → List ℕ
+shownText wide text Nothing = []
+shownText wide text Text = keyedText wide text
+shownText wide text (Measure m n step u) = measureText m n step u
+shownText wide text (Tenths m n) = tenthText m n
+shownText wide text (Pair m ppm m′ mm) = pairText m ppm m′ mm
+
 abbrev pub countText : Bool → Word → Count → List ℕ
-countText wide w Nothing = []
-countText wide w Text = shownText wide (w .text)
-countText wide w (Gon c) = measureText (c .0) Five (codes "gon")
-countText wide w (Degree c) = measureText (c .0) Five (codes "deg")
-countText wide w (Tenth c) = tenthText (c .0)
-countText wide w (Mil c) = measureText (c .0) Four (codes "mil")
-countText wide w (Metre c) = cond (eqb (w .index) 58) (measureText (c .0) One (codes "mm")) (measureText (c .0) (decimalsOf (c .1)) (codes "m"))
-countText wide w (Feet c) = measureText (c .0) (decimalsOf (c .1)) (codes "ft")
-countText wide w (Inch c) = inchText (c .0)
-countText wide w (Ppm c) = measureText (c .0) Four (codes "ppm")
-countText wide w (Pair p q) = pairText p q
+countText wide w k = shownText wide (w .text) (shownOf (w .index) k)
 
 -- of a record that no word of the family gives nothing is shown
 abbrev pub valueText : Family → Bool → Word → List ℕ

@@ -1,4 +1,4 @@
--- `put_pair` meets its contract: its four parts come to its text.
+-- `put_pair` meets its contract: its two parts come to its text.
 use borrow.Author.Needs.{needs}
 use Rattle.figures.proofs.Putting.{puts-more}
 use Rattle.measures.proofs.put_pair.Statement.{statement}
@@ -7,13 +7,7 @@ use Rattle.measures.proofs.put_pair.Tie as tie
 returns : tie.Need-returns
 returns c =
     let mm = c .before .before in
-    let key = mm .before .before .before .before in
-    let ppm = key .before .before .before .before .before in
-    let first = ppm .before .before .before .before in
-    puts-more _ _ _ _ (first .put .ensures)
-    (puts-more _ _ _ _ (ppm .put-whole .ensures)
-    (puts-more _ _ _ _ (key .put2 .ensures)
-    (mm .put-whole2 .ensures)))
+    puts-more _ _ _ _ (mm .before .before .before .before .before .put-whole .ensures) (mm .put-whole2 .ensures)
 
 pub put-pair-spec : {M : Type 1} → statement M
 put-pair-spec =
@@ -21,9 +15,7 @@ put-pair-spec =
     (tie.spec
     (λ c. search needs)
     (λ c κs. search needs)
-    (λ c κs. search needs)
     (λ c. search needs)
-    (λ c κs. search needs)
     (λ c κs. search needs)
     (λ c. search needs)
     returns)
