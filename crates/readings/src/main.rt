@@ -10,6 +10,7 @@ use blocks::judging::judge;
 use figures::run_before;
 use instrument::settings::Series;
 use libc::STDOUT_FILENO;
+use lines::machine::Told;
 use lines::machine::line;
 use lines::verdicts::Verdict;
 use lines::verdicts::verdict_byte;
@@ -80,9 +81,14 @@ fn judge_block(family: Family, block: &[u8]) {
     put(b"\n");
 }
 
-fn send_line(image: &mut [u8], text: &[u8]) {
+// The line on the image, with room for the longest reply.
+fn answer(image: &mut [u8], text: &[u8]) -> Told {
     let mut reply = [0; 306];
-    let told = line(image, text, &mut reply);
+    line(image, text, &mut reply)
+}
+
+fn send_line(image: &mut [u8], text: &[u8]) {
+    let told = answer(image, text);
     let verdict = told.verdict;
     put_verdict(verdict);
     tell(b" reply=", told.count as u64);
@@ -157,8 +163,7 @@ fn send_often(image: &mut [u8], text: &[u8], times: usize) -> usize {
     let mut accepted = 0;
     let mut i = 0;
     while i < times {
-        let mut reply = [0; 306];
-        let told = line(image, text, &mut reply);
+        let told = answer(image, text);
         let verdict = told.verdict;
         if verdict_number(verdict) == 0 {
             accepted += 1;

@@ -16,8 +16,8 @@ abbrev μ-loop : tie.MeasureT-loop
 
 loop-again : tie.Need-loop-again Inv-loop μ-loop
 loop-again c =
-    let at = c .before .before .before .before .before .before .before .before .before .loop in (
-      c .before .before .before .before .before .line .kept .0 ∙ at .inv .0,
+    let at = c .before .before .before .before .before .before .before .loop in (
+      c .before .before .before .before .answer .kept .0 ∙ at .inv .0,
       (omega arith, ⊎-elim (λ w. omega arith) (λ w. omega arith) (c .if1 .came)),
     )
 
@@ -31,7 +31,6 @@ send-often-spec =
     Inv-loop
     μ-loop
     (λ c. (refl, omega arith))
-    (λ c. search needs)
     (λ c κs. search needs)
     (λ c κs. search needs)
     (λ c. omega arith)
