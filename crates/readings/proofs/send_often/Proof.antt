@@ -9,10 +9,10 @@ use Rattle.readings.proofs.send_often.Statement.{statement}
 use Rattle.readings.proofs.send_often.Tie as tie
 
 abbrev Inv-loop : tie.InvT-loop
-Inv-loop image₀ text times accepted₀ i₀ image accepted i = (length image ≡ length image₀) × ((i ≤ times) × (accepted ≤ i))
+Inv-loop image₀ text accepted₀ i₀ image accepted i = (length image ≡ length image₀) × ((i ≤ 64) × (accepted ≤ i))
 
 abbrev μ-loop : tie.MeasureT-loop
-μ-loop image₀ text times accepted₀ i₀ image accepted i = times - i
+μ-loop image₀ text accepted₀ i₀ image accepted i = 64 - i
 
 loop-again : tie.Need-loop-again Inv-loop μ-loop
 loop-again c =

@@ -1,11 +1,11 @@
--- `readings::lines_on` ends: each turn starts past the row before it.
+-- `readings::run_rows` ends: each turn starts past the row before it.
 use Prim.Native.Nat.{_≤_, _+_, _-_}
 use mathlib.Core.Path.{_≡_, refl, _∙_}
 use native.Mathlib.Omega.{arith}
 use borrow.Author.Needs.{needs}
 use lib.ListN.{length}
-use Rattle.readings.proofs.lines_on.Statement.{statement}
-use Rattle.readings.proofs.lines_on.Tie as tie
+use Rattle.readings.proofs.run_rows.Statement.{statement}
+use Rattle.readings.proofs.run_rows.Tie as tie
 
 abbrev Inv-loop : tie.InvT-loop
 Inv-loop image₀ table at₀ image at = (length image ≡ length image₀) × (at ≤ length table + 1)
@@ -14,10 +14,10 @@ abbrev μ-loop : tie.MeasureT-loop
 μ-loop image₀ table at₀ image at = length table + 1 - at
 
 loop-again : tie.Need-loop-again Inv-loop μ-loop
-loop-again c = (c .before .before .send .kept .0 ∙ c .before .before .before .before .before .before .before .loop .inv .0, omega arith)
+loop-again c = (c .before .before .run-row .kept .0 ∙ c .before .before .before .before .before .before .before .loop .inv .0, omega arith)
 
-pub lines-on-spec : {M : Type 1} → statement M
-lines-on-spec =
+pub run-rows-spec : {M : Type 1} → statement M
+run-rows-spec =
     tie.close
     (tie.spec
     Inv-loop
