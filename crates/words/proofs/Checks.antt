@@ -16,12 +16,12 @@ use Rattle.figures.specs.declared.Said.the-variants as said
 use Rattle.units.specs.Kinds.{isTextual, kindOf, indexBy, areDigits, listedBy, indexRight, indexAt}
 use Rattle.units.specs.Information.{isSign, signRight, signOf, signAt}
 use Rattle.words.specs.Records.{width, textRight, isGraphic, isZero}
-use Rattle.words.specs.Reading.{wordSize, dataIn, dataRight, dataAt, ppmIn, underIn, mmIn, figuresIn, faulty, unless}
+use Rattle.words.specs.Reading.{wordSize, pos, dataIn, indexIn, kindAt, dataRight, dataAt, ppmIn, underIn, mmIn, figuresIn, faulty, unless, wordOf}
 use Rattle.words.specs.declared.reading.Fault.the-variants.{Index, Unlisted}
 use Rattle.words.specs.declared.reading.OneWord.{OneWord}
 use Rattle.figures.proofs.Bytes.{run-every, run-other}
 use Rattle.figures.proofs.Tests.{both, by-test}
-use Rattle.words.specs.Keeping.{pairAt, spelledAt}
+use Rattle.words.specs.Keeping.{pairAt, spelledAt, listedWord}
 use Rattle.units.specs.declared.kinds.Family.{Family}
 use Rattle.units.specs.declared.kinds.Kind.{Kind}
 use Rattle.units.specs.declared.kinds.Indexed.{Indexed}
@@ -169,6 +169,13 @@ data-length wide s h = length-take-le (width wide) (drop 7 s) (omega (arith, len
 pub data-part : (wide : Bool) (s : List ℕ) (n : ℕ) → n ≡ width wide → midOf 7 (7 + n - 7) s ≡ dataIn wide s
 data-part wide s n e = let q : 7 + n - 7 ≡ width wide = omega arith in rw q
 
+pub data-fits : (wide : Bool) (s : List ℕ) (n : ℕ) → n ≡ width wide → wordSize wide ≤ length s
+    → (4 ≤ length (midOf 7 (7 + n - 7) s)) × (length (midOf 7 (7 + n - 7) s) ≤ 16)
+data-fits wide s n e h =
+    let long : length (midOf 7 (7 + n - 7) s) ≡ width wide = rw (data-part wide s n e) (data-length wide s h) in
+    let some = width-bounds wide in
+    (omega arith, omega arith)
+
 pub spelled-by : (k : Kind) (d : List ℕ) → 4 ≤ length d → length d ≤ 16
     → spelledAt k d ≡ cond (dataRight k d) (spelled.Says (figuresIn k d)) spelled.Not
 spelled-by kind.Missing d h g = refl
@@ -179,22 +186,20 @@ spelled-by kind.Length d h g = rw (le-leb (length d) 16 g)
 spelled-by kind.Constant d h g = rw (le-leb (length d) 16 g)
 spelled-by kind.Pair d h g = rw (le-leb 4 (length d) h, le-leb (length d) 20 (omega arith))
 
-module _ (k : Kind) (wide : Bool) (s : List ℕ) (h : wordSize wide ≤ length s) where
-  spelled-data : spelledAt k (dataIn wide s) ≡ cond (dataRight k (dataIn wide s)) (spelled.Says (figuresIn k (dataIn wide s))) spelled.Not
-  spelled-data =
-      let long = data-length wide s h in
-      let bounds = width-bounds wide in
-      spelled-by k (dataIn wide s) (omega arith) (omega arith)
-
-  pub spelled-not : {r : Spelled} → r ≡ spelledAt k (dataIn wide s) → r ≡ spelled.Not → dataRight k (dataIn wide s) ≡ false
+module _ (k : Kind) (d : List ℕ) (h : 4 ≤ length d) (g : length d ≤ 16) where
+  pub spelled-not : {r : Spelled} → r ≡ spelledAt k d → r ≡ spelled.Not → dataRight k d ≡ false
   spelled-not e f =
-      refused (dataRight k (dataIn wide s)) (spelled.Says (figuresIn k (dataIn wide s))) spelled.Not (λ q. clash (cc)) (e ∙ spelled-data) f
+      refused (dataRight k d) (spelled.Says (figuresIn k d)) spelled.Not (λ q. clash (cc)) (e ∙ spelled-by k d h g) f
 
-  pub spelled-says : {r : Spelled} {y : Figures} → r ≡ spelledAt k (dataIn wide s) → r ≡ spelled.Says y
-      → (dataRight k (dataIn wide s) ≡ true) × (y ≡ figuresIn k (dataIn wide s))
+  pub spelled-says : {r : Spelled} {y : Figures} → r ≡ spelledAt k d → r ≡ spelled.Says y → (dataRight k d ≡ true) × (y ≡ figuresIn k d)
   spelled-says e f =
-      let ok = granted (dataRight k (dataIn wide s)) (spelled.Says (figuresIn k (dataIn wide s))) spelled.Not (λ q. clash (cc)) (e ∙ spelled-data) f in
+      let ok = granted (dataRight k d) (spelled.Says (figuresIn k d)) spelled.Not (λ q. clash (cc)) (e ∙ spelled-by k d h g) f in
       (ok .0, cc (ok .1))
+
+-- a word whose positions 1-3 are an index
+pub listed-by : (f : Family) (wide : Bool) (s : List ℕ) → wordSize wide ≤ length s → areDigits (pos 1 s) (pos 2 s) ≡ true
+    → listedBy f (pos 1 s) (pos 2 s) (pos 3 s) ≡ true → wordOf f wide s ≡ listedWord f wide (indexIn f s) (kindAt f s) s
+listed-by f wide s h d l = rw (le-leb (wordSize wide) (length s) h, d, l, data-length wide s h)
 
 -- all of a text is data
 all-data : (p q : ℕ → Bool) (n : ℕ) (t : List ℕ) → length t ≤ n → every p (take n t) && every q (drop n t) ≡ every p t

@@ -1,12 +1,14 @@
 -- How the code keeps what the other files define: the answers of the checks on data and separator, and a word's bytes in their room.
-use Prim.Native.Nat.{ℕ, _-_}
+use Prim.Native.Nat.{ℕ, _+_, _-_}
 use mathlib.Core.Bool.{cond, _&&_, Bool}
-use mathlib.Core.List.{List, _++_}
+use mathlib.Core.List.{List, [], _∷_, _++_}
 use lib.Dec.{eqb, leb}
-use lib.ListN.{length, replicate}
+use lib.ListN.{length, getD, replicate}
 use Rattle.figures.specs.Bytes.{every}
 use Rattle.figures.specs.Decimal.{isDigit, numberOf}
-use Rattle.words.specs.Records.{isGraphic, isRight}
+use Rattle.units.specs.Information.{infoMarks, allRight, firstWrong, leadOf, signOf, signRight}
+use Rattle.units.specs.Counts.{valueAt}
+use Rattle.words.specs.Records.{width, recordOf, isGraphic, isRight}
 use Rattle.units.specs.declared.kinds.Family.{Family}
 use Rattle.units.specs.declared.kinds.Kind.{Kind}
 use Rattle.units.specs.declared.kinds.Kind.the-variants as kind
@@ -15,7 +17,9 @@ use Rattle.words.specs.declared.reading.Spelled.{Spelled}
 use Rattle.words.specs.declared.reading.Spelled.the-variants as spelled
 use Rattle.words.specs.declared.reading.Parted.{Parted}
 use Rattle.words.specs.declared.reading.Parted.the-variants as parted
-use Rattle.words.specs.Reading.{dataRight, figuresIn, wordSize}
+use Rattle.words.specs.declared.reading.Fault.the-variants.{Information, Sign, Characters, Separator, Value}
+use Rattle.words.specs.declared.reading.OneWord.{OneWord}
+use Rattle.words.specs.Reading.{wordSize, pos, dataIn, dataRight, dataAt, figuresIn, textField, isCounted, countOr, rightWord, unless}
 use Rattle.words.specs.declared.records.Word.{Word}
 use Rattle.words.specs.declared.writing.Spelt.the-variants.{Not, Right}
 use Rattle.words.specs.declared.writing.Spelling.{Spelling}
@@ -41,6 +45,24 @@ spelledAt kind.Pair d = pairAt d
 
 abbrev pub partedAt : ℕ → Parted
 partedAt b = cond (eqb b 32) parted.Blank parted.Not
+
+-- what is left of `wordOf` where positions 1-7 are right, by what they say: index, kind, information, sign; then data and separator
+abbrev pub dataWord : ℕ → Kind → List ℕ → ℕ → List ℕ → ℕ → OneWord
+dataWord i k info m d b =
+    let value = valueAt k i (getD info 3 0) m (figuresIn k d) in
+    unless (dataRight k d) Characters (7 + dataAt k d)
+    (unless (eqb b 32) Separator (7 + length d)
+    (unless (isCounted value) Value 7
+    (rightWord (recordOf i info (countOr value) (textField k d)))))
+
+-- what is left of `wordOf` where positions 1-3 are an index of that kind: `listed-by`, in proofs/Checks.antt
+abbrev pub listedWord : Family → Bool → ℕ → Kind → List ℕ → OneWord
+listedWord f wide i k s =
+    let lead = leadOf f i (pos 3 s) in
+    let m = infoMarks f i k lead (pos 4 s) (pos 5 s) (pos 6 s) in
+    unless (allRight m) Information (2 + firstWrong m)
+    (unless (signRight k (pos 7 s)) Sign 6
+    (dataWord i k (lead ∷ pos 4 s ∷ pos 5 s ∷ pos 6 s ∷ []) (signOf (pos 7 s)) (dataIn wide s) (getD s (7 + width wide) 0)))
 
 -- from the start of 24 bytes, the rest 0
 abbrev pub bytesIn : Family → Bool → Word → List ℕ

@@ -5,8 +5,8 @@ ghost use Prim.Native.Nat.{_≤_};
 ghost use lib.ListN.{length};
 ghost use Rattle.units.specs.Kinds.{areDigits, firstOther};
 ghost use Rattle.words.specs.Records.{width};
-ghost use Rattle.words.specs.Reading.{faultNumber, faulty, unless, dataAt, textField, wordOf};
-ghost use Rattle.words.specs.Keeping.{digitsAt, pairAt, spelledAt, partedAt};
+ghost use Rattle.words.specs.Reading.{faultNumber, faulty, unless, wordSize, dataAt, textField, wordOf};
+ghost use Rattle.words.specs.Keeping.{digitsAt, pairAt, spelledAt, partedAt, dataWord, listedWord};
 use crate::records::Word;
 use crate::records::blank_word;
 use crate::records::record_of;
@@ -212,40 +212,65 @@ fn text_of(kind: Kind, s: &[u8]) -> [u8; 16]
     text
 }
 
-// The word of the family that stands at the start of s; Short where s has fewer bytes than a word of the width.
-pub fn read_word(s: &[u8], family: Family, wide: bool) -> OneWord
-    ensures { λ r. ⌜ r ≡ wordOf family wide (now (s .entry)) ⌝ }
+// The rest of a word whose positions 1-7 are right: its data, its blank and its value, and the record.
+fn read_data(index: u16, kind: Kind, info: [u8; 4], minus: u8, s: &[u8], last: u8) -> OneWord
+    requires { ⌜ (4 ≤ length (now s)) × (length (now s) ≤ 16) ⌝ }
+    ensures { λ r. ⌜ r ≡ dataWord index kind info minus (now (s .entry)) last ⌝ }
 {
-    let end = 7 + width_of(wide);
-    if s.len() <= end {
-        return wrong(Fault::Short, 0);
-    }
-    let Indexed::Listed(index, kind) = index_at(family, s[0], s[1], s[2]) else {
-        return no_index(s[0], s[1]);
+    let Spelled::Says(says) = spelled_at(kind, s) else {
+        return wrong(Fault::Characters, 7 + data_wrong(kind, s));
     };
-    let lead = lead_of(family, index, s[2]);
-    let Informed::Right = informed_by(family, index, kind, lead, s[3], s[4], s[5]) else {
-        let first = info_at(family, index, kind, lead, s[3], s[4], s[5]);
-        return wrong(Fault::Information, 2 + first);
+    let Parted::Blank = parted_at(last) else {
+        return wrong(Fault::Separator, 7 + s.len());
     };
-    let Signed::Sign(minus) = sign_at(kind, s[6]) else {
-        return wrong(Fault::Sign, 6);
-    };
-    let Spelled::Says(says) = spelled_at(kind, &s[7..end]) else {
-        let first = data_wrong(kind, &s[7..end]);
-        return wrong(Fault::Characters, 7 + first);
-    };
-    let Parted::Blank = parted_at(s[end]) else {
-        return wrong(Fault::Separator, end);
-    };
-    let Valued::Counted(count) = value_at(kind, index, s[5], minus, says) else {
+    let Valued::Counted(count) = value_at(kind, index, info[3], minus, says) else {
         return wrong(Fault::Value, 7);
     };
-    let text = text_of(kind, &s[7..end]);
-    let word = record_of(index, [lead, s[3], s[4], s[5]], count, text);
+    let text = text_of(kind, s);
+    let word = record_of(index, info, count, text);
     let answer = Judged::Right;
     OneWord {
         answer: answer,
         word: word,
     }
+}
+
+// The rest of a word whose positions 1-3 are an index of that kind: its information and its sign, and what follows.
+fn read_listed(s: &[u8], family: Family, wide: bool, index: u16, kind: Kind) -> OneWord
+    requires { ⌜ wordSize wide ≤ length (now s) ⌝ }
+    ensures { λ r. ⌜ r ≡ listedWord family wide index kind (now (s .entry)) ⌝ }
+{
+    let lead = lead_of(family, index, s[2]);
+    let mark = s[3];
+    let mode = s[4];
+    let unit = s[5];
+    let Informed::Right = informed_by(family, index, kind, lead, mark, mode, unit) else {
+        let first = info_at(family, index, kind, lead, mark, mode, unit);
+        return wrong(Fault::Information, 2 + first);
+    };
+    let Signed::Sign(minus) = sign_at(kind, s[6]) else {
+        return wrong(Fault::Sign, 6);
+    };
+    let end = 7 + width_of(wide);
+    read_data(
+        index,
+        kind,
+        [lead, mark, mode, unit],
+        minus,
+        &s[7..end],
+        s[end],
+    )
+}
+
+// The word of the family that stands at the start of s; Short where s has fewer bytes than a word of the width.
+pub fn read_word(s: &[u8], family: Family, wide: bool) -> OneWord
+    ensures { λ r. ⌜ r ≡ wordOf family wide (now (s .entry)) ⌝ }
+{
+    if s.len() <= 7 + width_of(wide) {
+        return wrong(Fault::Short, 0);
+    }
+    let Indexed::Listed(index, kind) = index_at(family, s[0], s[1], s[2]) else {
+        return no_index(s[0], s[1]);
+    };
+    read_listed(s, family, wide, index, kind)
 }
