@@ -1,5 +1,6 @@
 // The record that a word gives, as a host in C lends it, and the count that a record holds.
 ghost use mathlib.Core.Path.{_≡_};
+ghost use Rattle.words.specs.Keeping.{limitOf};
 ghost use Rattle.words.specs.Records.{blank, recordOf, countBy, countOf, tenTo, wholeRight, countRight, textRight, sameWhole, isRight, typedOf};
 use units::counts::Count;
 use units::counts::Whole;
@@ -71,20 +72,19 @@ pub(crate) fn count_by(w: Word, kind: Kind) -> Count
         size: w.size,
     };
     match kind {
-        Kind::Missing => Count::Nothing,
-        Kind::Numbered => Count::Text,
-        Kind::Text => Count::Text,
-        Kind::Angle => angle_of(unit, whole),
-        Kind::Length => length_of(unit, whole),
-        Kind::Constant => constant_of(w.index, whole),
-        Kind::Pair => {
-            let mm = Whole {
-                minus: w.mmminus,
-                size: w.mm,
-            };
-            Count::Pair(whole, mm)
-        }
+        Kind::Missing => return Count::Nothing,
+        Kind::Numbered => return Count::Text,
+        Kind::Text => return Count::Text,
+        Kind::Angle => return angle_of(unit, whole),
+        Kind::Length => return length_of(unit, whole),
+        Kind::Constant => return constant_of(w.index, whole),
+        Kind::Pair => {}
     }
+    let mm = Whole {
+        minus: w.mmminus,
+        size: w.mm,
+    };
+    Count::Pair(whole, mm)
 }
 
 // The count that a record says.
@@ -120,6 +120,19 @@ fn whole_right(whole: Whole, limit: u64) -> bool
     whole.size < limit
 }
 
+// The first number that a count of one number doesn't reach.
+fn limit_of(count: Count, wide: bool) -> u64
+    ensures { λ r. ⌜ r ≡ limitOf wide count ⌝ }
+{
+    match count {
+        Count::Gon(_) => 40_000_000,
+        Count::Degree(_) => 36_000_000,
+        Count::Tenth(_) => 12_960_000,
+        Count::Mil(_) => 64_000_000,
+        _ => ten_to(wide, false),
+    }
+}
+
 // Whether a word of the width can have the count.
 fn count_right(count: Count, wide: bool) -> bool
     ensures { λ r. ⌜ r ≡ countRight wide count ⌝ }
@@ -127,20 +140,13 @@ fn count_right(count: Count, wide: bool) -> bool
     match count {
         Count::Nothing => false,
         Count::Text => true,
-        Count::Gon(c) => whole_right(c.0, 40_000_000),
-        Count::Degree(c) => whole_right(c.0, 36_000_000),
-        Count::Tenth(c) => whole_right(c.0, 12_960_000),
-        Count::Mil(c) => whole_right(c.0, 64_000_000),
-        Count::Metre(c) => whole_right(c.0, ten_to(wide, false)),
-        Count::Feet(c) => whole_right(c.0, ten_to(wide, false)),
-        Count::Inch(c) => whole_right(c.0, ten_to(wide, false)),
-        Count::Ppm(c) => whole_right(c.0, ten_to(wide, false)),
         Count::Pair(ppm, mm) => {
             if !whole_right(ppm, ten_to(wide, true)) {
                 return false;
             }
             whole_right(mm, 1_000)
         }
+        _ => whole_right(first_of(count), limit_of(count, wide)),
     }
 }
 
