@@ -105,7 +105,7 @@ fn renew(image: &mut [u8]) {
     encode(factory(Series::Tps100), image);
 }
 
-// How often the line was accepted.
+// How often the line was accepted, of 64 times.
 fn send_often(image: &mut [u8], text: &[u8]) -> u64 {
     let mut accepted = 0;
     let mut i: u64 = 0;
@@ -165,6 +165,7 @@ fn run_rows(image: &mut [u8], table: &[u8]) {
     }
 }
 
+// The table has an image of its own, which is no state until a row renews it.
 fn run_table(table: &[u8]) {
     let mut image = [0; IMAGE_100];
     run_rows(&mut image, table);
