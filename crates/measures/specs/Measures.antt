@@ -19,9 +19,6 @@ use Rattle.measures.specs.declared.Unit.the-variants as unit
 use Rattle.measures.specs.declared.Shown.{Shown}
 use Rattle.measures.specs.declared.Shown.the-variants.{Nothing, Text, Measure, Tenths, Pair}
 
-abbrev pub indexDigits : ℕ → ℕ
-indexDigits i = cond (ltb i 100) 2 3
-
 -- index and information as positions 1-6 have them: `31 info=..01`, `331 info=106`
 abbrev pub indexText : ℕ → List ℕ → List ℕ
 indexText i info = cond (ltb i 100) (digitsOf 2 i ++ (codes " info=" ++ info)) (digitsOf 3 i ++ (codes " info=" ++ drop 1 info))
@@ -64,10 +61,6 @@ unitText unit.Feet = codes "ft"
 unitText unit.Inch = codes "in"
 unitText unit.Ppm = codes "ppm"
 
--- each unit's name is a part of it
-abbrev pub unitNames : List ℕ
-unitNames = codes "gondegmilmmftinppm"
-
 -- a sign and the fewest digits
 abbrev pub signedOf : ℕ → ℕ → List ℕ
 signedOf m n = (signByte m ∷ []) ++ decimalOf n
@@ -76,10 +69,7 @@ signedOf m n = (signByte m ∷ []) ++ decimalOf n
 abbrev pub startText : ℕ → ℕ → List ℕ
 startText m n = (codes " count=" ++ signedOf m n) ++ codes " step=1/"
 
--- ` reads=`, and a minus where there is one
-abbrev pub readsSize : ℕ → ℕ
-readsSize m = cond (eqb m 0) 7 8
-
+-- ` reads=`, a minus where there is one, and the whole part
 abbrev pub readsText : ℕ → ℕ → List ℕ
 readsText m n = cond (eqb m 0) (codes " reads=") (codes " reads=-") ++ decimalOf n
 

@@ -5,8 +5,9 @@ ghost use mathlib.Core.List.{_++_};
 ghost use lib.ListN.{take, drop};
 ghost use Rattle.figures.specs.Decimal.{digitsOf};
 ghost use Rattle.figures.specs.Rooms.{Puts};
-ghost use Rattle.measures.specs.Measures.{indexDigits, indexText, decimalsOf, powerOf, placesOf, lastOf, unitNames, unitText, signedOf, startText};
-ghost use Rattle.measures.specs.Measures.{readsSize, readsText, partText, measureText, tenthText, pairText, keyedText, shownOf, shownText, valueText};
+ghost use Rattle.measures.specs.Keeping.{indexDigits, unitNames, readsSize};
+ghost use Rattle.measures.specs.Measures.{indexText, decimalsOf, powerOf, placesOf, lastOf, unitText, signedOf, startText};
+ghost use Rattle.measures.specs.Measures.{readsText, partText, measureText, tenthText, pairText, keyedText, shownOf, shownText, valueText};
 use figures::casts::wide_index;
 use figures::rooms::put;
 use figures::rooms::put_decimal;
@@ -144,6 +145,7 @@ fn span_of(unit: Unit) -> Span
     }
 }
 
+// The names stand in one text, so that the checker goes through one byte string and not eight.
 fn put_unit(room: &mut [u8], at: usize, unit: Unit) -> usize
     ensures { λ r. ⌜ Puts (now (room .entry)) at (unitText unit) r (now (room .exit)) ⌝ }
 {
