@@ -154,9 +154,6 @@ module _ (d : List ℕ) (h : 4 ≤ length d) where
   pub mm-wrong : length d - 4 ≤ runOf isDigit (ppmIn d) → signRight kind.Pair (underIn d) ≡ true → dataAt kind.Pair d ≡ length d - 3 + runOf isDigit (mmIn d)
   mm-wrong far good = let is : isSign (underIn d) ≡ true = rw and-true at good in rw (ppm-right far, is)
 
-pub pair-short : (d : List ℕ) → length d < 4 → pairAt d ≡ spelled.Not
-pair-short d h = rw (lt-leb 4 (length d) h)
-
 -- the data of a word: no more than `number` takes, and no fewer than a pair has
 pub width-bounds : (wide : Bool) → (8 ≤ width wide) × (width wide ≤ 16)
 width-bounds true = (omega arith, omega arith)

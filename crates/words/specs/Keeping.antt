@@ -48,10 +48,10 @@ spelledAt kind.Pair d = pairAt d
 abbrev pub partedAt : ℕ → Parted
 partedAt b = cond (eqb b 32) parted.Blank parted.Not
 
--- what is left of `wordOf` where positions 1-7 are right, by what they say: index, kind, information, sign; then data and separator
-abbrev pub dataWord : ℕ → Kind → List ℕ → ℕ → List ℕ → ℕ → OneWord
-dataWord i k info m d b =
-    let value = valueAt k i (getD info 3 0) m (figuresIn k d) in
+-- what is left of `wordOf` where positions 1-7 are right, by what they say: index, kind, information, unit, sign; then data and separator
+abbrev pub dataWord : ℕ → Kind → List ℕ → ℕ → ℕ → List ℕ → ℕ → OneWord
+dataWord i k info u m d b =
+    let value = valueAt k i u m (figuresIn k d) in
     unless (dataRight k d) Characters (7 + dataAt k d)
     (unless (eqb b 32) Separator (7 + length d)
     (unless (isCounted value) Value 7
@@ -64,7 +64,7 @@ listedWord f wide i k s =
     let m = infoMarks f i k lead (pos 4 s) (pos 5 s) (pos 6 s) in
     unless (allRight m) Information (2 + firstWrong m)
     (unless (signRight k (pos 7 s)) Sign 6
-    (dataWord i k (lead ∷ pos 4 s ∷ pos 5 s ∷ pos 6 s ∷ []) (signOf (pos 7 s)) (dataIn wide s) (getD s (7 + width wide) 0)))
+    (dataWord i k (lead ∷ pos 4 s ∷ pos 5 s ∷ pos 6 s ∷ []) (pos 6 s) (signOf (pos 7 s)) (dataIn wide s) (getD s (7 + width wide) 0)))
 
 -- the first number that a count of one number doesn't reach; proofs/records/count_right/Proof.antt shows that it is what `countRight` asks
 abbrev pub limitOf : Bool → Count → ℕ

@@ -119,11 +119,9 @@ fn digits_at(s: &[u8]) -> Spelled
 
 // A pair: digits, a sign, three digits.
 fn pair_at(s: &[u8]) -> Spelled
+    requires { ⌜ 4 ≤ length (now s) ⌝ }
     ensures { λ r. ⌜ r ≡ pairAt (now (s .entry)) ⌝ }
 {
-    if s.len() < 4 {
-        return Spelled::Not;
-    }
     let at = s.len() - 4;
     let figures::Said::Number(ppm) = figures::number(&s[0..at]) else {
         return Spelled::Not;
@@ -141,6 +139,7 @@ fn pair_at(s: &[u8]) -> Spelled
 
 // The data of a word of that kind.
 fn spelled_at(kind: Kind, s: &[u8]) -> Spelled
+    requires { ⌜ 4 ≤ length (now s) ⌝ }
     ensures { λ r. ⌜ r ≡ spelledAt kind (now (s .entry)) ⌝ }
 {
     match kind {
@@ -213,9 +212,17 @@ fn text_of(kind: Kind, s: &[u8]) -> [u8; 16]
 }
 
 // The rest of a word whose positions 1-7 are right: its data, its blank and its value, and the record.
-fn read_data(index: u16, kind: Kind, info: [u8; 4], minus: u8, s: &[u8], last: u8) -> OneWord
+fn read_data(
+    index: u16,
+    kind: Kind,
+    info: [u8; 4],
+    unit: u8,
+    minus: u8,
+    s: &[u8],
+    last: u8,
+) -> OneWord
     requires { ⌜ (4 ≤ length (now s)) × (length (now s) ≤ 16) ⌝ }
-    ensures { λ r. ⌜ r ≡ dataWord index kind info minus (now (s .entry)) last ⌝ }
+    ensures { λ r. ⌜ r ≡ dataWord index kind info unit minus (now (s .entry)) last ⌝ }
 {
     let Spelled::Says(says) = spelled_at(kind, s) else {
         return wrong(Fault::Characters, 7 + data_wrong(kind, s));
@@ -223,7 +230,7 @@ fn read_data(index: u16, kind: Kind, info: [u8; 4], minus: u8, s: &[u8], last: u
     let Parted::Blank = parted_at(last) else {
         return wrong(Fault::Separator, 7 + s.len());
     };
-    let Valued::Counted(count) = value_at(kind, index, info[3], minus, says) else {
+    let Valued::Counted(count) = value_at(kind, index, unit, minus, says) else {
         return wrong(Fault::Value, 7);
     };
     let text = text_of(kind, s);
@@ -256,6 +263,7 @@ fn read_listed(s: &[u8], family: Family, wide: bool, index: u16, kind: Kind) -> 
         index,
         kind,
         [lead, mark, mode, unit],
+        unit,
         minus,
         &s[7..end],
         s[end],

@@ -1,5 +1,6 @@
 // The record that a word gives, as a host in C lends it, and the count that a record holds.
 ghost use mathlib.Core.Path.{_≡_};
+ghost use lib.ListN.{length};
 ghost use Rattle.words.specs.Keeping.{limitOf};
 ghost use Rattle.words.specs.Records.{blank, recordOf, countBy, countOf, tenTo, wholeRight, countRight, textRight, sameWhole, isRight, typedOf};
 use units::counts::Count;
@@ -151,14 +152,15 @@ fn count_right(count: Count, wide: bool) -> bool
 }
 
 // Whether a word of that kind and width can have the text.
-fn text_right(kind: Kind, text: [u8; 16], wide: bool) -> bool
-    ensures { λ r. ⌜ r ≡ textRight wide kind text ⌝ }
+fn text_right(kind: Kind, text: &[u8], wide: bool) -> bool
+    requires { ⌜ length (now text) ≡ 16 ⌝ }
+    ensures { λ r. ⌜ r ≡ textRight wide kind (now (text .entry)) ⌝ }
 {
     if !textual(kind) {
-        return figures::all_within(&text, 0, 0);
+        return figures::all_within(text, 0, 0);
     }
     if wide {
-        return figures::all_within(&text, 33, 126);
+        return figures::all_within(text, 33, 126);
     }
     if !figures::all_within(&text[0..8], 33, 126) {
         return false;
@@ -195,7 +197,7 @@ pub fn right(w: Word, family: Family, wide: bool) -> bool
     if !same_whole(second_of(count), w.mmminus, w.mm) {
         return false;
     }
-    text_right(kind, text, wide)
+    text_right(kind, &text, wide)
 }
 
 // The typed count of a record; Nothing where no word of the family gives the record, of either width.

@@ -40,7 +40,7 @@ module _ (f : Family) (wide : Bool) (i : ℕ) (k : Kind) (s : List ℕ) {lead : 
     sign none is = rw (← led, good, sign-not k (pos 7 s) h none) is
 
     rest : {m n : ℕ} {r : OneWord} → g ≡ signed.Sign m → n ≡ width wide
-        → r ≡ dataWord i k (lead ∷ pos 4 s ∷ pos 5 s ∷ pos 6 s ∷ []) m (midOf 7 (7 + n - 7) s) (getD s (7 + n) 0) → r ≡ listedWord f wide i k s
+        → r ≡ dataWord i k (lead ∷ pos 4 s ∷ pos 5 s ∷ pos 6 s ∷ []) (pos 6 s) m (midOf 7 (7 + n - 7) s) (getD s (7 + n) 0) → r ≡ listedWord f wide i k s
     rest {n = n} some w is =
         let under = sign-is k (pos 7 s) h some in
         rw (← led, good, under .0, ← under .1, ← data-part wide s n w, ← w) is
