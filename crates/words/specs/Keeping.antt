@@ -1,6 +1,6 @@
 -- How the code keeps what the other files define: the answers of the checks on data and separator, and a word's bytes in their room.
 use Prim.Native.Nat.{ℕ, _+_, _-_}
-use mathlib.Core.Bool.{Bool, false, cond, _&&_}
+use mathlib.Core.Bool.{Bool, cond, _&&_}
 use mathlib.Core.List.{List, [], _∷_, _++_}
 use lib.Dec.{eqb, leb}
 use lib.ListN.{length, getD, replicate}
@@ -8,12 +8,10 @@ use Rattle.figures.specs.Bytes.{every}
 use Rattle.figures.specs.Decimal.{isDigit, numberOf}
 use Rattle.units.specs.Information.{infoMarks, allRight, firstWrong, leadOf, signOf, signRight}
 use Rattle.units.specs.Counts.{valueAt}
-use Rattle.words.specs.Records.{width, recordOf, tenTo, isGraphic, isRight}
+use Rattle.words.specs.Records.{width, recordOf, isGraphic, isRight}
 use Rattle.units.specs.declared.kinds.Family.{Family}
 use Rattle.units.specs.declared.kinds.Kind.{Kind}
 use Rattle.units.specs.declared.kinds.Kind.the-variants as kind
-use Rattle.units.specs.declared.counts.Count.{Count}
-use Rattle.units.specs.declared.counts.Count.the-variants as count
 use Rattle.units.specs.declared.counts.Figures.the-variants as figures
 use Rattle.words.specs.declared.reading.Spelled.{Spelled}
 use Rattle.words.specs.declared.reading.Spelled.the-variants as spelled
@@ -65,20 +63,6 @@ listedWord f wide i k s =
     unless (allRight m) Information (2 + firstWrong m)
     (unless (signRight k (pos 7 s)) Sign 6
     (dataWord i k (lead ∷ pos 4 s ∷ pos 5 s ∷ pos 6 s ∷ []) (pos 6 s) (signOf (pos 7 s)) (dataIn wide s) (getD s (7 + width wide) 0)))
-
--- the first number that a count of one number doesn't reach; proofs/records/count_right/Proof.antt shows that it is what `countRight` asks
-abbrev pub limitOf : Bool → Count → ℕ
-limitOf wide count.Nothing = tenTo wide false
-limitOf wide count.Text = tenTo wide false
-limitOf wide (count.Gon c) = 40000000
-limitOf wide (count.Degree c) = 36000000
-limitOf wide (count.Tenth c) = 12960000
-limitOf wide (count.Mil c) = 64000000
-limitOf wide (count.Metre c) = tenTo wide false
-limitOf wide (count.Feet c) = tenTo wide false
-limitOf wide (count.Inch c) = tenTo wide false
-limitOf wide (count.Ppm c) = tenTo wide false
-limitOf wide (count.Pair p q) = tenTo wide false
 
 -- from the start of 24 bytes, the rest 0
 abbrev pub bytesIn : Family → Bool → Word → List ℕ

@@ -61,17 +61,31 @@ tenTo wide pair = 10 ^ cond pair (width wide - 4) (width wide)
 abbrev pub wholeRight : Whole → ℕ → Bool
 wholeRight w limit = leb (w .minus) 1 && ltb (w .size) limit
 
+-- the first number that a count of one number doesn't reach: the end of an angle's range, or a number with more digits than the word has
+abbrev pub limitOf : Bool → Count → ℕ
+limitOf wide Nothing = tenTo wide false
+limitOf wide Text = tenTo wide false
+limitOf wide (Gon c) = 40000000
+limitOf wide (Degree c) = 36000000
+limitOf wide (Tenth c) = 12960000
+limitOf wide (Mil c) = 64000000
+limitOf wide (Metre c) = tenTo wide false
+limitOf wide (Feet c) = tenTo wide false
+limitOf wide (Inch c) = tenTo wide false
+limitOf wide (Ppm c) = tenTo wide false
+limitOf wide (Pair p q) = tenTo wide false
+
 abbrev pub countRight : Bool → Count → Bool
 countRight wide Nothing = false
 countRight wide Text = true
-countRight wide (Gon c) = wholeRight (c .0) 40000000
-countRight wide (Degree c) = wholeRight (c .0) 36000000
-countRight wide (Tenth c) = wholeRight (c .0) 12960000
-countRight wide (Mil c) = wholeRight (c .0) 64000000
-countRight wide (Metre c) = wholeRight (c .0) (tenTo wide false)
-countRight wide (Feet c) = wholeRight (c .0) (tenTo wide false)
-countRight wide (Inch c) = wholeRight (c .0) (tenTo wide false)
-countRight wide (Ppm c) = wholeRight (c .0) (tenTo wide false)
+countRight wide (Gon c) = wholeRight (c .0) (limitOf wide (Gon c))
+countRight wide (Degree c) = wholeRight (c .0) (limitOf wide (Degree c))
+countRight wide (Tenth c) = wholeRight (c .0) (limitOf wide (Tenth c))
+countRight wide (Mil c) = wholeRight (c .0) (limitOf wide (Mil c))
+countRight wide (Metre c) = wholeRight (c .0) (limitOf wide (Metre c))
+countRight wide (Feet c) = wholeRight (c .0) (limitOf wide (Feet c))
+countRight wide (Inch c) = wholeRight (c .0) (limitOf wide (Inch c))
+countRight wide (Ppm c) = wholeRight (c .0) (limitOf wide (Ppm c))
 countRight wide (Pair p q) = wholeRight p (tenTo wide true) && wholeRight q 1000
 
 -- "Text is bytes 33 to 126"

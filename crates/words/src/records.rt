@@ -1,8 +1,7 @@
 // The record that a word gives, as a host in C lends it, and the count that a record holds.
 ghost use mathlib.Core.Path.{_≡_};
 ghost use lib.ListN.{length};
-ghost use Rattle.words.specs.Keeping.{limitOf};
-ghost use Rattle.words.specs.Records.{blank, recordOf, countBy, countOf, tenTo, wholeRight, countRight, textRight, sameWhole, isRight, typedOf};
+ghost use Rattle.words.specs.Records.{blank, recordOf, countBy, countOf, tenTo, wholeRight, limitOf, countRight, textRight, sameWhole, isRight, typedOf};
 use units::counts::Count;
 use units::counts::Whole;
 use units::counts::angle_of;

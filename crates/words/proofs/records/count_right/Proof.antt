@@ -11,8 +11,7 @@ use Rattle.units.specs.Counts.{firstOf}
 use Rattle.units.specs.declared.counts.Count.{Count}
 use Rattle.units.specs.declared.counts.Count.the-variants.{Nothing, Text, Gon, Degree, Tenth, Mil, Metre, Feet, Inch, Ppm, Pair}
 use Rattle.units.proofs.counts.Count.{the-type}
-use Rattle.words.specs.Records.{wholeRight, countRight}
-use Rattle.words.specs.Keeping.{limitOf}
+use Rattle.words.specs.Records.{wholeRight, limitOf, countRight}
 use Rattle.words.proofs.records.count_right.Statement.{statement}
 use Rattle.words.proofs.records.count_right.Tie as tie
 

@@ -8,8 +8,7 @@ use borrow.Author.Needs.{needs}
 use Rattle.units.specs.declared.counts.Count.{Count}
 use Rattle.units.specs.declared.counts.Count.the-variants.{Nothing, Text, Gon, Degree, Tenth, Mil, Metre, Feet, Inch, Ppm, Pair}
 use Rattle.units.proofs.counts.Count.{the-type}
-use Rattle.words.specs.Records.{tenTo}
-use Rattle.words.specs.Keeping.{limitOf}
+use Rattle.words.specs.Records.{tenTo, limitOf}
 use Rattle.words.proofs.records.limit_of.Statement.{statement}
 use Rattle.words.proofs.records.limit_of.Tie as tie
 
