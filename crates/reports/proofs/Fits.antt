@@ -10,9 +10,10 @@ use lib.Dec.{eqb}
 use lib.ListN.{length, take, drop, length-append, length-map, length-take, length-replicate}
 use lib.Seq.{take-at}
 use Rattle.figures.proofs.Bytes.{laid-fits}
+use Rattle.figures.specs.Decimal.{placesBy, places}
 use Rattle.figures.proofs.Decimal.{digits-length}
 use Rattle.units.specs.declared.kinds.Family.{Family}
-use Rattle.words.specs.Records.{isRight}
+use Rattle.words.specs.Records.{isRight, width}
 use Rattle.words.specs.declared.records.Word.{Word}
 use Rattle.blocks.specs.Answers.{refusalNumber, refusalTells}
 use Rattle.blocks.specs.Judging.{judged}
@@ -24,7 +25,7 @@ use Rattle.blocks.specs.declared.answers.Answer.the-variants.{Refused, Read}
 use Rattle.blocks.proofs.Accepted.{accepted}
 use Rattle.blocks.proofs.Counts.{judged-by}
 use Rattle.measures.proofs.Fits.{value-short, index-short}
-use Rattle.reports.specs.Piece.{wordText, wordsText, headText, widthText, endText, readingText, refusalText, whereText, answerText, reportOf, Reports}
+use Rattle.reports.specs.Piece.{wordText, wordsText, headText, endText, readingText, refusalText, whereText, answerText, reportOf, Reports}
 use Rattle.reports.specs.declared.piece.Reported.{Reported}
 use Rattle.figures.proofs.Places.{places-most}
 
@@ -54,7 +55,8 @@ refusal-short r = simp (length-append, digits-length) (omega (arith, places-most
 where-short : (piece : List ℕ) (place : ℕ) → place ≤ 769 → length (whereText piece place) ≤ 1542
 where-short piece place h = simp (length-append, length-map, length-take, length-replicate) (omega arith)
 
-width-short : (wide : Bool) → length (widthText wide) ≤ 9
+width-short : (wide : Bool) → places (width wide) ≤ 2
+unfolding placesBy
 width-short true = omega arith
 width-short false = omega arith
 

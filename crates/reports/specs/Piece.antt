@@ -1,6 +1,7 @@
 -- What is printed of a piece: `at` is its start in the file, `place` the refusal's place in the block, and under the block's text a caret at that
 -- place; of a refused block never a value.
 use Prim.Native.Nat.{ℕ, suc, min}
+use Prim.Native.String.{String}
 use mathlib.Core.Path.{_≡_}
 use mathlib.Core.Bool.{Bool, true, false, cond}
 use mathlib.Core.List.{List, [], _∷_, _++_, map}
@@ -10,6 +11,7 @@ use Rattle.figures.specs.Bytes.{runOf, isOther}
 use Rattle.figures.specs.Pointing.{shown, caretText}
 use Rattle.figures.specs.Decimal.{decimalOf}
 use Rattle.units.specs.declared.kinds.Family.{Family}
+use Rattle.words.specs.Records.{width}
 use Rattle.words.specs.declared.records.Word.{Word}
 use Rattle.blocks.specs.Answers.{refusalNumber, refusalTells}
 use Rattle.blocks.specs.Judging.{judged}
@@ -21,10 +23,17 @@ use Rattle.figures.specs.Rooms.{Puts}
 use Rattle.measures.specs.Measures.{indexText, valueText}
 use Rattle.reports.specs.declared.piece.Reported.{Reported}
 
+-- a key, and a number in its fewest digits
+abbrev pub fieldText : String → ℕ → List ℕ
+fieldText key n = codes key ++ decimalOf n
+
+-- `word=4 index=31 info=..01`
+abbrev pub nameText : ℕ → ℕ → List ℕ → List ℕ
+nameText k i info = fieldText "word=" k ++ (codes " index=" ++ indexText i info)
+
 -- `word=4 index=31 info=..01 count=+265965 step=1/1000ft reads=265.965ft` and LF
 abbrev pub wordText : Family → ℕ → Bool → Word → List ℕ
-wordText f k wide w =
-    codes "word=" ++ (decimalOf k ++ (codes " index=" ++ (indexText (w .index) (w .info) ++ (valueText f wide w ++ codes "\n"))))
+wordText f k wide w = nameText k (w .index) (w .info) ++ (valueText f wide w ++ codes "\n")
 
 -- the words, numbered from k on
 unfoldable pub wordsText : Family → ℕ → Bool → List Word → List ℕ
@@ -33,24 +42,26 @@ wordsText f k wide (w ∷ ws) = wordText f k wide w ++ wordsText f (suc k) wide 
 
 -- `block=1 at=0`
 abbrev pub headText : ℕ → ℕ → List ℕ
-headText number at = codes "block=" ++ (decimalOf number ++ (codes " at=" ++ decimalOf at))
-
--- ` width=16` or ` width=8`
-abbrev pub widthText : Bool → List ℕ
-widthText wide = cond wide (codes " width=16") (codes " width=8")
+headText number at = fieldText "block=" number ++ fieldText " at=" at
 
 -- ` end=CRLF` or ` end=CR`
 abbrev pub endText : Bool → List ℕ
 endText crlf = cond crlf (codes " end=CRLF") (codes " end=CR")
 
+abbrev pub endSize : Bool → ℕ
+endSize crlf = cond crlf 9 7
+
+-- ` width=8 end=CRLF`
+abbrev pub formText : Bool → Bool → List ℕ
+formText wide crlf = fieldText " width=" (width wide) ++ endText crlf
+
 -- ` width=8 end=CRLF words=5 bytes=82` and LF
 abbrev pub readingText : Reading → List ℕ
-readingText r =
-    widthText (r .wide) ++ (endText (r .crlf) ++ (codes " words=" ++ (decimalOf (r .words) ++ (codes " bytes=" ++ (decimalOf (r .used) ++ codes "\n")))))
+readingText r = formText (r .wide) (r .crlf) ++ (fieldText " words=" (r .words) ++ (fieldText " bytes=" (r .used) ++ codes "\n"))
 
 -- ` refused=10 place=16` and LF
 abbrev pub refusalText : Refusal → List ℕ
-refusalText r = codes " refused=" ++ (decimalOf (refusalNumber r) ++ (codes " place=" ++ (decimalOf (refusalTells r) ++ codes "\n")))
+refusalText r = fieldText " refused=" (refusalNumber r) ++ (fieldText " place=" (refusalTells r) ++ codes "\n")
 
 -- the text of a refused block up to its end: what comes before the first CR, and no more than the longest block has there and the byte in its CR's place
 abbrev pub textMost : ℕ
@@ -83,4 +94,4 @@ Reports f number at piece room r room′ =
 -- `blocks=2 accepted=1 refused=1` and LF
 abbrev pub tallyText : ℕ → ℕ → ℕ → List ℕ
 tallyText blocks accepted refused =
-    codes "blocks=" ++ (decimalOf blocks ++ (codes " accepted=" ++ (decimalOf accepted ++ (codes " refused=" ++ (decimalOf refused ++ codes "\n")))))
+    fieldText "blocks=" blocks ++ (fieldText " accepted=" accepted ++ (fieldText " refused=" refused ++ codes "\n"))

@@ -1,9 +1,11 @@
 // The lines that are printed of a piece of a file.
 ghost use mathlib.Core.Path.{_≡_};
 ghost use Prim.Native.Nat.{_≤_};
+ghost use mathlib.Core.List.{_++_};
 ghost use lib.ListN.{take, length};
+ghost use Rattle.figures.specs.Decimal.{decimalOf};
 ghost use Rattle.figures.specs.Rooms.{Puts};
-ghost use Rattle.reports.specs.Piece.{wordText, wordsText, headText, readingText, refusalText, whereText, tallyText, Reports};
+ghost use Rattle.reports.specs.Piece.{nameText, wordText, wordsText, headText, endSize, formText, readingText, refusalText, whereText, tallyText, Reports};
 use blocks::answers::Answer;
 use blocks::answers::Reading;
 use blocks::answers::Refusal;
@@ -19,6 +21,7 @@ use figures::run_before;
 use measures::put_index;
 use measures::put_value;
 use units::kinds::Family;
+use words::reading::width_of;
 use words::records::Word;
 
 // Room enough for the report of any piece.
@@ -33,16 +36,30 @@ pub struct Reported {
     pub accepted: bool,
 }
 
+// A key, and a number in its fewest digits.
+fn put_field(room: &mut [u8], at: usize, key: &[u8], n: u64) -> usize
+    ensures { λ r. ⌜ Puts (now (room .entry)) at (now (key .entry) ++ decimalOf n) r (now (room .exit)) ⌝ }
+{
+    let next = put(room, at, key);
+    put_decimal(room, next, n)
+}
+
+// The start of a word's line, up to its value.
+fn put_name(room: &mut [u8], at: usize, number: usize, index: u16, info: [u8; 4]) -> usize
+    ensures { λ r. ⌜ Puts (now (room .entry)) at (nameText number index info) r (now (room .exit)) ⌝ }
+{
+    let after_number = put_field(room, at, b"word=", wide_count(number));
+    let after_key = put(room, after_number, b" index=");
+    put_index(room, after_key, index, info)
+}
+
 // One word's line.
 fn put_word(room: &mut [u8], at: usize, number: usize, w: Word, family: Family, wide: bool) -> usize
     ensures { λ r. ⌜ Puts (now (room .entry)) at (wordText family number wide w) r (now (room .exit)) ⌝ }
 {
     let info = w.info;
-    let after_key = put(room, at, b"word=");
-    let after_number = put_decimal(room, after_key, wide_count(number));
-    let after_name = put(room, after_number, b" index=");
-    let after_index = put_index(room, after_name, w.index, info);
-    let after_value = put_value(room, after_index, w, family, wide);
+    let after_name = put_name(room, at, number, w.index, info);
+    let after_value = put_value(room, after_name, w, family, wide);
     put(room, after_value, b"\n")
 }
 
@@ -70,40 +87,43 @@ fn put_words(
 fn put_head(room: &mut [u8], number: u64, place: u64) -> usize
     ensures { λ r. ⌜ Puts (now (room .entry)) 0 (headText number place) r (now (room .exit)) ⌝ }
 {
-    let after_key = put(room, 0, b"block=");
-    let after_number = put_decimal(room, after_key, number);
-    let after_at = put(room, after_number, b" at=");
-    put_decimal(room, after_at, place)
+    let after_number = put_field(room, 0, b"block=", number);
+    put_field(room, after_number, b" at=", place)
+}
+
+// How long the name of a block's end is with its key.
+fn end_size(crlf: bool) -> usize
+    ensures { λ r. ⌜ r ≡ endSize crlf ⌝ }
+{
+    if crlf { 9 } else { 7 }
+}
+
+// The form of a block: its width and its end.
+fn put_form(room: &mut [u8], at: usize, wide: bool, crlf: bool) -> usize
+    ensures { λ r. ⌜ Puts (now (room .entry)) at (formText wide crlf) r (now (room .exit)) ⌝ }
+{
+    let end = *b" end=CRLF";
+    let n = end_size(crlf);
+    let after_width = put_field(room, at, b" width=", wide_count(width_of(wide)));
+    put(room, after_width, &end[0..n])
 }
 
 fn put_reading(room: &mut [u8], at: usize, reading: Reading) -> usize
     ensures { λ r. ⌜ Puts (now (room .entry)) at (readingText reading) r (now (room .exit)) ⌝ }
 {
-    let after_width = if reading.wide {
-        put(room, at, b" width=16")
-    } else {
-        put(room, at, b" width=8")
-    };
-    let after_end = if reading.crlf {
-        put(room, after_width, b" end=CRLF")
-    } else {
-        put(room, after_width, b" end=CR")
-    };
-    let after_words = put(room, after_end, b" words=");
-    let after_count = put_decimal(room, after_words, wide_count(reading.words));
-    let after_bytes = put(room, after_count, b" bytes=");
-    let after_used = put_decimal(room, after_bytes, wide_count(reading.used));
-    put(room, after_used, b"\n")
+    let after_form = put_form(room, at, reading.wide, reading.crlf);
+    let after_words = put_field(room, after_form, b" words=", wide_count(reading.words));
+    let after_bytes = put_field(room, after_words, b" bytes=", wide_count(reading.used));
+    put(room, after_bytes, b"\n")
 }
 
 fn put_refusal(room: &mut [u8], at: usize, refusal: Refusal) -> usize
     ensures { λ r. ⌜ Puts (now (room .entry)) at (refusalText refusal) r (now (room .exit)) ⌝ }
 {
-    let after_key = put(room, at, b" refused=");
-    let after_number = put_decimal(room, after_key, refusal_number(refusal));
-    let after_place = put(room, after_number, b" place=");
-    let after_told = put_decimal(room, after_place, wide_count(refusal_tells(refusal)));
-    put(room, after_told, b"\n")
+    let place = wide_count(refusal_tells(refusal));
+    let after_number = put_field(room, at, b" refused=", refusal_number(refusal));
+    let after_place = put_field(room, after_number, b" place=", place);
+    put(room, after_place, b"\n")
 }
 
 // The text of a refused piece, and under it the byte.
@@ -154,11 +174,8 @@ pub fn report(family: Family, number: u64, place: u64, piece: &[u8], room: &mut 
 pub fn tally(blocks: u64, accepted: u64, refused: u64, room: &mut [u8]) -> usize
     ensures { λ r. ⌜ Puts (now (room .entry)) 0 (tallyText blocks accepted refused) r (now (room .exit)) ⌝ }
 {
-    let after_key = put(room, 0, b"blocks=");
-    let after_blocks = put_decimal(room, after_key, blocks);
-    let after_accepted = put(room, after_blocks, b" accepted=");
-    let after_yes = put_decimal(room, after_accepted, accepted);
-    let after_refused = put(room, after_yes, b" refused=");
-    let after_no = put_decimal(room, after_refused, refused);
-    put(room, after_no, b"\n")
+    let after_blocks = put_field(room, 0, b"blocks=", blocks);
+    let after_accepted = put_field(room, after_blocks, b" accepted=", accepted);
+    let after_refused = put_field(room, after_accepted, b" refused=", refused);
+    put(room, after_refused, b"\n")
 }
