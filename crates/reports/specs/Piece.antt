@@ -27,6 +27,10 @@ use Rattle.reports.specs.declared.piece.Reported.{Reported}
 abbrev pub fieldText : String → ℕ → List ℕ
 fieldText key n = codes key ++ decimalOf n
 
+-- two of them, and LF
+abbrev pub lineText : List ℕ → ℕ → List ℕ → ℕ → List ℕ
+lineText key n other m = (key ++ decimalOf n) ++ ((other ++ decimalOf m) ++ codes "\n")
+
 -- `word=4 index=31 info=..01`
 abbrev pub nameText : ℕ → ℕ → List ℕ → List ℕ
 nameText k i info = fieldText "word=" k ++ (codes " index=" ++ indexText i info)
@@ -57,11 +61,11 @@ formText wide crlf = fieldText " width=" (width wide) ++ endText crlf
 
 -- ` width=8 end=CRLF words=5 bytes=82` and LF
 abbrev pub readingText : Reading → List ℕ
-readingText r = formText (r .wide) (r .crlf) ++ (fieldText " words=" (r .words) ++ (fieldText " bytes=" (r .used) ++ codes "\n"))
+readingText r = formText (r .wide) (r .crlf) ++ lineText (codes " words=") (r .words) (codes " bytes=") (r .used)
 
 -- ` refused=10 place=16` and LF
 abbrev pub refusalText : Refusal → List ℕ
-refusalText r = fieldText " refused=" (refusalNumber r) ++ (fieldText " place=" (refusalTells r) ++ codes "\n")
+refusalText r = lineText (codes " refused=") (refusalNumber r) (codes " place=") (refusalTells r)
 
 -- the text of a refused block up to its end: what comes before the first CR, and no more than the longest block has there and the byte in its CR's place
 abbrev pub textMost : ℕ
@@ -93,5 +97,4 @@ Reports f number at piece room r room′ =
 
 -- `blocks=2 accepted=1 refused=1` and LF
 abbrev pub tallyText : ℕ → ℕ → ℕ → List ℕ
-tallyText blocks accepted refused =
-    fieldText "blocks=" blocks ++ (fieldText " accepted=" accepted ++ (fieldText " refused=" refused ++ codes "\n"))
+tallyText blocks accepted refused = fieldText "blocks=" blocks ++ lineText (codes " accepted=") accepted (codes " refused=") refused

@@ -5,7 +5,8 @@ ghost use mathlib.Core.List.{_++_};
 ghost use lib.ListN.{take, length};
 ghost use Rattle.figures.specs.Decimal.{decimalOf};
 ghost use Rattle.figures.specs.Rooms.{Puts};
-ghost use Rattle.reports.specs.Piece.{nameText, wordText, wordsText, headText, endSize, formText, readingText, refusalText, whereText, tallyText, Reports};
+ghost use Rattle.reports.specs.Piece.{lineText, nameText, wordText, wordsText, headText, endSize, formText, readingText};
+ghost use Rattle.reports.specs.Piece.{refusalText, whereText, tallyText, Reports};
 use blocks::answers::Answer;
 use blocks::answers::Reading;
 use blocks::answers::Refusal;
@@ -42,6 +43,15 @@ fn put_field(room: &mut [u8], at: usize, key: &[u8], n: u64) -> usize
 {
     let next = put(room, at, key);
     put_decimal(room, next, n)
+}
+
+// Two fields, and the line's end.
+fn put_line(room: &mut [u8], at: usize, key: &[u8], n: u64, other: &[u8], m: u64) -> usize
+    ensures { λ r. ⌜ Puts (now (room .entry)) at (lineText (now (key .entry)) n (now (other .entry)) m) r (now (room .exit)) ⌝ }
+{
+    let next = put_field(room, at, key, n);
+    let last = put_field(room, next, other, m);
+    put(room, last, b"\n")
 }
 
 // The start of a word's line, up to its value.
@@ -112,18 +122,29 @@ fn put_reading(room: &mut [u8], at: usize, reading: Reading) -> usize
     ensures { λ r. ⌜ Puts (now (room .entry)) at (readingText reading) r (now (room .exit)) ⌝ }
 {
     let after_form = put_form(room, at, reading.wide, reading.crlf);
-    let after_words = put_field(room, after_form, b" words=", wide_count(reading.words));
-    let after_bytes = put_field(room, after_words, b" bytes=", wide_count(reading.used));
-    put(room, after_bytes, b"\n")
+    let words = wide_count(reading.words);
+    put_line(
+        room,
+        after_form,
+        b" words=",
+        words,
+        b" bytes=",
+        wide_count(reading.used),
+    )
 }
 
 fn put_refusal(room: &mut [u8], at: usize, refusal: Refusal) -> usize
     ensures { λ r. ⌜ Puts (now (room .entry)) at (refusalText refusal) r (now (room .exit)) ⌝ }
 {
     let place = wide_count(refusal_tells(refusal));
-    let after_number = put_field(room, at, b" refused=", refusal_number(refusal));
-    let after_place = put_field(room, after_number, b" place=", place);
-    put(room, after_place, b"\n")
+    put_line(
+        room,
+        at,
+        b" refused=",
+        refusal_number(refusal),
+        b" place=",
+        place,
+    )
 }
 
 // The text of a refused piece, and under it the byte.
@@ -175,7 +196,12 @@ pub fn tally(blocks: u64, accepted: u64, refused: u64, room: &mut [u8]) -> usize
     ensures { λ r. ⌜ Puts (now (room .entry)) 0 (tallyText blocks accepted refused) r (now (room .exit)) ⌝ }
 {
     let after_blocks = put_field(room, 0, b"blocks=", blocks);
-    let after_accepted = put_field(room, after_blocks, b" accepted=", accepted);
-    let after_refused = put_field(room, after_accepted, b" refused=", refused);
-    put(room, after_refused, b"\n")
+    put_line(
+        room,
+        after_blocks,
+        b" accepted=",
+        accepted,
+        b" refused=",
+        refused,
+    )
 }

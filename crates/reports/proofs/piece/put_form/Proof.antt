@@ -20,14 +20,17 @@ end-part true = refl
 end-part false = refl
 
 part-put-end : tie.Need-part-put-end
-part-put-end c = let n = c .before .before .before .before .before .before .before .before .before in rw (n .end-size .ensures) (size-most (n .before .before .before .before .args .crlf))
+part-put-end c =
+    let n = c .before .before .before .before .before .before .before .before .before in
+    rw (n .end-size .ensures) (size-most (n .before .before .before .before .args .crlf))
 
 returns : tie.Need-returns
 returns c =
     let end = c .before .before in
     let width = end .before .before .before .before .before .before in
     let n = width .before .before .before .before .before in
-    puts-more _ _ _ _ (puts-as _ _ _ _ (ap (fieldText " width=") (sym (width .before .wide-count .ensures ∙ width .before .before .width-of .ensures))) refl refl (width .put-field .ensures))
+    let size = width .before .wide-count .ensures ∙ width .before .before .width-of .ensures in
+    puts-more _ _ _ _ (puts-as _ _ _ _ (ap (fieldText " width=") (sym size)) refl refl (width .put-field .ensures))
     (rw (n .end-size .ensures, end-part (n .before .before .before .before .args .crlf)) at (end .put .ensures))
 
 pub put-form-spec : {M : Type 1} → statement M

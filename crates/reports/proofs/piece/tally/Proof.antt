@@ -1,4 +1,4 @@
--- `piece::tally` meets its contract: its four parts come to its text.
+-- `piece::tally` meets its contract: its two parts come to its text.
 use borrow.Author.Needs.{needs}
 use Rattle.figures.proofs.Putting.{puts-more}
 use Rattle.reports.proofs.piece.tally.Statement.{statement}
@@ -6,14 +6,9 @@ use Rattle.reports.proofs.piece.tally.Tie as tie
 
 returns : tie.Need-returns
 returns c =
-    let end = c .before .before in
-    let refused = end .before .before .before .before .before in
-    let accepted = refused .before .before .before .before .before in
-    let blocks = accepted .before .before .before .before .before in
-    puts-more (blocks .before .before .before .before .args .room .now) 0 _ _ (blocks .put-field .ensures)
-    (puts-more _ _ _ _ (accepted .put-field2 .ensures)
-    (puts-more _ _ _ _ (refused .put-field3 .ensures)
-    (end .put .ensures)))
+    let line = c .before .before in
+    let blocks = line .before .before .before .before .before .before in
+    puts-more (blocks .before .before .before .before .args .room .now) 0 _ _ (blocks .put-field .ensures) (line .put-line .ensures)
 
 pub tally-spec : {M : Type 1} → statement M
 tally-spec =
@@ -22,9 +17,6 @@ tally-spec =
     (λ c. search needs)
     (λ c κs. search needs)
     (λ c. search needs)
-    (λ c κs. search needs)
-    (λ c. search needs)
-    (λ c κs. search needs)
     (λ c. search needs)
     (λ c κs. search needs)
     (λ c. search needs)
