@@ -1,7 +1,6 @@
 -- What is printed of a piece: `at` is its start in the file, `place` the refusal's place in the block, and under the block's text a caret at that
 -- place; of a refused block never a value.
 use Prim.Native.Nat.{ℕ, suc, min}
-use Prim.Native.String.{String}
 use mathlib.Core.Path.{_≡_}
 use mathlib.Core.Bool.{Bool, true, false, cond}
 use mathlib.Core.List.{List, [], _∷_, _++_, map}
@@ -24,16 +23,16 @@ use Rattle.measures.specs.Measures.{indexText, valueText}
 use Rattle.reports.specs.declared.piece.Reported.{Reported}
 
 -- a key, and a number in its fewest digits
-abbrev pub fieldText : String → ℕ → List ℕ
-fieldText key n = codes key ++ decimalOf n
+abbrev pub fieldText : List ℕ → ℕ → List ℕ
+fieldText key n = key ++ decimalOf n
 
 -- two of them, and LF
 abbrev pub lineText : List ℕ → ℕ → List ℕ → ℕ → List ℕ
-lineText key n other m = (key ++ decimalOf n) ++ ((other ++ decimalOf m) ++ codes "\n")
+lineText key n other m = fieldText key n ++ (fieldText other m ++ codes "\n")
 
 -- `word=4 index=31 info=..01`
 abbrev pub nameText : ℕ → ℕ → List ℕ → List ℕ
-nameText k i info = fieldText "word=" k ++ (codes " index=" ++ indexText i info)
+nameText k i info = fieldText (codes "word=") k ++ (codes " index=" ++ indexText i info)
 
 -- `word=4 index=31 info=..01 count=+265965 step=1/1000ft reads=265.965ft` and LF
 abbrev pub wordText : Family → ℕ → Bool → Word → List ℕ
@@ -46,18 +45,15 @@ wordsText f k wide (w ∷ ws) = wordText f k wide w ++ wordsText f (suc k) wide 
 
 -- `block=1 at=0`
 abbrev pub headText : ℕ → ℕ → List ℕ
-headText number at = fieldText "block=" number ++ fieldText " at=" at
+headText number at = fieldText (codes "block=") number ++ fieldText (codes " at=") at
 
 -- ` end=CRLF` or ` end=CR`
 abbrev pub endText : Bool → List ℕ
 endText crlf = cond crlf (codes " end=CRLF") (codes " end=CR")
 
-abbrev pub endSize : Bool → ℕ
-endSize crlf = cond crlf 9 7
-
 -- ` width=8 end=CRLF`
 abbrev pub formText : Bool → Bool → List ℕ
-formText wide crlf = fieldText " width=" (width wide) ++ endText crlf
+formText wide crlf = fieldText (codes " width=") (width wide) ++ endText crlf
 
 -- ` width=8 end=CRLF words=5 bytes=82` and LF
 abbrev pub readingText : Reading → List ℕ
@@ -97,4 +93,4 @@ Reports f number at piece room r room′ =
 
 -- `blocks=2 accepted=1 refused=1` and LF
 abbrev pub tallyText : ℕ → ℕ → ℕ → List ℕ
-tallyText blocks accepted refused = fieldText "blocks=" blocks ++ lineText (codes " accepted=") accepted (codes " refused=") refused
+tallyText blocks accepted refused = fieldText (codes "blocks=") blocks ++ lineText (codes " accepted=") accepted (codes " refused=") refused

@@ -1,11 +1,10 @@
 // The lines that are printed of a piece of a file.
 ghost use mathlib.Core.Path.{_≡_};
 ghost use Prim.Native.Nat.{_≤_};
-ghost use mathlib.Core.List.{_++_};
 ghost use lib.ListN.{take, length};
-ghost use Rattle.figures.specs.Decimal.{decimalOf};
 ghost use Rattle.figures.specs.Rooms.{Puts};
-ghost use Rattle.reports.specs.Piece.{lineText, nameText, wordText, wordsText, headText, endSize, formText, readingText};
+ghost use Rattle.reports.specs.Piece.{fieldText, lineText, nameText, wordText, wordsText, headText, formText, readingText};
+ghost use Rattle.reports.specs.Keeping.{endSize};
 ghost use Rattle.reports.specs.Piece.{refusalText, whereText, tallyText, Reports};
 use blocks::answers::Answer;
 use blocks::answers::Reading;
@@ -39,7 +38,7 @@ pub struct Reported {
 
 // A key, and a number in its fewest digits.
 fn put_field(room: &mut [u8], at: usize, key: &[u8], n: u64) -> usize
-    ensures { λ r. ⌜ Puts (now (room .entry)) at (now (key .entry) ++ decimalOf n) r (now (room .exit)) ⌝ }
+    ensures { λ r. ⌜ Puts (now (room .entry)) at (fieldText (now (key .entry)) n) r (now (room .exit)) ⌝ }
 {
     let next = put(room, at, key);
     put_decimal(room, next, n)

@@ -6,7 +6,8 @@ use native.Mathlib.Omega.{arith}
 use borrow.Author.Needs.{needs}
 use lib.ListN.{take}
 use Rattle.figures.specs.Text.{codes}
-use Rattle.reports.specs.Piece.{fieldText, endText, endSize}
+use Rattle.reports.specs.Piece.{fieldText, endText}
+use Rattle.reports.specs.Keeping.{endSize}
 use Rattle.figures.proofs.Putting.{puts-as, puts-more}
 use Rattle.reports.proofs.piece.put_form.Statement.{statement}
 use Rattle.reports.proofs.piece.put_form.Tie as tie
@@ -30,7 +31,7 @@ returns c =
     let width = end .before .before .before .before .before .before in
     let n = width .before .before .before .before .before in
     let size = width .before .wide-count .ensures ∙ width .before .before .width-of .ensures in
-    puts-more _ _ _ _ (puts-as _ _ _ _ (ap (fieldText " width=") (sym size)) refl refl (width .put-field .ensures))
+    puts-more _ _ _ _ (puts-as _ _ _ _ (ap (fieldText (codes " width=")) (sym size)) refl refl (width .put-field .ensures))
     (rw (n .end-size .ensures, end-part (n .before .before .before .before .args .crlf)) at (end .put .ensures))
 
 pub put-form-spec : {M : Type 1} → statement M
