@@ -6,7 +6,6 @@ use mathlib.Core.List.{List}
 use native.Mathlib.Omega.{arith}
 use borrow.Author.Needs.{needs}
 use borrow.Rule.Slice.PartMut.{midOf}
-use lib.ListN.{length}
 use Rattle.figures.specs.Bytes.{laid}
 use Rattle.words.specs.Records.{width}
 use Rattle.words.specs.Keeping.{spellingOf}

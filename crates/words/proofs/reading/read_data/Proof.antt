@@ -14,8 +14,8 @@ use Rattle.units.specs.declared.counts.Figures.{Figures}
 use Rattle.units.specs.declared.counts.Valued.{Valued}
 use Rattle.units.specs.declared.counts.Valued.the-variants as valued
 use Rattle.words.specs.Records.{recordOf}
-use Rattle.words.specs.Reading.{dataRight, dataAt, figuresIn, textField, isCounted, countOr, faulty, rightWord}
-use Rattle.words.specs.Keeping.{partedAt, spelledAt, dataWord}
+use Rattle.words.specs.Reading.{dataRight, dataAt, figuresIn, textField, isCounted, faulty, rightWord}
+use Rattle.words.specs.Keeping.{partedAt, dataWord}
 use Rattle.words.specs.declared.records.Word.{Word}
 use Rattle.words.specs.declared.reading.Fault.the-variants.{Characters, Separator, Value}
 use Rattle.words.specs.declared.reading.Parted.{Parted}

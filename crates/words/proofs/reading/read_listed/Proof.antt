@@ -1,13 +1,13 @@
 -- `read_listed` meets its contract: each return is the rule of `listedWord` that the checks passed so far, and the one that fails, leave.
 use Prim.Native.Nat.{ℕ, _+_, _-_}
-use mathlib.Core.Path.{_≡_, sym, ap, _∙_}
+use mathlib.Core.Path.{_≡_}
 use mathlib.Core.Bool.{Bool, true, false, cond}
 use mathlib.Core.List.{List, [], _∷_}
 use native.Mathlib.Omega.{arith}
 use borrow.Author.Needs.{needs}
 use borrow.Rule.Slice.PartMut.{midOf}
-use lib.ListN.{length, getD}
-use Rattle.units.specs.Information.{infoMarks, allRight, firstWrong, leadOf, signAt, signRight}
+use lib.ListN.{getD}
+use Rattle.units.specs.Information.{infoMarks, allRight, firstWrong, leadOf, signAt}
 use Rattle.units.specs.declared.kinds.Family.{Family}
 use Rattle.units.specs.declared.kinds.Kind.{Kind}
 use Rattle.units.specs.declared.information.Informed.{Informed}
@@ -19,7 +19,7 @@ use Rattle.words.specs.Reading.{pos, faulty}
 use Rattle.words.specs.Keeping.{dataWord, listedWord}
 use Rattle.words.specs.declared.reading.Fault.the-variants.{Information, Sign}
 use Rattle.words.specs.declared.reading.OneWord.{OneWord}
-use Rattle.words.proofs.Checks.{informed-not, informed-right, sign-not, sign-is, width-bounds, data-part, data-fits}
+use Rattle.words.proofs.Checks.{informed-not, informed-right, sign-not, sign-is, data-part, data-fits}
 use Rattle.words.proofs.reading.read_listed.Statement.{statement}
 use Rattle.words.proofs.reading.read_listed.Tie as tie
 

@@ -1,6 +1,6 @@
 -- `read_word` meets its contract: a word that is too short, one whose positions 1-3 are no index, and the others by `read_listed`.
 use Prim.Native.Nat.{ℕ, _≤_}
-use mathlib.Core.Path.{_≡_, sym, ap, _∙_}
+use mathlib.Core.Path.{_≡_, sym, _∙_}
 use mathlib.Core.Bool.{Bool}
 use mathlib.Core.List.{List}
 use native.Mathlib.Omega.{arith}

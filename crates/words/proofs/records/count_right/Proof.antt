@@ -1,6 +1,5 @@
 -- `count_right` meets its contract: the last arm has the counts of one number, each below its limit.
-use Prim.Native.Nat.{ℕ}
-use mathlib.Core.Path.{_≡_, refl, _∙_}
+use mathlib.Core.Path.{_≡_, refl}
 use mathlib.Core.Bool.{Bool}
 use mathlib.Core.List.{[], _∷_}
 use types.Run.{OneOf, miss}

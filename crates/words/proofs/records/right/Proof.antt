@@ -1,8 +1,6 @@
 -- `right` meets its contract: each return is what the checks passed so far, and the one that fails, leave of `isRight`.
-use Prim.Native.Nat.{ℕ}
 use mathlib.Core.Path.{_≡_, sym}
-use mathlib.Core.Bool.{Bool, true, false, _&&_, not}
-use mathlib.Core.List.{List}
+use mathlib.Core.Bool.{Bool, true, false, not}
 use borrow.Author.Tests.{eq-eqb}
 use borrow.Author.Needs.{needs}
 use lib.ListN.{length, getD}
@@ -32,7 +30,8 @@ module _ (f : Family) (wide : Bool) (w : Word) (four : length (w .info) ≡ 4) (
     module _ {x : Whole} {c : Bool} (right : not b ≡ false) (first : x ≡ firstOf n) (h : c ≡ sameWhole x (w .minus) (w .size)) where
       other-first : not c ≡ true → false ≡ isRight f wide w
       other-first no-first =
-          rw (eq-eqb (length (w .info)) 4 four, eq-eqb (length (w .text)) 16 sixteen, ← kind, passed e informs, ← counts, passed g right, ← first, failed h no-first)
+          rw (eq-eqb (length (w .info)) 4 four, eq-eqb (length (w .text)) 16 sixteen, ← kind, passed e informs, ← counts, passed g right)
+          (rw (← first, failed h no-first))
 
       module _ {y : Whole} {d : Bool} (same : not c ≡ false) (second : y ≡ secondOf n) (i : d ≡ sameWhole y (w .mmminus) (w .mm)) where
         other-second : not d ≡ true → false ≡ isRight f wide w
