@@ -11,7 +11,7 @@ returns c =
     let line = c .before .before in
     let blocks = line .before .before .before .before .before .before in
     let a = blocks .before .before .before .before .args in
-    puts-more (a .room .now) 0 (fieldText "blocks=" (a .blocks)) (lineText (codes " accepted=") (a .accepted) (codes " refused=") (a .refused))
+    puts-more (a .room .now) 0 (fieldText (codes "blocks=") (a .blocks)) (lineText (codes " accepted=") (a .accepted) (codes " refused=") (a .refused))
     (blocks .put-field .ensures) (line .put-line .ensures)
 
 pub tally-spec : {M : Type 1} → statement M
