@@ -118,7 +118,7 @@ class Log:
         verdict = self.verdicts.get(function, "not named")
         if SEARCHED.match(verdict):
             return ""
-        if verdict != "not proved":
+        if not verdict.startswith("not proved") or "it calls" in verdict:  # of a walk by hand it says more than "not proved"
             return f"{function} is {verdict}"
         if self.shapes(function):
             return f"{function} fails at the shape of its proof: {self.shapes(function)[0][:160]}"
