@@ -4,16 +4,13 @@ use mathlib.Core.Bool.{Bool, cond}
 use mathlib.Core.List.{List, _++_}
 use lib.Dec.{leb, ltb, eqb}
 use lib.ListN.{length, replicate, take}
-use Rattle.words.specs.Records.{blank, isRight}
+use Rattle.words.specs.Records.{blank}
 use Rattle.words.specs.Reading.{wordSize, wordOf}
-use Rattle.words.specs.Writing.{bytesOf}
-use Rattle.words.specs.Keeping.{spellingOf}
 use Rattle.units.specs.declared.kinds.Family.{Family}
 use Rattle.words.specs.declared.records.Word.{Word}
 use Rattle.words.specs.declared.reading.Fault.the-variants.{Short}
 use Rattle.words.specs.declared.reading.Judged as one
 use Rattle.words.specs.declared.reading.OneWord.{OneWord}
-use Rattle.words.specs.declared.writing.Spelt.{Spelt}
 use Rattle.blocks.specs.declared.answers.Refusal.{Refusal}
 use Rattle.blocks.specs.declared.answers.Refusal.the-variants.{Wrong, NoEnd, NoPlace, Count, Record}
 use Rattle.blocks.specs.declared.judging.Block.{Block}
@@ -62,13 +59,6 @@ wroteList bytes = record { answer = Written (length bytes); bytes = laid bytes (
 
 abbrev pub opened : Bool → List ℕ
 opened wide = laid (starBytes wide) (replicate 771 0)
-
--- one record's word at the start of a room, and whether there is one
-abbrev pub speltOf : Family → Bool → Word → Spelt
-speltOf f wide w = spellingOf f wide w .answer
-
-abbrev pub wordPut : Family → Bool → Word → List ℕ → List ℕ
-wordPut f wide w room = cond (isRight f wide w) (laid (bytesOf f wide w) room) room
 
 abbrev pub wordsPut : Family → Bool → List Word → Composed
 wordsPut f wide ws = unlessWrong f wide 0 ws (λ i. refusedList (Record i)) (wroteList (starBytes wide ++ wordsBytes f wide ws))

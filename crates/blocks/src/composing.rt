@@ -3,14 +3,13 @@ ghost use mathlib.Core.Path.{_≡_};
 ghost use Prim.Native.Nat.{_≤_};
 ghost use lib.ListN.{length, take};
 ghost use Rattle.blocks.specs.Composing.{Writes};
-ghost use Rattle.blocks.specs.Keeping.{opened, speltOf, wordPut, composedOf, wordsPut, refusedList, listOf};
+ghost use Rattle.blocks.specs.Keeping.{opened, composedOf, wordsPut, refusedList, listOf};
 use crate::answers::Refusal;
 use crate::answers::Wrote;
 use crate::judging::Block;
 use crate::judging::start_of;
 use units::kinds::Family;
 use words::reading::width_of;
-use words::records::Word;
 use words::writing::Spelt;
 use words::writing::spell;
 
@@ -42,21 +41,6 @@ fn open(wide: bool) -> [u8; 771]
     bytes
 }
 
-// A record's word at the start of the room; the room is untouched where no such word gives the record.
-fn put_word(word: Word, family: Family, wide: bool, out: &mut [u8]) -> Spelt
-    ensures { λ r. ⌜ (r ≡ speltOf family wide word) × (now (out .exit) ≡ wordPut family wide word (now (out .entry))) ⌝ }
-{
-    let spelling = spell(word, family, wide);
-    let answer = spelling.answer;
-    let Spelt::Right = answer else {
-        return answer;
-    };
-    let bytes = spelling.bytes;
-    let size = width_of(wide) + 8;
-    figures::lay(&bytes[0..size], out);
-    answer
-}
-
 // `*` and the words, up to the terminator.
 fn put_words(b: Block, family: Family, wide: bool) -> Composed
     requires { ⌜ b .n ≤ 32 ⌝ }
@@ -70,9 +54,13 @@ fn put_words(b: Block, family: Family, wide: bool) -> Composed
     let mut i = 0;
     while i < n {
         let word = words[i];
-        let Spelt::Right = put_word(word, family, wide, &mut bytes[at..]) else {
+        let spelling = spell(word, family, wide);
+        let answer = spelling.answer;
+        let Spelt::Right = answer else {
             return refuse_list(Refusal::Record(i));
         };
+        let spelt = spelling.bytes;
+        figures::lay(&spelt[0..size], &mut bytes[at..]);
         at += size;
         i += 1;
     }

@@ -1,6 +1,5 @@
 // The record that a word gives, as a host in C lends it, and the count that a record holds.
 ghost use mathlib.Core.Path.{_≡_};
-ghost use lib.ListN.{length};
 ghost use Rattle.words.specs.Records.{blank, recordOf, countBy, countOf, tenTo, wholeRight, limitOf, countRight, textRight, sameWhole, isRight, typedOf};
 use units::counts::Count;
 use units::counts::Whole;
@@ -72,19 +71,20 @@ pub(crate) fn count_by(w: Word, kind: Kind) -> Count
         size: w.size,
     };
     match kind {
-        Kind::Missing => return Count::Nothing,
-        Kind::Numbered => return Count::Text,
-        Kind::Text => return Count::Text,
-        Kind::Angle => return angle_of(unit, whole),
-        Kind::Length => return length_of(unit, whole),
-        Kind::Constant => return constant_of(w.index, whole),
-        Kind::Pair => {}
+        Kind::Missing => Count::Nothing,
+        Kind::Numbered => Count::Text,
+        Kind::Text => Count::Text,
+        Kind::Angle => angle_of(unit, whole),
+        Kind::Length => length_of(unit, whole),
+        Kind::Constant => constant_of(w.index, whole),
+        Kind::Pair => {
+            let mm = Whole {
+                minus: w.mmminus,
+                size: w.mm,
+            };
+            Count::Pair(whole, mm)
+        }
     }
-    let mm = Whole {
-        minus: w.mmminus,
-        size: w.mm,
-    };
-    Count::Pair(whole, mm)
 }
 
 // The count that a record says.
@@ -151,15 +151,14 @@ fn count_right(count: Count, wide: bool) -> bool
 }
 
 // Whether a word of that kind and width can have the text.
-fn text_right(kind: Kind, text: &[u8], wide: bool) -> bool
-    requires { ⌜ length (now text) ≡ 16 ⌝ }
-    ensures { λ r. ⌜ r ≡ textRight wide kind (now (text .entry)) ⌝ }
+fn text_right(kind: Kind, text: [u8; 16], wide: bool) -> bool
+    ensures { λ r. ⌜ r ≡ textRight wide kind text ⌝ }
 {
     if !textual(kind) {
-        return figures::all_within(text, 0, 0);
+        return figures::all_within(&text, 0, 0);
     }
     if wide {
-        return figures::all_within(text, 33, 126);
+        return figures::all_within(&text, 33, 126);
     }
     if !figures::all_within(&text[0..8], 33, 126) {
         return false;
@@ -196,7 +195,7 @@ pub fn right(w: Word, family: Family, wide: bool) -> bool
     if !same_whole(second_of(count), w.mmminus, w.mm) {
         return false;
     }
-    text_right(kind, &text, wide)
+    text_right(kind, text, wide)
 }
 
 // The typed count of a record; Nothing where no word of the family gives the record, of either width.

@@ -11,15 +11,16 @@ use lib.Seq.{take-all, getD-take}
 use Rattle.figures.specs.Bytes.{laid}
 use Rattle.figures.proofs.Bytes.{length-on}
 use Rattle.words.specs.Records.{isRight}
+use Rattle.words.specs.Reading.{wordSize}
 use Rattle.words.specs.Writing.{bytesOf}
 use Rattle.words.specs.Keeping.{spellingOf}
 use Rattle.words.specs.declared.records.Word.{Word}
 use Rattle.blocks.specs.declared.answers.Refusal.the-variants.{Record}
 use Rattle.blocks.specs.Composing.{starBytes, wordsBytes}
-use Rattle.blocks.specs.Keeping.{speltOf, wordPut, refusedList, wroteList}
+use Rattle.blocks.specs.Keeping.{refusedList, wroteList}
 use Rattle.blocks.proofs.Steps.{width-small}
 use Rattle.blocks.proofs.Rooms.{listed, firstWrong, putBytes, unless-right, unless-wrong, first-more, first-wrong, first-none}
-use Rattle.blocks.proofs.Rooms.{spelt-right, spelt-not, put-length, put-more, put-none, wrote-as}
+use Rattle.blocks.proofs.Rooms.{spelt-right, spelt-not, spelt-bytes, spelt-long, put-length, put-more, put-none, wrote-as}
 use Rattle.blocks.proofs.Rooms.{star-small, star-length, star-fits, room-size, room-length, opened-on, opened-whole}
 use Rattle.blocks.proofs.composing.put_words.Statement.{statement}
 use Rattle.blocks.proofs.composing.put_words.Tie as tie
@@ -73,45 +74,40 @@ held c =
 abbrev empty : Word
 empty = record { index = 0; info = []; minus = 0; mmminus = 0; size = 0; mm = 0; text = [] }
 
--- where a record is put: what the call began with, its list, and the list's place
-abbrev begun : tie.After-put-word Inv-loop μ-loop → tie.Start Inv-loop μ-loop
-begun c = c .before .before .before .before .before .before .before .before .before
+-- where a record is spelt: what the call began with, its list, and the list's place
+abbrev begun : tie.After-spell Inv-loop μ-loop → tie.Start Inv-loop μ-loop
+begun c = c .before .before .before .before .before .before .before .before
 
-abbrev list : tie.After-put-word Inv-loop μ-loop → List Word
+abbrev list : tie.After-spell Inv-loop μ-loop → List Word
 list c =
     let b = begun c .args .b in
     take (b .n) (b .words)
 
-abbrev place : tie.After-put-word Inv-loop μ-loop → ℕ
-place c = c .before .before .before .before .loop .i
+abbrev place : tie.After-spell Inv-loop μ-loop → ℕ
+place c = c .before .before .before .loop .i
 
--- the record that is put is the list's
-abbrev put-there : tie.After-put-word Inv-loop μ-loop → Word
-put-there c = getD (list c) (place c) empty
+-- the record that is spelt is the list's
+abbrev spelt-word : tie.After-spell Inv-loop μ-loop → Word
+spelt-word c = getD (list c) (place c) empty
 
--- what putting it answers, and what it leaves of the room from its place on
-answers : (c : tie.After-put-word Inv-loop μ-loop) →
-    let a = begun c .args in
-    let l = c .before .before .before .before .loop in
-    (c .put-word .result ≡ speltOf (a .family) (a .wide) (put-there c))
-    × (c .put-word .last .1 .1 .1 .0 ≡ wordPut (a .family) (a .wide) (put-there c) (midOf (l .at) (771 - l .at) (l .bytes)))
-answers c =
+spelling : (c : tie.After-spell Inv-loop μ-loop) → c .spell .result ≡ spellingOf (begun c .args .family) (begun c .args .wide) (spelt-word c)
+spelling c =
     let b = begun c .args .b in
-    rw (getD-take (b .n) (b .words) (place c) empty (c .before .before .before .loop-test .taken)) (c .put-word .ensures)
+    rw (getD-take (b .n) (b .words) (place c) empty (c .before .before .loop-test .taken)) (c .spell .ensures)
 
-in-list : (c : tie.After-put-word Inv-loop μ-loop) → place c < length (list c)
+in-list : (c : tie.After-spell Inv-loop μ-loop) → place c < length (list c)
 in-list c =
     let start = begun c in
     let count = listed (start .args .b) _ (start .good .0) (start .pre) in
-    omega (arith, c .before .before .before .loop-test .taken)
+    omega (arith, c .before .before .loop-test .taken)
 
 right : (c : tie.After-enum-told Inv-loop μ-loop) →
-    let at = c .before .before .before in
-    isRight (begun at .args .family) (begun at .args .wide) (put-there at) ≡ true
+    let spelled = c .before .before in
+    isRight (begun spelled .args .family) (begun spelled .args .wide) (spelt-word spelled) ≡ true
 right c =
-    let at = c .before .before .before in
-    let a = begun at .args in
-    spelt-right (a .family) (a .wide) (put-there at) (spellingOf (a .family) (a .wide) (put-there at)) refl (sym (answers at .0) ∙ c .enum-told .given .1)
+    let spelled = c .before .before in
+    spelt-right (begun spelled .args .family) (begun spelled .args .wide) (spelt-word spelled) (spelled .spell .result) (spelling spelled)
+    (c .enum-told .given .1)
 
 mul-word : tie.Need-mul-word Inv-loop μ-loop
 mul-word c = omega arith
@@ -119,17 +115,8 @@ mul-word c = omega arith
 array-copy-out-word : tie.Need-array-copy-out-word Inv-loop μ-loop
 array-copy-out-word c = omega arith
 
-sub-put-word : tie.Need-sub-put-word Inv-loop μ-loop
-sub-put-word c = omega arith
-
-part-bytes-start : tie.Need-part-bytes-start Inv-loop μ-loop
-part-bytes-start c = omega arith
-
-part-bytes-end : tie.Need-part-bytes-end Inv-loop μ-loop
-part-bytes-end c = omega (arith, held (c .before))
-
-put-word-requires : tie.Need-put-word-requires Inv-loop μ-loop
-put-word-requires c κs = search needs
+spell-requires : tie.Need-spell-requires Inv-loop μ-loop
+spell-requires c κs = search needs
 
 enum-told : tie.Need-enum-told Inv-loop μ-loop
 enum-told c = search needs
@@ -142,18 +129,44 @@ refuse-list-requires c κs = search needs
 
 returns : tie.Need-returns Inv-loop μ-loop
 returns c =
-    let at = c .before .before .before .before in
-    let a = begun at .args in
-    let l = at .before .before .before .before .loop in
-    let ws = list at in
-    let w = put-there at in
+    let spelled = c .before .before .before in
+    let a = begun spelled .args in
+    let l = spelled .before .before .before .loop in
+    let ws = list spelled in
     let done = wroteList (starBytes (a .wide) ++ wordsBytes (a .family) (a .wide) ws) in
-    let wrong = spelt-not (a .family) (a .wide) w (spellingOf (a .family) (a .wide) w) refl (sym (answers at .0) ∙ c .before .enum-told2 .given .1) in
-    let first = l .inv .4 ∙ first-wrong (a .family) (a .wide) (l .i) ws empty (in-list at) wrong in
+    let wrong = spelt-not (a .family) (a .wide) (spelt-word spelled) (spelled .spell .result) (spelling spelled) (c .before .enum-told2 .given .1) in
+    let first = l .inv .4 ∙ first-wrong (a .family) (a .wide) (l .i) ws empty (in-list spelled) wrong in
     c .refuse-list .ensures ∙ sym (unless-wrong (a .family) (a .wide) ws (λ i. refusedList (Record i)) done (l .i) first)
 
+sub-lay : tie.Need-sub-lay Inv-loop μ-loop
+sub-lay c = omega arith
+
+part-lay-start : tie.Need-part-lay-start Inv-loop μ-loop
+part-lay-start c = omega arith
+
+part-lay-end : tie.Need-part-lay-end Inv-loop μ-loop
+part-lay-end c =
+    let spelled = c .before .before .before .before in
+    let wide = begun spelled .args .wide in
+    let long = spelt-long (begun spelled .args .family) wide (spelt-word spelled) (spelled .spell .result) (spelling spelled) (right (c .before .before)) in
+    omega (arith, long, spelled .before .before .before .before .before .before .width-of .ensures)
+
+sub-lay-2 : tie.Need-sub-lay-2 Inv-loop μ-loop
+sub-lay-2 c = omega arith
+
+part-bytes-start : tie.Need-part-bytes-start Inv-loop μ-loop
+part-bytes-start c = omega arith
+
+part-bytes-end : tie.Need-part-bytes-end Inv-loop μ-loop
+part-bytes-end c = omega (arith, held (c .before .before .before .before .before .before .before))
+
+lay-requires : tie.Need-lay-requires Inv-loop μ-loop
+lay-requires c κs = search needs
+
 add-at : tie.Need-add-at Inv-loop μ-loop
-add-at c = omega (arith, width-small (begun (c .before .before .before) .args .wide))
+add-at c =
+    let spelled = c .before .before .before .before .before .before .before .before in
+    omega (arith, width-small (begun spelled .args .wide))
 
 add-i : tie.Need-add-i Inv-loop μ-loop
 add-i c = omega arith
@@ -163,27 +176,31 @@ loop-less c = omega arith
 
 loop-again : tie.Need-loop-again Inv-loop μ-loop
 loop-again c =
-    let put = c .before .before .before in
-    let looped = put .before .before .before in
-    let l = looped .before .loop in
-    let opened = looped .before .before .before in
-    let width = opened .before .width-of in
-    let a = begun put .args in
-    let ws = list put in
-    let there = in-list put in
-    let is-right = right c in
-    let last = put .put-word .last .1 .1 .1 .0 in
-    let laid-there : last ≡ laid (bytesOf (a .family) (a .wide) (put-there put)) (midOf (l .at) (771 - l .at) (l .bytes)) = answers put .1 ∙ rw is-right in
-    let longer = put-length (a .family) (a .wide) ws (l .i) empty there is-right in
+    let lay = c .before .lay in
+    let spelled = c .before .before .before .before .before .before .before .before in
+    let l = spelled .before .before .before .loop in
+    let opened = spelled .before .before .before .before .before in
+    let width = spelled .before .before .before .before .before .before .width-of in
+    let a = begun spelled .args in
+    let ws = list spelled in
+    let w = spelt-word spelled in
+    let listed-there = in-list spelled in
+    let is-right = right (c .before .before .before .before .before .before) in
+    let size : width .result + 8 - 0 ≡ wordSize (a .wide) = omega (arith, width .ensures) in
+    let word = spelt-bytes (a .family) (a .wide) w (spelled .spell .result) (spelling spelled) (width .result + 8 - 0) size is-right in
+    let laid-there : lay .last .1 .0 ≡ laid (bytesOf (a .family) (a .wide) w) (midOf (l .at) (771 - l .at) (l .bytes)) =
+    lay .ensures ∙ ap (λ (x : List ℕ). laid x (midOf (l .at) (771 - l .at) (l .bytes))) word in
+    let longer = put-length (a .family) (a .wide) ws (l .i) empty listed-there is-right in
     let whole = opened-length opened in
+    let held-there = sym (held (spelled .before .before)) in
     let more =
-    put-more (a .family) (a .wide) ws (l .i) empty there is-right (opened .«open» .result) (l .bytes) last (l .at) 771 (l .inv .2)
-    (omega arith) (sym (held looped)) (l .inv .3) laid-there in (
+    put-more (a .family) (a .wide) ws (l .i) empty listed-there is-right (opened .«open» .result) (l .bytes) (lay .last .1 .0) (l .at) 771 (l .inv .2)
+    (omega arith) held-there (l .inv .3) laid-there in (
       omega arith,
       omega (arith, width-small (a .wide), width .ensures),
       omega (arith, longer, width .ensures),
       more,
-      l .inv .4 ∙ first-more (a .family) (a .wide) (l .i) ws empty there is-right,
+      l .inv .4 ∙ first-more (a .family) (a .wide) (l .i) ws empty listed-there is-right,
     )
 
 returns-2 : tie.Need-returns-2 Inv-loop μ-loop
@@ -219,14 +236,18 @@ put-words-spec =
     loop-holds
     mul-word
     array-copy-out-word
-    sub-put-word
-    part-bytes-start
-    part-bytes-end
-    put-word-requires
+    spell-requires
     enum-told
     enum-told-2
     refuse-list-requires
     returns
+    sub-lay
+    part-lay-start
+    part-lay-end
+    sub-lay-2
+    part-bytes-start
+    part-bytes-end
+    lay-requires
     add-at
     add-i
     loop-less

@@ -1,7 +1,40 @@
--- `count_by` meets its contract: each return is the clause of `countBy` for its kind.
+-- `count_by` meets its contract: each arm is the clause of `countBy` for its kind.
 use borrow.Author.Needs.{needs}
 use Rattle.words.proofs.records.count_by.Statement.{statement}
 use Rattle.words.proofs.records.count_by.Tie as tie
+
+array-read-unit : tie.Need-array-read-unit
+array-read-unit c = search needs
+
+enum-told : tie.Need-enum-told
+enum-told c = search needs
+
+enum-told-2 : tie.Need-enum-told-2
+enum-told-2 c = search needs
+
+enum-told-3 : tie.Need-enum-told-3
+enum-told-3 c = search needs
+
+enum-told-4 : tie.Need-enum-told-4
+enum-told-4 c = search needs
+
+angle-of-requires : tie.Need-angle-of-requires
+angle-of-requires c κs = search needs
+
+enum-told-5 : tie.Need-enum-told-5
+enum-told-5 c = search needs
+
+length-of-requires : tie.Need-length-of-requires
+length-of-requires c κs = search needs
+
+enum-told-6 : tie.Need-enum-told-6
+enum-told-6 c = search needs
+
+constant-of-requires : tie.Need-constant-of-requires
+constant-of-requires c κs = search needs
+
+enum-told-7 : tie.Need-enum-told-7
+enum-told-7 c = search needs
 
 returns : tie.Need-returns
 returns c = rw (c .enum-told .given .1)
@@ -28,21 +61,21 @@ pub count-by-spec : {M : Type 1} → statement M
 count-by-spec =
     tie.close
     (tie.spec
-    (λ c. search needs)
-    (λ c. search needs)
+    array-read-unit
+    enum-told
+    enum-told-2
+    enum-told-3
+    enum-told-4
+    angle-of-requires
+    enum-told-5
+    length-of-requires
+    enum-told-6
+    constant-of-requires
+    enum-told-7
     returns
-    (λ c. search needs)
     returns-2
-    (λ c. search needs)
     returns-3
-    (λ c. search needs)
-    (λ c κs. search needs)
     returns-4
-    (λ c. search needs)
-    (λ c κs. search needs)
     returns-5
-    (λ c. search needs)
-    (λ c κs. search needs)
     returns-6
-    (λ c. search needs)
     returns-7)

@@ -1,132 +1,161 @@
 -- `right` meets its contract: each return is what the checks passed so far, and the one that fails, leave of `isRight`.
-use mathlib.Core.Path.{_≡_, sym}
-use mathlib.Core.Bool.{Bool, true, false, not}
+use mathlib.Core.Path.{_≡_}
+use mathlib.Core.Bool.{Bool, true, _&&_}
 use borrow.Author.Tests.{eq-eqb}
 use borrow.Author.Needs.{needs}
+use lib.Dec.{eqb}
 use lib.ListN.{length, getD}
 use Rattle.units.specs.declared.kinds.Family.{Family}
-use Rattle.units.specs.declared.kinds.Kind.{Kind}
-use Rattle.units.specs.declared.counts.Count.{Count}
-use Rattle.units.specs.declared.counts.Whole.{Whole}
 use Rattle.words.specs.declared.records.Word.{Word}
 use Rattle.units.specs.Information.{infoRight}
-use Rattle.words.specs.Records.{kindIn, countBy, countRight, textRight, sameWhole, isRight}
+use Rattle.words.specs.Records.{kindIn, unitIn, countOf, countRight, sameWhole}
 use Rattle.units.specs.Counts.{firstOf, secondOf}
 use Rattle.figures.proofs.Tests.{failed, passed}
 use Rattle.words.proofs.records.right.Statement.{statement}
 use Rattle.words.proofs.records.right.Tie as tie
 
--- what each return is, by what the checks answered
-module _ (f : Family) (wide : Bool) (w : Word) (four : length (w .info) ≡ 4) (sixteen : length (w .text) ≡ 16) {k : Kind} {a : Bool} (kind : k ≡ kindIn f w)
-    (e : a ≡ infoRight f (w .index) k (getD (w .info) 0 0) (getD (w .info) 1 0) (getD (w .info) 2 0) (getD (w .info) 3 0)) where
-  uninformed : not a ≡ true → false ≡ isRight f wide w
-  uninformed no-info = rw (eq-eqb (length (w .info)) 4 four, eq-eqb (length (w .text)) 16 sixteen, ← kind, failed e no-info)
+-- positions 3-6 as `right` reads them
+abbrev infoIs : Family → Word → Bool
+infoIs f w = infoRight f (w .index) (kindIn f w) (getD (w .info) 0 0) (getD (w .info) 1 0) (getD (w .info) 2 0) (unitIn w)
 
-  module _ {n : Count} {b : Bool} (informs : not a ≡ false) (counts : n ≡ countBy k w) (g : b ≡ countRight wide n) where
-    uncounted : not b ≡ true → false ≡ isRight f wide w
-    uncounted no-count =
-        rw (eq-eqb (length (w .info)) 4 four, eq-eqb (length (w .text)) 16 sixteen, ← kind, passed e informs, ← counts, failed g no-count)
+kind-of-requires : tie.Need-kind-of-requires
+kind-of-requires c κs = search needs
 
-    module _ {x : Whole} {c : Bool} (right : not b ≡ false) (first : x ≡ firstOf n) (h : c ≡ sameWhole x (w .minus) (w .size)) where
-      other-first : not c ≡ true → false ≡ isRight f wide w
-      other-first no-first =
-          rw (eq-eqb (length (w .info)) 4 four, eq-eqb (length (w .text)) 16 sixteen, ← kind, passed e informs, ← counts, passed g right)
-          (rw (← first, failed h no-first))
+array-read-info-right : tie.Need-array-read-info-right
+array-read-info-right c = search needs
 
-      module _ {y : Whole} {d : Bool} (same : not c ≡ false) (second : y ≡ secondOf n) (i : d ≡ sameWhole y (w .mmminus) (w .mm)) where
-        other-second : not d ≡ true → false ≡ isRight f wide w
-        other-second no-second =
-            rw (eq-eqb (length (w .info)) 4 four, eq-eqb (length (w .text)) 16 sixteen, ← kind, passed e informs, ← counts, passed g right)
-            (rw (← first, passed h same, ← second, failed i no-second))
+array-read-info-right-2 : tie.Need-array-read-info-right-2
+array-read-info-right-2 c = search needs
 
-        texts : {r : Bool} → not d ≡ false → r ≡ textRight wide k (w .text) → r ≡ isRight f wide w
-        texts also text =
-            rw (eq-eqb (length (w .info)) 4 four, eq-eqb (length (w .text)) 16 sixteen, ← kind, passed e informs, ← counts, passed g right)
-            (rw (← first, passed h same, ← second, passed i also) text)
+array-read-info-right-3 : tie.Need-array-read-info-right-3
+array-read-info-right-3 c = search needs
+
+array-read-info-right-4 : tie.Need-array-read-info-right-4
+array-read-info-right-4 c = search needs
+
+info-right-requires : tie.Need-info-right-requires
+info-right-requires c κs = search needs
 
 -- a record's two arrays are as long as its type says
-info-length : (c : tie.Start) → length (c .args .w .info) ≡ 4
-info-length c = search needs
+long : (c : tie.Start) → eqb (length (c .args .w .info)) 4 && eqb (length (c .args .w .text)) 16 ≡ true
+long c = rw (eq-eqb (length (c .args .w .info)) 4 (search needs), eq-eqb (length (c .args .w .text)) 16 (search needs))
 
-text-length : (c : tie.Start) → length (c .args .w .text) ≡ 16
-text-length c = search needs
+-- the places where a check is passed, each by the next
+abbrev by-info : tie.Else1 → tie.Start
+by-info c = c .before .before .before .before .before
+
+abbrev by-count : tie.Else2 → tie.Else1
+by-count c = c .before .before .before
+
+abbrev by-first : tie.Else3 → tie.Else2
+by-first c = c .before .before .before
+
+-- what each check answers
+informs : (c : tie.After-info-right) → let a = c .before .before .before .before .args in c .info-right .result ≡ infoIs (a .family) (a .w)
+informs c = rw (← c .before .before .before .kind-of .ensures) (c .info-right .ensures)
+
+tells : (c : tie.After-count-by) → let a = by-info (c .before) .args in c .count-by .result ≡ countOf (a .family) (a .w)
+tells c = rw (← c .before .before .before .before .before .kind-of .ensures) (c .count-by .ensures)
+
+counts : (c : tie.After-count-right) →
+    let a = by-info (c .before .before) .args in
+    c .count-right .result ≡ countRight (a .wide) (countOf (a .family) (a .w))
+counts c = rw (← tells (c .before)) (c .count-right .ensures)
+
+firsts : (c : tie.After-same-whole) →
+    let a = by-info (by-count (c .before .before)) .args in
+    c .same-whole .result ≡ sameWhole (firstOf (countOf (a .family) (a .w))) (a .w .minus) (a .w .size)
+firsts c = rw (← tells (c .before .before .before .before), ← c .before .first-of .ensures) (c .same-whole .ensures)
+
+seconds : (c : tie.After-same-whole2) →
+    let a = by-info (by-count (by-first (c .before .before))) .args in
+    c .same-whole2 .result ≡ sameWhole (secondOf (countOf (a .family) (a .w))) (a .w .mmminus) (a .w .mm)
+seconds c =
+    rw (← tells (by-first (c .before .before) .before .before), ← c .before .second-of .ensures) (c .same-whole2 .ensures)
+
+-- and what one that is passed says
+informed : (c : tie.Else1) → infoIs (by-info c .args .family) (by-info c .args .w) ≡ true
+informed c = passed (informs (c .before)) (c .if1 .left)
+
+counted : (c : tie.Else2) → let a = by-info (by-count c) .args in countRight (a .wide) (countOf (a .family) (a .w)) ≡ true
+counted c = passed (counts (c .before)) (c .if2 .left)
+
+same-first : (c : tie.Else3) →
+    let a = by-info (by-count (by-first c)) .args in
+    sameWhole (firstOf (countOf (a .family) (a .w))) (a .w .minus) (a .w .size) ≡ true
+same-first c = passed (firsts (c .before)) (c .if3 .left)
 
 returns : tie.Need-returns
-returns c =
-    let kind = c .before .before .before .before in
-    let start = kind .before in
-    uninformed (start .args .family) (start .args .wide) (start .args .w) (info-length start) (text-length start) (kind .kind-of .ensures)
-    (c .before .info-right .ensures) (c .if1 .taken)
+returns c = rw (long (c .before .before .before .before .before), failed (informs (c .before)) (c .if1 .taken))
+
+count-by-requires : tie.Need-count-by-requires
+count-by-requires c κs = search needs
+
+count-right-requires : tie.Need-count-right-requires
+count-right-requires c κs = search needs
 
 returns-2 : tie.Need-returns-2
 returns-2 c =
     let info = c .before .before .before in
-    let kind = info .before .before .before .before in
-    let start = kind .before in
-    uncounted (start .args .family) (start .args .wide) (start .args .w) (info-length start) (text-length start) (kind .kind-of .ensures)
-    (info .before .info-right .ensures) (info .if1 .left) (c .before .before .count-by .ensures) (c .before .count-right .ensures) (c .if2 .taken)
+    rw (long (by-info info), informed info, failed (counts (c .before)) (c .if2 .taken))
+
+first-of-requires : tie.Need-first-of-requires
+first-of-requires c κs = search needs
+
+same-whole-requires : tie.Need-same-whole-requires
+same-whole-requires c κs = search needs
 
 returns-3 : tie.Need-returns-3
 returns-3 c =
     let count = c .before .before .before in
-    let info = count .before .before .before in
-    let kind = info .before .before .before .before in
-    let start = kind .before in
-    other-first (start .args .family) (start .args .wide) (start .args .w) (info-length start) (text-length start) (kind .kind-of .ensures)
-    (info .before .info-right .ensures) (info .if1 .left) (count .before .before .count-by .ensures) (count .before .count-right .ensures) (count .if2 .left)
-    (c .before .before .first-of .ensures) (c .before .same-whole .ensures) (c .if3 .taken)
+    let info = by-count count in
+    rw (long (by-info info), informed info, counted count, failed (firsts (c .before)) (c .if3 .taken))
+
+second-of-requires : tie.Need-second-of-requires
+second-of-requires c κs = search needs
+
+same-whole-requires-2 : tie.Need-same-whole-requires-2
+same-whole-requires-2 c κs = search needs
 
 returns-4 : tie.Need-returns-4
 returns-4 c =
     let first = c .before .before .before in
-    let count = first .before .before .before in
-    let info = count .before .before .before in
-    let kind = info .before .before .before .before in
-    let start = kind .before in
-    other-second (start .args .family) (start .args .wide) (start .args .w) (info-length start) (text-length start) (kind .kind-of .ensures)
-    (info .before .info-right .ensures) (info .if1 .left) (count .before .before .count-by .ensures) (count .before .count-right .ensures) (count .if2 .left)
-    (first .before .before .first-of .ensures) (first .before .same-whole .ensures) (first .if3 .left)
-    (c .before .before .second-of .ensures) (c .before .same-whole2 .ensures) (c .if4 .taken)
+    let count = by-first first in
+    let info = by-count count in
+    rw (long (by-info info), informed info, counted count, same-first first, failed (seconds (c .before)) (c .if4 .taken))
 
--- the text as it is lent
-lent-length : (c : tie.After-text2) →
-    length (c .before .before .before .before .before .before .before .before .before .before .before .before .before .before .before .args .w .text) ≡ 16
-lent-length c =
-    text-length (c .before .before .before .before .before .before .before .before .before .before .before .before .before .before .before)
+text-right-requires : tie.Need-text-right-requires
+text-right-requires c κs = search needs
 
 returns-5 : tie.Need-returns-5
 returns-5 c =
-    let second = c .before .before in
-    let first = second .before .before .before in
-    let count = first .before .before .before in
-    let info = count .before .before .before in
-    let kind = info .before .before .before .before in
-    let start = kind .before in
-    texts (start .args .family) (start .args .wide) (start .args .w) (info-length start) (text-length start) (kind .kind-of .ensures)
-    (info .before .info-right .ensures) (info .if1 .left) (count .before .before .count-by .ensures) (count .before .count-right .ensures) (count .if2 .left)
-    (first .before .before .first-of .ensures) (first .before .same-whole .ensures) (first .if3 .left)
-    (second .before .before .second-of .ensures) (second .before .same-whole2 .ensures) (second .if4 .left) (c .text-right .ensures)
+    let first = c .before .before .before .before in
+    let count = by-first first in
+    let info = by-count count in
+    let second = passed (seconds (c .before .before)) (c .before .if4 .left) in
+    let kind = info .before .before .before .before .kind-of in
+    rw (long (by-info info), informed info, counted count, same-first first, second, ← kind .ensures)
+    (c .text-right .ensures)
 
 pub right-spec : {M : Type 1} → statement M
 right-spec =
     tie.close
     (tie.spec
-    (λ c κs. search needs)
-    (λ c. search needs)
-    (λ c. search needs)
-    (λ c. search needs)
-    (λ c. search needs)
-    (λ c κs. search needs)
+    kind-of-requires
+    array-read-info-right
+    array-read-info-right-2
+    array-read-info-right-3
+    array-read-info-right-4
+    info-right-requires
     returns
-    (λ c κs. search needs)
-    (λ c κs. search needs)
+    count-by-requires
+    count-right-requires
     returns-2
-    (λ c κs. search needs)
-    (λ c κs. search needs)
+    first-of-requires
+    same-whole-requires
     returns-3
-    (λ c κs. search needs)
-    (λ c κs. search needs)
+    second-of-requires
+    same-whole-requires-2
     returns-4
-    (λ c. sym (lent-length c))
-    (λ c κs. lent-length c)
+    text-right-requires
     returns-5)
