@@ -96,8 +96,8 @@ class Log:
         text = open(path, encoding="utf-8").read()
         self.verdicts = dict(re.findall(r"^fn (\S+): (.*)$", text, re.M))
         self.errors = []  # the file below the crate, the declaration, what is wrong with it
-        for file, said in re.findall(r"^(\S+?):\d+:\d+: error: (.*)$", text, re.M):
-            below = re.search(r"/((?:src|specs|proofs)/.*)", file)
+        for file, said in re.findall(r"^(.+?):\d+:\d+: error: (.*)$", text, re.M):
+            below = re.search(r"must-fail/[^/]+/[^/]+/((?:src|specs|proofs)/.*)", file)
             self.errors.append((below.group(1) if below else file, said))
 
     def facts(self, function=None):
@@ -227,11 +227,11 @@ def self_test():
     """Logs that must not pass, and one that must: what is left wrong, as texts."""
     source = "const LOW: u8 = 1;\n\nconst PAIR: Row = Row(LOW, 2);\n\nfn low() -> u8 {\n    LOW\n}\n\nfn both(a: u8) -> u8 {\n    low() + a\n}\n\nfn pair() -> Row {\n    PAIR\n}\n"
     two = "first: x.\nfile: src/lib.rt\nold:     low() + a\nnew:     low() + 1\nsecond: y.\nfile: src/lib.rt\nold: const PAIR: Row = Row(LOW, 2);\nnew: const PAIR: Row = Row(LOW, 3);\n"
-    fact = "/w/proofs/{0}/Proof.antt:1:1: error: `returns`: `omega`: the goal does not follow from what it read\n"
-    cited = "/w/proofs/{0}/Proof.antt:2:1: error: `{0}-spec`: `returns` was not admitted (it has holes), so this cannot be checked\n"
+    fact = "/src/must-fail/things/both/proofs/{0}/Proof.antt:1:1: error: `returns`: `omega`: the goal does not follow from what it read\n"
+    cited = "/src/must-fail/things/both/proofs/{0}/Proof.antt:2:1: error: `{0}-spec`: `returns` was not admitted (it has holes), so this cannot be checked\n"
     cites, other = "`returns` was not admitted (it has holes), so this cannot be checked", "computed as far as they go, the two values are `a`"
-    searched = "fn things::both: no proof: expected `both-spec` in /w/proofs/both/Proof.antt; `search` does not close `returns`\n"
-    shape = "/w/proofs/{0}/Proof.antt:1:1: error: `returns`: record `Start` has no field `before`\n"
+    searched = "fn things::both: no proof: expected `both-spec` in /src/must-fail/things/both/proofs/both/Proof.antt; `search` does not close `returns`\n"
+    shape = "/src/must-fail/things/both/proofs/{0}/Proof.antt:1:1: error: `returns`: record `Start` has no field `before`\n"
     no = "fn things::{0}: not proved\n"
     calls = "fn things::{0}: not proved; it calls `things::low`, which is not proved\n"
     yes = "fn things::{0}: proved\n"
