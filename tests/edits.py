@@ -99,9 +99,9 @@ class Log:
         text = open(path, encoding="utf-8").read()
         self.verdicts = dict(re.findall(r"^fn (\S+): (.*)$", text, re.M))
         self.errors = []  # the file below the crate, the declaration, what is wrong with it
-        for file, said in re.findall(r"^(.+?):\d+:\d+: error: (.*)$", text, re.M):
+        for file, said in re.findall(r"^(.+?):\d+:\d+: error: (.*(?:\n  .*)?)$", text, re.M):  # a long name ends a line, and the sentence goes on in the next
             below = re.search(r"must-fail/[^/]+/[^/]+/((?:src|specs|proofs)/.*)", file)
-            self.errors.append((below.group(1) if below else file, said))
+            self.errors.append((below.group(1) if below else file, re.sub(r"\s+", " ", said)))
 
     def facts(self, function=None):
         """Where a fact fails: in the proof of that function, or anywhere."""
@@ -250,6 +250,7 @@ def self_test():
         ("one of two is refused for what it calls", two, cited.format("both") + fact.format("pair") + calls.format("both") + no.format("pair"), False),
         ("one of two fails at the shape", two, right.replace(fact.format("both"), shape.format("both")), False),
         ("one of two fails at the shape besides a fact", two, shape.format("both") + right, False),
+        ("the same, in two lines", two, shape.format("both").replace(" has no", "\n  has no") + right, False),
         *((f"one of two answers needs of another shape: {o}", two, right.replace(cites.format("both"), o), False) for o in others),
         ("one of two has no file of proof", two, right.replace(no.format("both"), searched), True),
         ("the fact is another function's", two, cited.format("both") + fact.format("pair") + no.format("both") + no.format("pair"), False),
