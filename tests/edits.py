@@ -30,8 +30,8 @@ SHAPE = re.compile(
     r"has no field|that can be named from here|is not a field|is not in scope"
     r"|^`[^`]*-spec`: (?:expected type `tie\.Need-|computed as far as they go, the two values are|.* where one has `[^`]*\.function )"
 )
-# What it says of a function that has no file of proof, where it finds none by itself: the need that fails.
-SEARCHED = re.compile(r"no proof: .*`search` does not close `")
+# What it says of a function that has no file of proof, where it finds none by itself: what is returned is not what the contract says.
+SEARCHED = re.compile(r"no proof: .*`search` does not close .*`returns")
 
 
 class Program:
@@ -208,7 +208,7 @@ def tables(path):
 
 def pages(root):
     """What docs/GATE.md and docs/PROMISES.md say of the edits that isn't so."""
-    edits, wrong = edits_of(root, [])
+    edits, _ = edits_of(root, [])
     wrong, there = [], {(crate, p.name) for crate, _, programs in edits for p in programs}
     listed, crate = set(), ""
     for header, cells in tables(os.path.join(root, "docs", "GATE.md")):
