@@ -366,7 +366,7 @@ static void make_script(void)
         sheet_bytes[i] = (unsigned)ref_sheet_write(states[i], IMAGE, sheets[i], SHEET_MOST);
 }
 
-/* Images of so many undo entries, SETs and PUTs in turn, all values put. */
+/* Images of that many undo entries, SETs and PUTs in turn, all values put. */
 static const unsigned depths[] = {0, 16, 32, 48, 64};
 enum { DEPTHS = COUNT_OF(depths) };
 static uint8_t deep[DEPTHS][IMAGE];
@@ -537,7 +537,7 @@ enum { ROUNDS_MOST = 999, CASES_MOST = 2 * LENGTHS };
 static double times[CASES_MOST][2][ROUNDS_MOST];
 static unsigned rounds;
 
-/* The cases of a table, both sides of each in turn and in either order by turns, so many rounds. */
+/* The cases of a table, both sides of each in turn and in either order by turns, for that many rounds. */
 static void measure(const struct timed *t, unsigned cases)
 {
     for (unsigned r = 0; r < rounds + 1; r++)

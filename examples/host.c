@@ -6,7 +6,7 @@ size_t strlen(const char *);
 
 static uint8_t image[2048];
 
-/* One line on the image, with its reply shown, and of a PUT that breaks a rule which one it is and where. */
+/* Plays one line on the image and shows its reply, and for a PUT that breaks a rule which one it is and where. */
 static void play(size_t n, const char *line)
 {
     uint8_t reply[GSI_REPLY_MOST];

@@ -1,6 +1,6 @@
 #!/bin/sh
 # compare.sh [CASES] [SEED]: holds the C functions to the second implementation of the rules (reference.c): the answer, what it tells, and every
-# lent byte and record, on so many cases made by seed; and the second implementation to the documents' own readings (selftest.c).
+# lent byte and record, on as many cases made by seed as it is asked for; and the second implementation to the documents' own readings (selftest.c).
 set -eu
 cd "$(dirname "$0")/.."
 work=$(mktemp -d)

@@ -583,7 +583,7 @@ static uint64_t some_size(uint64_t limit)
     }
 }
 
-/* A number of so many digits about the limit and about the places where a narrower number would wrap. */
+/* A number of that many digits about the limit and about the places where a narrower number would wrap. */
 static uint64_t edge_size(uint64_t limit, unsigned width)
 {
     uint64_t all = power_of_ten(width), v, times;
@@ -816,7 +816,7 @@ static void word_of(uint8_t *w, unsigned width, char kind, unsigned index, int e
         lay_nought(w, width, kind);
 }
 
-/* A block in src, of so many words; what follows it is tempting. */
+/* A block in src, of that many words; what follows it is tempting. */
 static unsigned block_words, block_wide;
 
 static size_t word_start(size_t word)
@@ -824,7 +824,7 @@ static size_t word_start(size_t word)
     return block_wide + word * (block_wide ? 24 : 16);
 }
 
-/* edges is 0 for right words, else one block in so many has words at the edges. */
+/* edges is 0 for right words, else one block in that many has words at the edges. */
 static void make_block(unsigned words, unsigned edges)
 {
     int edge = edges && one_in(edges);
@@ -1757,7 +1757,7 @@ static void say_conf(void)
     say_number(shape->setting[below(shape->settings)].number);
 }
 
-/* A GET of so many indexes, most of them put, with repeats; one in `odds` of the lines has others among them. */
+/* A GET of that many indexes, most of them put, with repeats; one in `odds` of the lines has others among them. */
 static void say_get(const uint8_t *s, unsigned count, unsigned odds)
 {
     int odd = odds && one_in(odds);
@@ -3018,7 +3018,7 @@ static void sweep_noughts_refused(void)
             }
 }
 
-/* Writes the record after so many of those asked: it is written and read again where a word gives it, else refused by 13. */
+/* Writes the record after that many of those asked: it is written and read again where a word gives it, else refused by 13. */
 static void ask_record(const ref_word *r, int is_text, int is_pair, unsigned among)
 {
     uint64_t wrote, read;
@@ -3191,7 +3191,7 @@ static void ask_put(struct lent *image, unsigned number, unsigned place, char un
     ask_said(image, number);
 }
 
-/* What GET answers for so many words of 16 bytes. 103: "a `*` and then wide words, with zeros added on the left of the data" */
+/* What GET answers for that many words of 16 bytes. 103: "a `*` and then wide words, with zeros added on the left of the data" */
 static size_t lay_reply(uint8_t *to, const uint8_t *words, unsigned count, int wide)
 {
     size_t n = 0;
@@ -3757,7 +3757,7 @@ static unsigned place_of(unsigned number)
     return place;
 }
 
-/* A SET with so many entries standing. 103: "38 for SET of a read-only number, after 23; 24 also covers a parameter below the
+/* A SET with that many entries standing. 103: "38 for SET of a read-only number, after 23; 24 also covers a parameter below the
    lowest or between modes." */
 static unsigned ask_set(struct lent *image, unsigned number, unsigned parameter, unsigned entries)
 {
@@ -4011,7 +4011,7 @@ static void sweep_sheets(void)
     len = 0;
 }
 
-/* The image in state, of so many bytes, is a state or isn't: one of the functions in turn says so. */
+/* The image in state, of that many bytes, is a state or isn't: one of the functions in turn says so. */
 static void ask_image(size_t n, int is_state)
 {
     static unsigned turn;

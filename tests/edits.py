@@ -9,7 +9,7 @@ crate as a whole is refused; this asks it of every program, by the logs that `rt
 - of a constant that is changed the same holds for a function that reads it, and reads no other constant that the same file changes;
 - a definition that is changed stands in a file by itself, and some function or theorem fails at a fact.
 
-It also holds docs/GATE.md and docs/PROMISES.md to the edits: the first lists each wrong program in its table, the second names none that there isn't.
+It also holds docs/GATE.md and docs/PROMISES.md to the edits: the first lists each wrong program in its table, the second names none that doesn't exist.
 
     python3 tests/edits.py [CRATE ..]     the edits of these crates, or of all
     python3 tests/edits.py --self-test    on logs made up here: each thing above that must fail does
@@ -216,13 +216,13 @@ def pages(root):
             crate = cells[0].strip("`") or crate
             listed.add((crate, cells[header.index("Wrong program")].strip("`")))
     wrong += [f"docs/GATE.md has no row for {c}/{n}" for c, n in sorted(there - listed)]
-    wrong += [f"docs/GATE.md has a row for {c}/{n}, which there isn't" for c, n in sorted(listed - there)]
+    wrong += [f"docs/GATE.md has a row for {c}/{n}, which doesn't exist" for c, n in sorted(listed - there)]
     names = {n for _, n in there}
     for header, cells in tables(os.path.join(root, "docs", "PROMISES.md")):
         if header[-1] == "Edit":
             for name in re.findall(r"`(\w+)`", re.sub(r"\(.*\)", "", cells[-1])):
                 if name not in names:
-                    wrong.append(f"docs/PROMISES.md names the edit {name}, which there isn't")
+                    wrong.append(f"docs/PROMISES.md names the edit {name}, which doesn't exist")
     return wrong
 
 

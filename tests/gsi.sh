@@ -81,9 +81,11 @@ status=0
 [ "$status" -eq 2 ] && [ ! -s "$work/out" ] && grep -q '^usage: ' "$work/err" || fail "gsi alone doesn't give its usage"
 "$copy/gsi" --help >"$work/out" 2>"$work/none" || fail "--help fails"
 [ ! -s "$work/none" ] && cmp -s "$work/err" "$work/out" || fail "--help doesn't give the usage"
-for program in 'reading [level]' readings sheet 'standin [--why] [TPS100 | TPS300 | SHEET]'; do
+for program in 'reading [level]' sheet 'standin [--why] [TPS100 | TPS300 | SHEET]'; do
     sed 's/^  //; s/   .*//' "$work/out" | grep -Fqx "$program" || fail "the usage doesn't name $program"
 done
+! grep -q benchreadings "$work/out" || fail "the usage names a program of the gate's"
+grep -q 'docs/REFUSALS\.md' "$work/out" && [ -f docs/REFUSALS.md ] || fail "the usage doesn't lead to the refusals"
 
 # a check that goes well, with one crate proved before; it goes on from the first crate only once that has been seen
 cat >"$work/check" <<'END'
@@ -136,7 +138,7 @@ END
 done >"$work/err"
 same "the lines on a pipe are others" "$work/lines" "$work/err"
 same "the first run's standard output is another" "$work/printed" "$work/out"
-same "the log hasn't all of the check's words" "$work/log" "$copy/target/gsi.log"
+same "the log lacks some of the check's words" "$work/log" "$copy/target/gsi.log"
 
 # once more: nothing is checked
 (cd "$work" && copy/gsi sheet a b <"$work/in" >"$work/out" 2>"$work/err") || fail "the second run fails"
@@ -152,7 +154,7 @@ printf '%s\r\n' "${over}gsi: sheet is proved and built" >>"$work/lines"
 python3 "$work/terminal.py" '' sh -c 'exec "$0" sheet a b <"$WORK/in" >"$WORK/out"' "$copy/gsi" >"$work/err" || fail "the run on a terminal fails"
 same "what a terminal shows is another" "$work/lines" "$work/err"
 same "the standard output beside a terminal is another" "$work/printed" "$work/out"
-same "the log beside a terminal hasn't all of the check's words" "$work/log" "$copy/target/gsi.log"
+same "the log beside a terminal lacks some of the check's words" "$work/log" "$copy/target/gsi.log"
 
 # a check that fails, on a pipe and on a terminal
 cat >"$work/check" <<'END'
@@ -215,7 +217,7 @@ status=0
 python3 "$work/terminal.py" '2 of 5: pieces ..' sh "$work/shell" >"$work/err" || status=$?
 [ "$status" -ne 99 ] || fail "Ctrl-C leaves a prover"
 [ "$status" -eq 130 ] || fail "Ctrl-C gives the status $status"
-printf '%s\r\n' "${over}gsi: the check of sheet is broken off" >"$work/lines"
+printf '%s\r\n' "${over}gsi: the check of sheet was interrupted" >"$work/lines"
 tail -c "$(wc -c <"$work/lines")" "$work/err" >"$work/end"
 same "Ctrl-C leaves another end on the terminal" "$work/lines" "$work/end"
 

@@ -23,11 +23,11 @@ usage() {
     what=$1 && shift
     ./gsi reading "$@" <examples/level.gsi >"$work/out" 2>"$work/err"
     [ ! -s "$work/out" ] || fail "$what: something is printed"
-    [ "$(cat "$work/err")" = 'usage: reading [level] < FILE' ] || fail "$what: $(cat "$work/err")"
+    printf '%s\n' 'usage: reading [level] < FILE' 'docs/REFUSALS.md says what the number of each refusal means.' | cmp -s - "$work/err" || fail "$what: $(cat "$work/err")"
     echo "$what" >>"$work/passed"
 }
 
-# the bytes of a file, so many at a time
+# hands on the bytes of a file, a given number at a time
 slowly() {
     i=0
     n=$(($(wc -c <"$1") / $2))
@@ -37,10 +37,10 @@ slowly() {
     done
 }
 
-# told NUMBER AT REFUSED PLACE TEXT: what is printed of a refused block
+# told NUMBER AT REFUSED PLACE TEXT: prints what is printed of a refused block
 told() { printf "block=%s at=%s refused=%s place=%s\n%s\n%${4}s^\n" "$1" "$2" "$3" "$4" "$5" ''; }
 
-# N times a text
+# prints a text N times
 repeat() { awk -v n="$1" -v text="$2" 'BEGIN { for (i = 0; i < n; i++) printf "%s", text }'; }
 
 example=crates/reading/stdin
@@ -104,10 +104,10 @@ repeat 2000 x | same "$work/open" "a long line without CR"
 ) >"$work/words"
 same "$work/words" "32 and 33 wide words" <"$work/long"
 
-# 5 MB of blocks, in their midst 200,000 bytes without CR: first no words, then words.
+# 5 MB of blocks with 200,000 bytes without CR in their midst: first no words, then words.
 block='110014+00000003 82..00-00213159 \r\n'
 (repeat 70000 "$block" && repeat 200000 x && printf '\r\n' && repeat 70000 "$block" && repeat 12500 '11....+00000058 ' && printf '\r' && repeat 10000 "$block") >"$work/large"
-# blocks N FIRST AT: what is printed of N of them, the first of which has that number and place
+# blocks N FIRST AT: prints what is printed of N of them, the first of which has that number and place
 blocks() {
     awk -v n="$1" -v k="$2" -v at="$3" 'BEGIN {
         for (; n > 0; n--) {

@@ -34,7 +34,7 @@ static const struct family {
     uint64_t (*write)(const ref_word *list, size_t words, uint64_t wide, uint64_t crlf, uint8_t *block, size_t room);
 } station = {ref_read, ref_write}, level = {ref_read_level, ref_write_level}, *family = &station;
 
-/* Reads with so many places; checks that a refusal leaves the list untouched, and that places beyond the count stay. */
+/* Reads with that many places; checks that a refusal leaves the list untouched, and that places beyond the count stay. */
 static uint64_t reading_in(const char *block, size_t n, size_t places)
 {
     static ref_word before[34];
@@ -741,7 +741,7 @@ static size_t widen(char *to, const char *word, unsigned number, size_t byte)
     return number == 8 || number == 9 ? byte + 8 : byte;
 }
 
-/* Reads a block of so many right words, the word, one that is wrong at its start, and CR. */
+/* Reads a block of that many right words, the word, one that is wrong at its start, and CR. */
 static uint64_t reading_after(const struct family *of, const char *word, int wide, size_t before)
 {
     static const char right[] = "11....+0000000000000003 ";
@@ -1271,7 +1271,7 @@ static uint64_t load(const char *sheet, size_t n)
     return got;
 }
 
-/* Loads the given sheet with the part from `at` of so many bytes replaced. */
+/* Loads the given sheet with the part from `at` of that many bytes replaced. */
 static uint64_t load_with(size_t at, size_t gone, const char *instead)
 {
     char sheet[600];

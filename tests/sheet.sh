@@ -10,11 +10,11 @@ fail() {
     exit 1
 }
 
-# N bytes of input: lines of nine bytes, the last of them cut short
+# prints N bytes of input: lines of nine bytes, the last of them cut short
 lines() { awk -v n="$1" 'BEGIN { for (i = 0; i < n; i++) printf "%s", substr("SET/30/1\r", i % 9 + 1, 1) }'; }
 
 ./gsi sheet </dev/null >"$work/none"
-[ "$(wc -c <"$work/none")" -eq 187 ] || fail "the factory's sheet hasn't 187 bytes"
+[ "$(wc -c <"$work/none")" -eq 187 ] || fail "the factory's sheet doesn't have 187 bytes"
 grep -qx 's30=0' "$work/none" || fail "the factory's setting 30 isn't 0"
 
 printf 'SET/30/1\rKEEP' | ./gsi sheet >"$work/piece"
@@ -27,7 +27,7 @@ grep -qx 'v83=83..10+00000000' "$work/nought" || fail "UNDO of a minus nought do
 
 lines 65536 | ./gsi sheet >"$work/most"
 grep -qx 's30=1' "$work/most" || fail "65,536 bytes aren't played"
-[ "$(wc -c <"$work/most")" -eq 187 ] || fail "the sheet of 65,536 bytes hasn't 187 bytes"
+[ "$(wc -c <"$work/most")" -eq 187 ] || fail "the sheet of 65,536 bytes doesn't have 187 bytes"
 
 lines 65537 | ./gsi sheet >"$work/over"
 printf 'refused=input\n' | cmp -s - "$work/over" || fail "65,537 bytes aren't refused"

@@ -1,5 +1,5 @@
 #!/usr/bin/env python3
-"""The program standin, driven through a pseudo-terminal as a controller drives an instrument at its serial port."""
+"""Drives the program standin through a pseudo-terminal, as a controller drives an instrument at its serial port."""
 import os
 import pty
 import select
@@ -16,7 +16,7 @@ CR = b"\r"
 CRLF = b"\r\n"
 WRONG = b"@W127\r\n"
 DONE = b"?\r\n"
-USAGE = b"usage: standin [--why] [TPS100 | TPS300 | SHEET]\n"
+USAGE = b"usage: standin [--why] [TPS100 | TPS300 | SHEET]\ndocs/REFUSALS.md says what the number of each refusal means.\n"
 
 checks = 0
 
@@ -49,7 +49,7 @@ class Standin:
             text = text[os.write(self.master, text):]
 
     def hear(self, count, patience=PATIENCE):
-        """Up to count bytes, and fewer only where no more come."""
+        """Reads up to count bytes, and fewer only where no more come."""
         came = b""
         end = time.monotonic() + patience
         while len(came) < count and select.select([self.master], [], [], max(0.0, end - time.monotonic()))[0]:
@@ -88,7 +88,7 @@ def ended(process):
 
 
 def run(arguments, text=b""):
-    """What the program writes for an input that ends."""
+    """Gives what the program writes for an input that ends."""
     done = subprocess.run([GSI, "standin", *arguments], input=text, capture_output=True, timeout=PATIENCE)
     return done.stdout, done.stderr
 
@@ -126,7 +126,7 @@ def factory_answers(standin):
 
 
 def trial():
-    """From the factory state and back to it: what was set and put is taken back until there is no more to take back."""
+    """Goes from the factory state and back to it: what was set and put is taken back until there is no more to take back."""
     s = Standin()
     factory_answers(s)
     entries = 0
@@ -218,7 +218,7 @@ def long_lines():
 
 
 def sheets(folder):
-    """A start from a sheet file, and the files that are refused."""
+    """Starts from a sheet file, and tries the files that are refused."""
     sheet = example_sheet()
     s = Standin(file(folder, "right", sheet))
     s.ask(*conf(30, 1))
@@ -271,7 +271,7 @@ def sheet_300(parameters, values):
 
 
 def tps300(folder):
-    """The other series: its factory, the numbers that can only be asked for, GET in wide words, and its sheets."""
+    """Plays the other series: its factory, the numbers that can only be asked for, GET in wide words, and its sheets."""
     done, wrong = b"?\r", b"@W127\r"
     narrow, wide = b"83..10+00000001 ", b"83..10+0000000000000001 "
     s = Standin("TPS300")
@@ -348,7 +348,7 @@ def tps300(folder):
 
 
 def noughts(folder):
-    """Minus nought: put over nought, given back with its minus, taken back; and a sheet holds it and starts the stand-in with it."""
+    """Plays minus nought: put over nought, given back with its minus, taken back; and a sheet holds it and starts the stand-in with it."""
     s = Standin()
     lines = b""
     words = b""
@@ -384,7 +384,7 @@ def noughts(folder):
 
 
 def why(folder):
-    """Why each line was refused, on standard error: its number, the refusal's, of a PUT word the rule and the byte, and the line with a caret."""
+    """Asks why each line was refused: standard error has its number, the refusal's, for a PUT word the rule and the byte, and the line with a caret."""
     lines = b"SET/40/2\rPUT/83...0+00000001 \rSET/40/3\rPUT/83...0+000A5320 \r\nUNDO\r"
     replies = DONE * 2 + WRONG * 2 + DONE
     said = (

@@ -2,7 +2,7 @@
 """times.py CRATE [ROWS]: what a crate's check spends its time on, function by function, for whoever has to make one cheaper.
 
 The checker writes each module that it makes of a function as soon as it has checked it, so the times of these files tell what each took. `Lts` follows the
-function's code, and is the dear part: it grows with the statements times the locals, and with how long the locals' types are when they are spelled out. The
+function's code, and is the expensive part: it grows with the statements times the locals, and with how long the locals' types are when they are spelled out. The
 crates below must be proved: `rt check CRATE` does that. Seconds are the processor's, shared out by the clock, so leave the machine alone while it runs.
 """
 import collections

@@ -1,6 +1,7 @@
 -- The claims of minus nought: each reading holds, and the stand-in stores, gives back, takes back, writes and loads it; by computing. Assumes nothing.
 use mathlib.Core.Path.{refl}
 use mathlib.Core.Bool.{Bool, true, false}
+use mathlib.Core.List.{flatMap}
 use lib.ListN.{drop}
 use Rattle.figures.specs.Bytes.{among, every, runOf, startsWith}
 use Rattle.figures.specs.Decimal.{numberFrom, digitsOf, placesBy}
@@ -9,13 +10,10 @@ use Rattle.blocks.specs.Composing.{unlessWrong, wordsBytes}
 use Rattle.instrument.specs.Rows.{seek}
 use Rattle.instrument.specs.Settings.{rows100}
 use Rattle.instrument.specs.Values.{stored}
-use Rattle.commands.specs.Shapes.{groupsRight}
-use Rattle.lines.specs.Verdicts.{getVerdict}
-use Rattle.lines.specs.Replies.{getWords}
-use Rattle.lines.specs.Demand.{after}
-use Rattle.sheets.specs.Sheet.{sheetOf}
+use Rattle.commands.specs.Shapes.{groupsRight, indexesIn}
+use Rattle.lines.specs.Sessions.{session}
+use Rattle.sheets.specs.Sheet.{saidBy, sheetOf}
 use Rattle.sheets.specs.Lines.{linesBy, partBy}
-use Rattle.sheets.specs.Loading.{saidBy}
 use Rattle.units.specs.declared.kinds.Family.the-variants.{Station, Level}
 use Rattle.bench.specs.Readings.{All}
 use Rattle.bench.specs.Noughts.{station, level, beside, Stored}
@@ -45,5 +43,5 @@ unfolding among every numberFrom digitsOf blockFrom unlessWrong wordsBytes
 beside-noughts = ((refl, refl, refl), ((refl, refl), ((refl, refl), ((refl, refl), tt))))
 
 pub stored-noughts : Stored
-unfolding among every startsWith numberFrom digitsOf placesBy seek rows100 stored runOf groupsRight getVerdict getWords after sheetOf linesBy partBy saidBy
+unfolding among every startsWith numberFrom digitsOf placesBy seek rows100 stored runOf groupsRight indexesIn flatMap session sheetOf linesBy partBy saidBy
 stored-noughts = record { done = refl; got = refl; undone = refl; undone-first = refl; held = refl; loads = refl }

@@ -1,4 +1,4 @@
--- The claims: every reading of document 01's table holds, and of the level's two, by computing. Assumes nothing.
+-- The claims: every trial of document 01's table holds, and of the level's two, by computing. Assumes nothing.
 use mathlib.Core.Path.{refl}
 use lib.ListN.{drop}
 use Rattle.figures.specs.Bytes.{among, every, runOf, startsWith}
@@ -8,14 +8,13 @@ use Rattle.blocks.specs.Composing.{unlessWrong, wordsBytes}
 use Rattle.instrument.specs.Rows.{seek}
 use Rattle.instrument.specs.Settings.{rows100}
 use Rattle.instrument.specs.Values.{stored}
-use Rattle.commands.specs.Shapes.{groupsRight}
-use Rattle.lines.specs.Verdicts.{getVerdict}
+use Rattle.commands.specs.Shapes.{groupsRight, indexesIn}
 use Rattle.units.specs.declared.kinds.Family.the-variants.{Station, Level}
 use Rattle.bench.specs.Readings.{All, table}
 use Rattle.bench.specs.Levels.{listing, levels}
 
 pub readings : All Station table
-unfolding among every runOf startsWith numberFrom digitsOf blockFrom unlessWrong wordsBytes seek rows100 stored groupsRight getVerdict
+unfolding among every runOf startsWith numberFrom digitsOf blockFrom unlessWrong wordsBytes seek rows100 stored groupsRight indexesIn
 readings =
     let later : All Station (drop 9 table) =
     ((refl, refl), ((refl, refl), ((refl, refl), ((refl, refl), ((refl, refl), ((refl, refl), ((refl, refl), tt))))))) in

@@ -7,8 +7,7 @@ use Rattle.blocks.specs.Judging.{blockFrom}
 use Rattle.instrument.specs.Rows.{seek}
 use Rattle.instrument.specs.Settings.{rows100}
 use Rattle.instrument.specs.Values.{stored}
-use Rattle.commands.specs.Shapes.{groupsRight}
-use Rattle.lines.specs.Verdicts.{getVerdict}
+use Rattle.commands.specs.Shapes.{groupsRight, indexesIn}
 use Rattle.units.specs.declared.kinds.Family.the-variants.{Station, Level}
 use Rattle.bench.specs.Readings.{All}
 use Rattle.bench.specs.Told.{station, level, lines}
@@ -26,7 +25,7 @@ unfolding among every runOf numberFrom blockFrom
 level-told = ((refl, refl), ((refl, refl), ((refl, refl), ((refl, refl), ((refl, refl), ((refl, refl), ((refl, refl), ((refl, refl), tt))))))))
 
 pub lines-told : All Station lines
-unfolding among every runOf startsWith numberFrom seek rows100 stored groupsRight getVerdict
+unfolding among every runOf startsWith numberFrom seek rows100 stored groupsRight indexesIn
 lines-told =
     let from10 : All Station (drop 10 lines) =
     ((refl, refl, refl), ((refl, refl, refl), ((refl, refl, refl), ((refl, refl, refl), ((refl, refl, refl), tt))))) in

@@ -21,10 +21,10 @@ use Rattle.instrument.specs.declared.settings.Series.the-variants.{Tps100}
 use Rattle.state.specs.Entries.{factoryState}
 use Rattle.state.specs.declared.entries.State.{State}
 use Rattle.lines.specs.Machine.{step}
-use Rattle.lines.specs.Demand.{after}
+use Rattle.lines.specs.Sessions.{after}
 use Rattle.sheets.specs.Sheet.{sheetOf}
 use Rattle.sheets.specs.Loading.{right, loadingOf}
-use Rattle.bench.specs.Readings.{Reading, returned, refused, word, read, one, minus-mm}
+use Rattle.bench.specs.Readings.{Trial, returned, refused, word, read, one, countWord, minus-mm}
 
 abbrev pub minusNought : Whole
 minusNought = whole 1 0
@@ -36,50 +36,52 @@ alone wide = read wide false 1 (firstAt wide + wordSize wide + 1)
 abbrev pub noughts : ℕ → List ℕ
 noughts n = replicate n 48
 
--- a minus and noughts after positions 1-6, in a word of the width: its count, and the same bytes back
-abbrev pub gives : Bool → String → Count → Reading
-gives wide head c = returned (starBytes wide ++ (codes head ++ (codes "-" ++ (noughts (width wide) ++ word " ")))) (alone wide) (c ∷ [])
+-- a minus and noughts after index and information, in a word of the width: its count, and the same bytes back
+abbrev pub gives : Bool → String → String → Count → Trial
+gives wide index info c =
+    returned (starBytes wide ++ (codes index ++ (codes info ++ (codes "-" ++ (noughts (width wide) ++ word " "))))) (alone wide) (countWord index info c ∷ [])
 
 -- the two signs of a pair of noughts
-abbrev pub pairGives : Bool → String → String → Count → Reading
+abbrev pub pairGives : Bool → String → String → Count → Trial
 pairGives wide ppm mm c =
-    returned (starBytes wide ++ (codes "51..1." ++ (codes ppm ++ (noughts (width wide - 4) ++ (codes mm ++ word "000 "))))) (alone wide) (c ∷ [])
+    returned (starBytes wide ++ (codes "51..1." ++ (codes ppm ++ (noughts (width wide - 4) ++ (codes mm ++ word "000 "))))) (alone wide)
+    (countWord "51" "..1." c ∷ [])
 
 -- a total station's: each unit, the constants, either half of a pair
-abbrev pub station : Bool → List Reading
+abbrev pub station : Bool → List Trial
 station wide =
-    gives wide "21.102" (Gon (record { 0 = minusNought }))
-    ∷ gives wide "21.103" (Degree (record { 0 = minusNought }))
-    ∷ gives wide "21.104" (Tenth (record { 0 = minusNought }))
-    ∷ gives wide "21.105" (Mil (record { 0 = minusNought }))
-    ∷ gives wide "31..00" (minus-mm 0)
-    ∷ gives wide "31..01" (Feet (record { 0 = minusNought; 1 = 3 }))
-    ∷ gives wide "31..06" (Metre (record { 0 = minusNought; 1 = 4 }))
-    ∷ gives wide "31..07" (Feet (record { 0 = minusNought; 1 = 4 }))
-    ∷ gives wide "31..08" (Metre (record { 0 = minusNought; 1 = 5 }))
-    ∷ gives wide "58..16" (Metre (record { 0 = minusNought; 1 = 4 }))
-    ∷ gives wide "59..16" (Ppm (record { 0 = minusNought }))
+    gives wide "21" ".102" (Gon (record { 0 = minusNought }))
+    ∷ gives wide "21" ".103" (Degree (record { 0 = minusNought }))
+    ∷ gives wide "21" ".104" (Tenth (record { 0 = minusNought }))
+    ∷ gives wide "21" ".105" (Mil (record { 0 = minusNought }))
+    ∷ gives wide "31" "..00" (minus-mm 0)
+    ∷ gives wide "31" "..01" (Feet (record { 0 = minusNought; 1 = 3 }))
+    ∷ gives wide "31" "..06" (Metre (record { 0 = minusNought; 1 = 4 }))
+    ∷ gives wide "31" "..07" (Feet (record { 0 = minusNought; 1 = 4 }))
+    ∷ gives wide "31" "..08" (Metre (record { 0 = minusNought; 1 = 5 }))
+    ∷ gives wide "58" "..16" (Metre (record { 0 = minusNought; 1 = 4 }))
+    ∷ gives wide "59" "..16" (Ppm (record { 0 = minusNought }))
     ∷ pairGives wide "-" "+" (Pair minusNought zeroWhole)
     ∷ pairGives wide "+" "-" (Pair zeroWhole minusNought)
     ∷ pairGives wide "-" "-" (Pair minusNought minusNought)
     ∷ []
 
 -- a level's: each unit after three digits, and after two
-abbrev pub level : Bool → List Reading
+abbrev pub level : Bool → List Trial
 level wide =
-    gives wide "573..0" (minus-mm 0)
-    ∷ gives wide "573..1" (Feet (record { 0 = minusNought; 1 = 3 }))
-    ∷ gives wide "573..6" (Metre (record { 0 = minusNought; 1 = 4 }))
-    ∷ gives wide "573..7" (Feet (record { 0 = minusNought; 1 = 4 }))
-    ∷ gives wide "573..8" (Metre (record { 0 = minusNought; 1 = 5 }))
-    ∷ gives wide "573..9" (Inch (record { 0 = minusNought }))
-    ∷ gives wide "83..16" (Metre (record { 0 = minusNought; 1 = 4 }))
+    gives wide "573" "..0" (minus-mm 0)
+    ∷ gives wide "573" "..1" (Feet (record { 0 = minusNought; 1 = 3 }))
+    ∷ gives wide "573" "..6" (Metre (record { 0 = minusNought; 1 = 4 }))
+    ∷ gives wide "573" "..7" (Feet (record { 0 = minusNought; 1 = 4 }))
+    ∷ gives wide "573" "..8" (Metre (record { 0 = minusNought; 1 = 5 }))
+    ∷ gives wide "573" "..9" (Inch (record { 0 = minusNought }))
+    ∷ gives wide "83" "..16" (Metre (record { 0 = minusNought; 1 = 4 }))
     ∷ []
 
 -- a minus before mm of nought alone; and what is refused as before, an angle out of its range and text with a minus
-abbrev pub beside : List Reading
+abbrev pub beside : List Trial
 beside =
-    returned (word "51..1.+0009-000 ") (one 17) (Pair (whole 0 9) minusNought ∷ [])
+    returned (word "51..1.+0009-000 ") (one 17) (countWord "51" "..1." (Pair (whole 0 9) minusNought) ∷ [])
     ∷ refused (word "21.102-40000000 ") 10 7
     ∷ refused (word "21.104-00000600 ") 10 7
     ∷ refused (word "11....-00000000 ") 7 6

@@ -3,14 +3,14 @@ use Prim.Native.Nat.{ℕ}
 use Prim.Native.String.{String}
 use mathlib.Core.List.{List, [], _∷_}
 use Rattle.figures.specs.Text.{codes}
-use Rattle.bench.specs.Readings.{Reading, refused, tells, word}
+use Rattle.bench.specs.Readings.{Trial, refused, tells, word}
 
 -- a word alone, its number and the byte
-abbrev pub at : String → ℕ → ℕ → Reading
+abbrev pub at : String → ℕ → ℕ → Trial
 at w number byte = refused (word w) number byte
 
 -- a total station's
-abbrev pub station : List Reading
+abbrev pub station : List Trial
 station =
     at "A1....+00000001 " 5 0
     ∷ at "1A....+00000001 " 5 1
@@ -36,7 +36,7 @@ station =
     ∷ []
 
 -- a level's
-abbrev pub level : List Reading
+abbrev pub level : List Trial
 level =
     at "3A1106+00010198 " 5 1
     ∷ at "337106+00010198 " 15 0
@@ -49,7 +49,7 @@ level =
     ∷ []
 
 -- a line to a fresh stand-in: its number, and of 26 which rule and the byte
-abbrev pub lines : List Reading
+abbrev pub lines : List Trial
 lines =
     tells (word "") 22 0 0
     ∷ tells (word "set/30/1") 22 0 0

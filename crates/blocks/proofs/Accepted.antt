@@ -1,12 +1,11 @@
 -- Accepted blocks write back to the same bytes.
-use Prim.Native.Nat.{ℕ, zero, suc, _+_, _≤_}
+use Prim.Native.Nat.{ℕ, zero, suc, _+_, _≤_, _<_}
 use mathlib.Core.Path.{_≡_, refl, sym, ap, subst₂, _∙_}
 use mathlib.Core.Bool.{Bool, true, false, cond, false≢true}
 use mathlib.Core.List.{List, [], _∷_, _++_, append-assoc, append-nil}
-use mathlib.Core.Logic.{_⊎_, inl, inr, ⊎-elim}
 use native.Mathlib.Omega.{arith}
-use borrow.Author.Tests.{eqb-true, eqb-false, lt-ltb, ltb-false, leb-false}
-use lib.Dec.{eqb, leb, ltb}
+use borrow.Author.Tests.{eqb-true, eqb-false, lt-ltb}
+use lib.Dec.{eqb}
 use lib.ListN.{length, take, drop, length-append, length-drop}
 use lib.Seq.{take-add, drop-drop, length-take-le, take-append-seam, drop-append-seam}
 use Rattle.figures.specs.Bytes.{laid}
@@ -26,9 +25,11 @@ use Rattle.blocks.specs.declared.answers.Reading.{Reading}
 use Rattle.blocks.specs.declared.answers.Answer.the-variants.{Refused, Read}
 use Rattle.blocks.specs.declared.answers.Wrote.the-variants.{Written}
 use Rattle.blocks.specs.Rules.{rightAll, Lawful, readAs}
+use Rattle.blocks.proofs.Steps.{cond-by, start-by, start-small}
 use Rattle.blocks.proofs.Written.{lawful-written}
 
 pub record Accepted (f : Family) (s : List ℕ) (places : ℕ) (r : Reading) (ws : List Word) : Type 0 where
+  pub width : r .wide ≡ isWide s
   pub lawful : Lawful f (r .wide) ws
   pub placed : length ws ≤ places
   pub counted : r .words ≡ length ws
@@ -48,19 +49,9 @@ past : (b : Bool) (f : Refusal) (j : Judgement) (r : Reading) (ws : List Word) �
 past true f j r ws e = absurd (never f r ws e)
 past false f j r ws e = (refl, e)
 
-only : (b : Bool) (f : Refusal) (j : Judgement) (r : Reading) (ws : List Word) → cond b j (refusedBy f) ≡ readAs r ws → (b ≡ true) × (j ≡ readAs r ws)
-only true f j r ws e = (refl, e)
-only false f j r ws e = absurd (never f r ws e)
-
--- of the ways on from where a word would start, two accept
-through : (ended short full : Bool) (a : one.Judged) (at : ℕ) (stop next : Judgement) (r : Reading) (ws : List Word)
-    → cond ended stop (cond short (refusedBy (Wrong Short at)) (cond full (refusedBy (NoPlace at)) (afterWord at a next))) ≡ readAs r ws
-    → ((ended ≡ true) × (stop ≡ readAs r ws)) ⊎ ((ended ≡ false) × (short ≡ false) × (full ≡ false) × (a ≡ one.Judged.Right) × (next ≡ readAs r ws))
-through true short full a at stop next r ws e = inl (refl, e)
-through false true full a at stop next r ws e = absurd (never (Wrong Short at) r ws e)
-through false false true a at stop next r ws e = absurd (never (NoPlace at) r ws e)
-through false false false one.Judged.Right at stop next r ws e = inr (refl, refl, refl, refl, e)
-through false false false (one.Judged.Wrong f byte) at stop next r ws e = absurd (never (Wrong f (at + byte)) r ws e)
+past-word : (a : one.Judged) (at : ℕ) (j : Judgement) (r : Reading) (ws : List Word) → afterWord at a j ≡ readAs r ws → (a ≡ one.Judged.Right) × (j ≡ readAs r ws)
+past-word one.Judged.Right at j r ws e = (refl, e)
+past-word (one.Judged.Wrong f byte) at j r ws e = absurd (never (Wrong f (at + byte)) r ws e)
 
 at-is : (b : ℕ) (rest : List ℕ) → isAt b rest ≡ true → rest ≡ b ∷ drop 1 rest
 at-is b [] e = absurd (false≢true e)
@@ -122,13 +113,11 @@ ended-on f more wide places at rest done r ws cr e =
     subst₂ (On f more wide places at rest done) is (ap (λ (j : Judgement). j .words) e) (end-on f more wide places at rest done (isAt 10 (drop 1 rest)) cr refl)
 
 step-on : (f : Family) (more : ℕ) (wide : Bool) (places at : ℕ) (rest : List ℕ) (done : List Word) (r : Reading) (ws : List Word) (w : Word)
-    → ltb (length rest) (wordSize wide) ≡ false → leb places (length done) ≡ false → wordOf f wide rest ≡ rightWord w
+    → wordSize wide ≤ length rest → length done < places → wordOf f wide rest ≡ rightWord w
     → On f more wide places (at + wordSize wide) (drop (wordSize wide) rest) (done ++ (w ∷ [])) r ws → On f (suc more) wide places at rest done r ws
 unfolding rightAll wordsBytes
-step-on f more wide places at rest done r ws w short full e o =
+step-on f more wide places at rest done r ws w long free e o =
     let k = wordSize wide in
-    let long = ltb-false (length rest) k short in
-    let free = leb-false places (length done) full in
     let one-more = length-append done (w ∷ []) in
     let (right, bytes) = read-write f wide rest w e in
     record {
@@ -150,20 +139,17 @@ step-on f more wide places at rest done r ws w short full e o =
 from-on : (f : Family) (more : ℕ) (wide : Bool) (places at : ℕ) (rest : List ℕ) (done : List Word) (r : Reading) (ws : List Word)
     → blockFrom f more wide places at rest done ≡ readAs r ws → On f more wide places at rest done r ws
 unfolding blockFrom
-from-on f zero wide places at rest done r ws e =
-    let h = only (isAt 13 rest) (NoEnd at) (record { answer = endedAt wide at rest (length done); words = done }) r ws e in
-    ended-on f zero wide places at rest done r ws (h .0) (h .1)
-from-on f (suc more) wide places at rest done r ws e =
+from-on f zero wide places at rest done r ws =
+    cond-by (λ (j : Judgement). j ≡ readAs r ws → On f zero wide places at rest done r ws) (isAt 13 rest) _ _ (ended-on f zero wide places at rest done r ws)
+    (λ _ e. absurd (never (NoEnd at) r ws e))
+from-on f (suc more) wide places at rest done r ws =
     let o = wordOf f wide rest in
-    ⊎-elim (λ h. ended-on f (suc more) wide places at rest done r ws (h .0) (h .1))
-    (λ h.
-    step-on f more wide places at rest done r ws (o .word) (h .1) (h .2) (λ i. record { answer = h .3 i; word = o .word })
-    (from-on f more wide places (at + wordSize wide) (drop (wordSize wide) rest) (done ++ (o .word ∷ [])) r ws (h .4)))
-    (through (isAt 13 rest) (ltb (length rest) (wordSize wide)) (leb places (length done)) (o .answer) at _ _ r ws e)
-
-start-most : (wide : Bool) → firstAt wide ≤ 1
-start-most true = omega arith
-start-most false = omega arith
+    start-by (λ (j : Judgement). j ≡ readAs r ws → On f (suc more) wide places at rest done r ws) false (wordSize wide) places (length done) at rest
+    refusedBy _ _ (ended-on f (suc more) wide places at rest done r ws) (λ e. absurd (never (NoEnd at) r ws e))
+    (λ _ _ e. absurd (never (Wrong Short at) r ws e)) (λ e. absurd (never (NoPlace at) r ws e)) (λ _ _ long free e.
+    let (right, on) = past-word (o .answer) at _ r ws e in
+    step-on f more wide places at rest done r ws (o .word) long free (λ i. record { answer = right i; word = o .word })
+    (from-on f more wide places (at + wordSize wide) (drop (wordSize wide) rest) (done ++ (o .word ∷ [])) r ws on))
 
 star-is : (s : List ℕ) (wide : Bool) → eqb (length s) 0 ≡ false → isWide s ≡ wide → starBytes wide ≡ take (firstAt wide) s
 star-is [] wide e h = absurd (false≢true (sym e))
@@ -178,10 +164,11 @@ accepted-on f s places r ws wide full star first o =
     let some : 1 ≤ length ws = rw list (o .some first) in
     let most : length ws ≤ 32 = rw list (o .most) in
     record {
+      width = o .width ∙ sym star;
       lawful = record { some = some; most = most; right = rw (o .width, list) (o .right) };
       placed = rw list (omega (arith, o .placed (omega arith)));
       counted = o .counted;
-      within = omega (arith, length-drop (firstAt wide) s, start-most wide, eqb-false (length s) 0 full);
+      within = omega (arith, length-drop (firstAt wide) s, start-small wide, eqb-false (length s) 0 full);
       bytes = rw (o .width, list, o .used, front, o .bytes) (sym (take-add (firstAt wide) (o .size) s));
       apart = λ h. rw (o .used) (rw drop-drop at (o .apart h));
     }

@@ -23,7 +23,8 @@ use Rattle.blocks.specs.Composing.{starBytes, wordsBytes, blockBytes, un
 use Rattle.blocks.specs.Keeping.{refusedList, wroteList, composedOf, listOf}
 use Rattle.figures.specs.Text.{endBytes}
 use Rattle.blocks.proofs.Steps.{apart}
-use Rattle.blocks.proofs.Rooms.{firstWrong, unless-right, unless-wrong, words-fit, star-small, set-laid, wrote-as}
+use Rattle.blocks.specs.Rules.{rightAll}
+use Rattle.blocks.proofs.Rooms.{wrong-by, firstWrong, unless-right, unless-wrong, words-fit, star-small, set-laid, wrote-as}
 
 -- the refusal by the first wrong record, or the bytes
 abbrev pub laidIn : List ℕ → List ℕ → Composed
@@ -66,7 +67,9 @@ module _ (f : Family) (room : List ℕ) (wide : Bool) (ws : List Word) (done : L
 -- at most 32 right records leave room for the terminator
 pub words-end : (f : Family) (wide : Bool) (ws : List Word) → length ws ≤ 32 → firstWrong f wide 0 ws ≡ none
     → length (starBytes wide ++ wordsBytes f wide ws) + 2 ≤ 771
-words-end f wide ws h e = omega (arith, length-append (starBytes wide) (wordsBytes f wide ws), star-small wide, words-fit f wide 0 ws e)
+words-end f wide ws h e =
+    let right = wrong-by (λ (o : Option ℕ). o ≡ none → rightAll f wide ws ≡ true) f wide 0 ws some none (λ j _ q. apart cc) (λ right _. right) e in
+    omega (arith, length-append (starBytes wide) (wordsBytes f wide ws), star-small wide, words-fit f wide ws h right)
 
 module _ (f : Family) (wide crlf : Bool) (ws : List Word) where
   pub composed-none : length ws ≡ 0 → composedOf f wide crlf ws ≡ refusedList Count

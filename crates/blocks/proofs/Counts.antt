@@ -5,10 +5,10 @@ use mathlib.Core.List.{List, [], _∷_, _++_}
 use Prim.Native.Nat.{ℕ, zero, suc, _+_, _*_, _≤_, zero-le}
 use native.Mathlib.Nat.{le-refl}
 use native.Mathlib.Omega.{arith}
-use lib.Dec.{eqb, ltb, leb}
+use lib.Dec.{eqb, ltb}
 use lib.ListN.{length, drop, length-append}
 use lib.Seq.{take-length, take-append-seam}
-use borrow.Author.Tests.{ltb-false, le-leb, leb-false}
+use borrow.Author.Tests.{ltb-false, le-leb}
 use Rattle.words.specs.Reading.{wordSize, wordOf}
 use Rattle.units.specs.declared.kinds.Family.{Family}
 use Rattle.words.specs.declared.records.Word.{Word}
@@ -24,7 +24,7 @@ use Rattle.blocks.specs.Judging.{Judgement, isAt, isWide, firstAt, refus
 use Rattle.blocks.specs.Keeping.{noBlock, blockOf, listOf, begunOf, gathered}
 use Rattle.blocks.specs.Composing.{written}
 use Rattle.blocks.proofs.Row.{mix}
-use Rattle.blocks.proofs.Steps.{start-small}
+use Rattle.blocks.proofs.Steps.{cond-by, start-by, start-small}
 
 -- so many records go into a block, and into a list of so many places
 abbrev pub Few : ℕ → ℕ → Type 0
@@ -41,10 +41,6 @@ size-le false = omega arith
 module _ (f : Family) (places : ℕ) (P : Judgement → Type 0) (refuses : (r : Refusal) → refusalTells r ≤ 769 → P (refusedBy r))
     (ends : (wide : Bool) (at : ℕ) (rest : List ℕ) (ws : List Word) → at ≤ 769 → Few (length ws) places
     → P (record { answer = endedAt wide at rest (length ws); words = ws })) where
-  cond-by : (t : Bool) (j k : Judgement) → P j → (t ≡ false → P k) → P (cond t j k)
-  cond-by true j k h h′ = h
-  cond-by false j k h h′ = h′ refl
-
   after-by : (at : ℕ) (a : one.Judged) (j : Judgement) → ((x : Fault) (byte : ℕ) → a ≡ one.Judged.Wrong x byte → at + byte ≤ 769) → P j → P (afterWord at a j)
   after-by at one.Judged.Right j h p = p
   after-by at (one.Judged.Wrong fault byte) j h p = refuses (Wrong fault (at + byte)) (h fault byte refl)
@@ -52,26 +48,24 @@ module _ (f : Family) (places : ℕ) (P : Judgement → Type 0) (refuses : (r : 
   from-by : (more : ℕ) (wide : Bool) (at : ℕ) (rest : List ℕ) (ws : List Word) → at + more * 24 ≤ 769 → length ws + more ≤ 32 → length ws ≤ places
       → P (blockFrom f more wide places at rest ws)
   unfolding blockFrom
-  from-by zero wide at rest ws a h k = cond-by (isAt 13 rest) _ _ (ends wide at rest ws (omega arith) (omega arith, k)) (λ _. refuses (NoEnd at) (omega arith))
+  from-by zero wide at rest ws a h k = cond-by P (isAt 13 rest) _ _ (λ _. ends wide at rest ws (omega arith) (omega arith, k)) (λ _. refuses (NoEnd at) (omega arith))
   from-by (suc more) wide at rest ws a h k =
-      cond-by (isAt 13 rest) _ _ (ends wide at rest ws (omega arith) (omega arith, k)) (λ _.
-      cond-by (ltb (length rest) (wordSize wide)) _ _ (refuses (Wrong Short at) (omega arith)) (λ _.
-      cond-by (leb places (length ws)) _ _ (refuses (NoPlace at) (omega arith)) (λ e.
+      start-by P false (wordSize wide) places (length ws) at rest refusedBy _ _ (λ _. ends wide at rest ws (omega arith) (omega arith, k)) (refuses (NoEnd at) (omega arith))
+      (λ _ _. refuses (Wrong Short at) (omega arith)) (refuses (NoPlace at) (omega arith)) (λ _ _ _ free.
       let w = wordOf f wide rest .word in
       let next = at + wordSize wide in
       let later = drop (wordSize wide) rest in
       let one-more : length (ws ++ (w ∷ [])) ≡ length ws + 1 = length-append ws (w ∷ []) in
-      let free = leb-false places (length ws) e in
       after-by at (wordOf f wide rest .answer) (blockFrom f more wide places next later (ws ++ (w ∷ [])))
       (λ x byte told. omega (arith, told-within f wide rest x byte told, size-le wide))
-      (from-by more wide next later (ws ++ (w ∷ [])) (omega (arith, size-le wide)) (omega arith) (omega (arith, free))))))
+      (from-by more wide next later (ws ++ (w ∷ [])) (omega (arith, size-le wide)) (omega arith) (omega arith)))
 
   pub judged-by : (s : List ℕ) → P (judged f s places)
   judged-by s =
       let wide = isWide s in
       let rest = drop (firstAt wide) s in
-      cond-by (eqb (length s) 0) _ _ (refuses Empty (omega arith)) (λ _.
-      cond-by (isAt 13 rest) _ _ (refuses NoWord (omega arith)) (λ _.
+      cond-by P (eqb (length s) 0) _ _ (λ _. refuses Empty (omega arith)) (λ _.
+      cond-by P (isAt 13 rest) _ _ (λ _. refuses NoWord (omega arith)) (λ _.
       from-by 32 wide (firstAt wide) rest [] (omega (arith, start-small wide)) (omega arith) (omega arith)))
 
 pub judged-few : (f : Family) (places : ℕ) (s : List ℕ) → Few (length (judged f s places .words)) places

@@ -40,8 +40,3 @@ gather-determined = by-equation (List Word) Block gathered
 pub read-determined : (f : Family) → Determined (List ℕ × List Word) (Answer × List Word) (λ i o. Reads f (i .0) (i .1) (o .0) (o .1))
 read-determined f =
     by-two (List ℕ × List Word) Answer (List Word) (λ i. judged f (i .0) (length (i .1)) .answer) (λ i. filled (judged f (i .0) (length (i .1)) .words) (i .1))
-
-pub write-determined : (f : Family) → Determined (List Word × Bool × Bool × List ℕ) (Wrote × List ℕ) (λ i o. Writes f (i .0) (i .1) (i .2) (i .3) (o .0) (o .1))
-write-determined f =
-    by-two (List Word × Bool × Bool × List ℕ) Wrote (List ℕ) (λ i. written f (i .0) (i .1) (i .2) (i .3) .answer)
-    (λ i. written f (i .0) (i .1) (i .2) (i .3) .room)

@@ -1,12 +1,13 @@
--- A block that a word's fault refuses: one of its words has that fault, and the byte told is that word's. "10 now means angle out of range alone"
--- (request 102): what is told is the first data byte of such an angle, and a level's block, which has none, is never refused so.
-use Prim.Native.Nat.{ℕ, zero, suc, _+_}
+-- A block that a word's fault refuses: it is the first of its words that has one, and the byte told is that word's. "10 now means angle out of range
+-- alone" (request 102): what is told is the first data byte of such an angle, and a level's block, which has none, is never refused so.
+use Prim.Native.Nat.{ℕ, zero, suc, _+_, _≤_, _<_}
 use mathlib.Core.Path.{_≡_, refl, ap, _∙_}
-use mathlib.Core.Bool.{Bool, true, false, cond}
-use mathlib.Core.List.{List, [], _∷_, _++_}
+use mathlib.Core.Bool.{Bool, true, false}
+use mathlib.Core.List.{List, []}
+use native.Mathlib.Nat.{zero-mul, suc-mul}
 use native.Mathlib.Omega.{arith}
-use borrow.Author.Tests.{ltb-true, lt-leb}
-use lib.Dec.{eqb, leb, ltb}
+use borrow.Author.Tests.{eqb-true, eqb-false, lt-leb}
+use lib.Dec.{eqb}
 use lib.ListN.{length, drop}
 use lib.Seq.{drop-drop}
 use Rattle.figures.specs.Decimal.{numberOf}
@@ -21,64 +22,80 @@ use Rattle.words.specs.declared.reading.Fault.{Fault}
 use Rattle.words.specs.declared.reading.Fault.the-variants.{Short}
 use Rattle.words.specs.declared.reading.Judged as one
 use Rattle.blocks.specs.Answers.{refusalNumber, refusalTells}
-use Rattle.blocks.specs.Judging.{Judgement, isAt, isWide, firstAt, afterWord, blockFrom, judged}
+use Rattle.blocks.specs.Judging.{Judgement, isAt, isWide, firstAt, refusedBy, afterWord, blockFrom, judged}
+use Rattle.blocks.specs.Rules.{wordStart, judgedWord, FirstFault}
 use Rattle.blocks.specs.declared.answers.Refusal.{Refusal}
 use Rattle.blocks.specs.declared.answers.Refusal.the-variants.{Empty, Wrong, NoWord, NoEnd, NoPlace, Count, Record, Room}
-use Rattle.blocks.specs.declared.answers.Answer.{Answer}
-use Rattle.blocks.specs.declared.answers.Answer.the-variants.{Refused, Read}
+use Rattle.blocks.specs.declared.answers.Answer.the-variants.{Refused}
+use Rattle.blocks.proofs.Steps.{apart, cond-by, start-by}
 
-module _ (f : Family) (wide : Bool) (s : List ℕ) where
-  -- where a word's fault refuses, a word has it, and tells the byte
-  abbrev Own : Refusal → Type 0
-  Own Empty = Unit {0}
-  Own (Wrong x at) = (start byte : ℕ) × (at ≡ start + byte) × (wordOf f wide (drop start s) .answer ≡ one.Judged.Wrong x byte)
-  Own NoWord = Unit {0}
-  Own (NoEnd at) = Unit {0}
-  Own (NoPlace at) = Unit {0}
-  Own Count = Unit {0}
-  Own (Record at) = Unit {0}
-  Own (Room bytes) = Unit {0}
+up-to : (P : ℕ → Type 0) (k : ℕ) → ((j : ℕ) → j < k → P j) → P k → (j : ℕ) → j ≤ k → P j
+up-to P k before here j h = go (eqb j k) refl
+  where
+    go : (b : Bool) → eqb j k ≡ b → P j
+    go true e = rw (eqb-true j k e) here
+    go false e = before j (omega (arith, eqb-false j k e))
 
-  abbrev Sound : Answer → Type 0
-  Sound (Read r) = Unit {0}
-  Sound (Refused r) = Own r
+module _ (f : Family) (s : List ℕ) where
+  -- a word is right, and not the block's end
+  abbrev Past : ℕ → Type 0
+  Past k = (judgedWord f s k .answer ≡ one.Judged.Right) × (isAt 13 (drop (wordStart (isWide s) k) s) ≡ false)
 
-  either : (b : Bool) (i j : Judgement) → (b ≡ true → Sound (i .answer)) → Sound (j .answer) → Sound (cond b i j .answer)
-  either true i j p q = p refl
-  either false i j p q = q
+  -- where a word's fault refuses, it is the first
+  abbrev Sound : Judgement → Type 0
+  Sound j = (x : Fault) (at : ℕ) → j .answer ≡ Refused (Wrong x at) → FirstFault f s x at
 
-  from-here : (more places at : ℕ) (rest : List ℕ) (ws : List Word) → rest ≡ drop at s → Sound (blockFrom f more wide places at rest ws .answer)
+  by-own : (y : Fault) (p : ℕ) → FirstFault f s y p → Sound (refusedBy (Wrong y p))
+  by-own y p first x at e =
+      let same : y ≡ x = cc in
+      let place : p ≡ at = cc in
+      rw (same, place) at first
+
+  from-word : (more places k at : ℕ) (rest : List ℕ) (ws : List Word) → at ≡ wordStart (isWide s) k → rest ≡ drop at s → k + more ≤ 32
+      → ((j : ℕ) → j < k → Past j) → Sound (blockFrom f more (isWide s) places at rest ws)
   unfolding blockFrom
-  from-here zero places at rest ws is = either (isAt 13 rest) _ _ (λ _. tt) tt
-  from-here (suc more) places at rest ws is =
+  from-word zero places k at rest ws from is few past = cond-by Sound (isAt 13 rest) _ _ (λ _ x p e. apart cc) (λ _ x p e. apart cc)
+  from-word (suc more) places k at rest ws from is few past =
+      let wide = isWide s in
       let size = wordSize wide in
-      let later = from-here more places (at + size) (drop size rest) (ws ++ (wordOf f wide rest .word ∷ [])) (ap (drop size) is ∙ drop-drop size at s) in
-      let short : ltb (length rest) size ≡ true → wordOf f wide rest .answer ≡ one.Judged.Wrong Short 0 = λ e.
-      rw (lt-leb size (length rest) (ltb-true (length rest) size e)) in
-      either (isAt 13 rest) _ _ (λ _. tt)
-      (either (ltb (length rest) size) _ _ (λ e. (at, 0, omega arith, rw (← is) (short e)))
-      (either (leb places (length ws)) _ _ (λ _. tt) (by-answer (wordOf f wide rest .answer) (rw (← is)) _ later)))
+      let here : rest ≡ drop (wordStart wide k) s = rw (← from) is in
+      let zero-more : at + 0 ≡ at = omega arith in
+      let first : isAt 13 rest ≡ false → (x : Fault) (byte : ℕ) → wordOf f wide rest .answer ≡ one.Judged.Wrong x byte → FirstFault f s x (at + byte) =
+      λ going x byte e.
+      record {
+        number = k;
+        few = omega arith;
+        byte = byte;
+        told = omega arith;
+        fault = rw (← here) e;
+        before = λ j h. past j h .0;
+        unended = up-to (λ j. isAt 13 (drop (wordStart wide j) s) ≡ false) k (λ j h. past j h .1) (rw (← here) going);
+      } in
+      start-by Sound false size places (length ws) at rest refusedBy _ _ (λ _ x p e. apart cc) (λ x p e. apart cc)
+      (λ going short. by-own Short at (rw zero-more at (first going Short 0 (rw (lt-leb size (length rest) short))))) (λ x p e. apart cc) (λ going _ _ _.
+      by-answer (wordOf f wide rest .answer) refl _ (first going) (λ e.
+      from-word more places (suc k) (at + size) (drop size rest) _ (omega (arith, suc-mul k size)) (ap (drop size) is ∙ drop-drop size at s) (omega arith)
+      (λ j h. up-to Past k past (rw (← here) e, rw (← here) going) j (omega arith))))
     where
-      by-answer : (a : one.Judged) → wordOf f wide (drop at s) .answer ≡ a → (next : Judgement) → Sound (next .answer) → Sound (afterWord at a next .answer)
-      by-answer one.Judged.Right e next later = later
-      by-answer (one.Judged.Wrong x byte) e next later = (at, byte, refl, e)
+      by-answer : (a : one.Judged) → wordOf f (isWide s) rest .answer ≡ a → (next : Judgement)
+          → ((x : Fault) (byte : ℕ) → wordOf f (isWide s) rest .answer ≡ one.Judged.Wrong x byte → FirstFault f s x (at + byte))
+          → (wordOf f (isWide s) rest .answer ≡ one.Judged.Right → Sound next) → Sound (afterWord at a next)
+      by-answer one.Judged.Right e next first later = later e
+      by-answer (one.Judged.Wrong x byte) e next first later = by-own x (at + byte) (first x byte e)
 
--- refusals 2, 5 to 10 and 15 are those of a word, and tell the byte that the word's own refusal does
-pub own-fault : (f : Family) (s : List ℕ) (places : ℕ) (x : Fault) (at : ℕ) → judged f s places .answer ≡ Refused (Wrong x at)
-    → (start byte : ℕ) × (at ≡ start + byte) × (wordOf f (isWide s) (drop start s) .answer ≡ one.Judged.Wrong x byte)
-own-fault f s places x at is =
+-- refusals 2, 5 to 10 and 15 are those of a word, tell the byte that the word's own refusal does, and no word before it has a fault
+pub own-fault : (f : Family) (s : List ℕ) (places : ℕ) (x : Fault) (at : ℕ) → judged f s places .answer ≡ Refused (Wrong x at) → FirstFault f s x at
+own-fault f s places =
     let start = firstAt (isWide s) in
-    let sound : Sound f (isWide s) s (judged f s places .answer) =
-    either f (isWide s) s (eqb (length s) 0) _ _ (λ _. tt)
-    (either f (isWide s) s (isAt 13 (drop start s)) _ _ (λ _. tt) (from-here f (isWide s) s 32 places start (drop start s) [] refl)) in
-    rw is at sound
+    cond-by (Sound f s) (eqb (length s) 0) _ _ (λ _ x p e. apart cc) (λ _.
+    cond-by (Sound f s) (isAt 13 (drop start s)) _ _ (λ _ x p e. apart cc) (λ _.
+    from-word f s 32 places 0 start (drop start s) [] (omega (arith, zero-mul (wordSize (isWide s)))) refl (omega arith) (λ j h. absurd (omega arith))))
 
 -- refused by 10, a block is so by one of its words
 ten-own : (f : Family) (s : List ℕ) (places : ℕ) (r : Refusal) → judged f s places .answer ≡ Refused r → refusalNumber r ≡ 10
-    → (x : Fault) × (faultNumber x ≡ 10)
-    × (start byte : ℕ) × (refusalTells r ≡ start + byte) × (wordOf f (isWide s) (drop start s) .answer ≡ one.Judged.Wrong x byte)
+    → (x : Fault) × (faultNumber x ≡ 10) × FirstFault f s x (refusalTells r)
 ten-own f s places Empty is ten = absurd (omega arith)
-ten-own f s places (Wrong x at) is ten = let (start, byte, told, own) = own-fault f s places x at is in (x, ten, start, byte, told, own)
+ten-own f s places (Wrong x at) is ten = (x, ten, own-fault f s places x at is)
 ten-own f s places NoWord is ten = absurd (omega arith)
 ten-own f s places (NoEnd at) is ten = absurd (omega arith)
 ten-own f s places (NoPlace at) is ten = absurd (omega arith)
@@ -86,16 +103,17 @@ ten-own f s places Count is ten = absurd (omega arith)
 ten-own f s places (Record at) is ten = absurd (omega arith)
 ten-own f s places (Room bytes) is ten = absurd (omega arith)
 
--- an angle out of its range, and its first data byte
+-- an angle out of its range, the block's first fault, and its first data byte
 pub block-ten : (f : Family) (s : List ℕ) (places : ℕ) (r : Refusal) → judged f s places .answer ≡ Refused r → refusalNumber r ≡ 10
-    → (start : ℕ) × (refusalTells r ≡ start + 7)
-    × (let word = drop start s in (kindAt f word ≡ Angle) × (isCounted (angleAt (pos 6 word) 0 (numberOf (dataIn (isWide s) word))) ≡ false))
+    → (x : Fault) × (own : FirstFault f s x (refusalTells r)) × (own .byte ≡ 7)
+    × (let word = drop (wordStart (isWide s) (own .number)) s in
+    (kindAt f word ≡ Angle) × (isCounted (angleAt (pos 6 word) 0 (numberOf (dataIn (isWide s) word))) ≡ false))
 block-ten f s places r is ten =
-    let (x, of, start, byte, told, own) = ten-own f s places r is ten in
-    let (angle, out, seven) = ten-angle f (isWide s) (drop start s) x byte own of in
-    (start, omega arith, (angle, out))
+    let (x, of, own) = ten-own f s places r is ten in
+    let (angle, out, seven) = ten-angle f (isWide s) (drop (wordStart (isWide s) (own .number)) s) x (own .byte) (own .fault) of in
+    (x, own, seven, (angle, out))
 
 pub level-other : (s : List ℕ) (places : ℕ) (r : Refusal) → judged Level s places .answer ≡ Refused r → refusalNumber r ≡ 10 → ⊥
 level-other s places r is ten =
-    let (x, of, start, byte, told, own) = ten-own Level s places r is ten in
-    level-ten (isWide s) (drop start s) x byte own of
+    let (x, of, own) = ten-own Level s places r is ten in
+    level-ten (isWide s) (drop (wordStart (isWide s) (own .number)) s) x (own .byte) (own .fault) of

@@ -9,5 +9,6 @@ pub mod Determined
 pub mod Steps
 pub mod Rooms
 pub mod Composes
+pub mod Refused
 pub mod Wrong
 pub mod Enough

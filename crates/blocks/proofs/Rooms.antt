@@ -1,9 +1,10 @@
 -- Laws of composing: the first record that no word gives, the bytes of those before it, and the room that holds them from its start.
 use Prim.Native.Nat.{ℕ, _+_, _-_, _*_, _<_, _≤_}
 use mathlib.Core.Path.{_≡_, refl, sym, ap, _∙_}
-use mathlib.Core.Bool.{Bool, true, false, cond}
+use mathlib.Core.Bool.{Bool, true, false, cond, and-eq-true-iff}
 use mathlib.Core.List.{List, [], _∷_, _++_, append-assoc, append-nil}
 use mathlib.Core.Option.{Option, none, some}
+use native.Mathlib.Nat.{zero-mul, suc-mul, mul-le-mul}
 use native.Mathlib.Numerals.{add-one}
 use native.Mathlib.Omega.{arith}
 use borrow.Rule.Slice.PartMut.{putMid, midOf}
@@ -27,14 +28,25 @@ use Rattle.blocks.specs.declared.judging.Block.{Block}
 use Rattle.blocks.specs.declared.composing.Composed.{Composed}
 use Rattle.blocks.specs.Judging.{firstAt}
 use Rattle.blocks.specs.Composing.{starBytes, wordsBytes, unlessWrong}
+use Rattle.blocks.specs.Rules.{rightAll}
 use Rattle.blocks.proofs.judging.Block.{the-row}
-use Rattle.blocks.proofs.Steps.{apart, width-small, start-small}
+use Rattle.blocks.proofs.Steps.{apart, cond-by, width-small, start-small}
 
 -- a block has 32 records, so those up to its count are as many
 pub listed : (b : Block) (vs : List Val) → Is the-row b vs → b .n ≤ 32 → length (take (b .n) (b .words)) ≡ b .n
 listed b vs is h =
     let all : length (b .words) ≡ 32 = sym (length-map (b .words) _) ∙ is .1 .1 .0 .1 .0 .1 in
     length-take-le (b .n) (b .words) (omega arith)
+
+-- what holds of each record's number and, where all are right, of what comes then
+pub wrong-by : {A : Type 0} (P : A → Type 0) (f : Family) (wide : Bool) (i : ℕ) (ws : List Word) (wrong : ℕ → A) (next : A)
+    → ((j : ℕ) → j < i + length ws → P (wrong j)) → (rightAll f wide ws ≡ true → P next) → P (unlessWrong f wide i ws wrong next)
+unfolding unlessWrong rightAll
+wrong-by P f wide i [] wrong next at last = last refl
+wrong-by P f wide i (w ∷ ws) wrong next at last =
+    cond-by P (isRight f wide w) (unlessWrong f wide (i + 1) ws wrong next) (wrong i)
+    (λ e. wrong-by P f wide (i + 1) ws wrong next (λ j h. at j (omega arith)) (λ right. last (rw e right)))
+    (λ _. at i (omega arith))
 
 -- the first record that no word gives, and what comes by it
 
@@ -122,17 +134,24 @@ put-next f wide ws i d h =
     rw (add-one i, take-suc ws i d h, words-snoc f wide (take i ws) (getD ws i d))
     (sym (append-assoc (starBytes wide) (wordsBytes f wide (take i ws)) (bytesOf f wide (getD ws i d))))
 
-pub words-fit : (f : Family) (wide : Bool) (i : ℕ) (ws : List Word) → firstWrong f wide i ws ≡ none → length (wordsBytes f wide ws) ≤ 24 * length ws
-unfolding unlessWrong wordsBytes
-words-fit f wide i [] e = omega arith
-words-fit f wide i (w ∷ ws) e =
-    let right = told (isRight f wide w) (firstWrong f wide (i + 1) ws) e in
-    let rest = words-fit f wide (i + 1) ws (right .1) in
-    omega (arith, length-append (bytesOf f wide w) (wordsBytes f wide ws), bytes-length f wide w (right .0), rest, width-small wide)
-  where
-    told : (t : Bool) (o : Option ℕ) → cond t o (some i) ≡ none → (t ≡ true) × (o ≡ none)
-    told true o e = (refl, e)
-    told false o e = apart cc
+pub words-length : (f : Family) (wide : Bool) (ws : List Word) → rightAll f wide ws ≡ true → length (wordsBytes f wide ws) ≡ length ws * wordSize wide
+unfolding wordsBytes rightAll
+words-length f wide [] right = sym (zero-mul (wordSize wide))
+words-length f wide (w ∷ ws) right =
+    let parts = and-eq-true-iff (isRight f wide w) (rightAll f wide ws) .0 right in
+    omega (
+      arith,
+      length-append (bytesOf f wide w) (wordsBytes f wide ws),
+      bytes-length f wide w (parts .0),
+      words-length f wide ws (parts .1),
+      suc-mul (length ws) (wordSize wide),
+    )
+
+pub words-fit : (f : Family) (wide : Bool) (ws : List Word) → length ws ≤ 32 → rightAll f wide ws ≡ true → length (wordsBytes f wide ws) ≤ 768
+words-fit f wide ws few right =
+    let size : wordSize wide ≤ 24 = omega (arith, width-small wide) in
+    let most : length ws * wordSize wide ≤ 32 * 24 = mul-le-mul few size in
+    omega (arith, words-length f wide ws right)
 
 -- a room that holds what is put from its start
 

@@ -24,7 +24,7 @@ use Rattle.blocks.specs.declared.judging.Next.{Next}
 use Rattle.blocks.specs.declared.judging.Next.the-variants.{Ends, Stops, Goes}
 use Rattle.blocks.specs.declared.judging.Stepped.{Stepped}
 use Rattle.blocks.specs.declared.judging.JudgedBlock.{JudgedBlock}
-use Rattle.blocks.specs.Judging.{Judgement, isAt, isWide, firstAt, endedAt, refusedBy, afterWord, blockFrom, judged}
+use Rattle.blocks.specs.Judging.{Judgement, isAt, isWide, firstAt, endedAt, refusedBy, afterWord, atStart, blockFrom, judged}
 use Rattle.blocks.specs.Keeping.{stopsBy, stepOf, nextOf, noBlock, blockOf, keptOf}
 
 -- no two constructors are equal, so nothing is left to show
@@ -54,6 +54,22 @@ is-inside b s at e = omega (arith, ltb-true 0 (length (drop at s)) (both (ltb 0 
 pub ended-by : (wide : Bool) (at : ℕ) (s : List ℕ) (n : ℕ) (t : Bool) → isAt 10 (drop (at + 1) s) ≡ t
     → endedAt wide at (drop at s) n ≡ Read (record { wide = wide; crlf = t; words = n; used = cond t (at + 2) (at + 1) })
 ended-by wide at s n t e = rw (drop-drop 1 at s, e)
+
+-- what holds of each thing that may come where a word would start holds of what comes there
+
+pub cond-by : {A : Type 0} (P : A → Type 0) (t : Bool) (a b : A) → (t ≡ true → P a) → (t ≡ false → P b) → P (cond t a b)
+cond-by P true a b h k = h refl
+cond-by P false a b h k = k refl
+
+pub start-by : {A : Type 0} (P : A → Type 0) (full : Bool) (size places n at : ℕ) (rest : List ℕ) (refuse : Refusal → A) (ended word : A)
+    → (isAt 13 rest ≡ true → P ended) → P (refuse (NoEnd at)) → (isAt 13 rest ≡ false → length rest < size → P (refuse (Wrong Short at)))
+    → P (refuse (NoPlace at)) → (isAt 13 rest ≡ false → full ≡ false → size ≤ length rest → n < places → P word)
+    → P (atStart full size places n at rest ended refuse word)
+start-by P full size places n at rest refuse ended word ends no-end short no-place goes =
+    cond-by P (isAt 13 rest) _ _ ends (λ going.
+    cond-by P full _ _ (λ _. no-end) (λ more.
+    cond-by P (ltb (length rest) size) _ _ (λ e. short going (ltb-true (length rest) size e)) (λ e.
+    cond-by P (leb places n) _ _ (λ _. no-place) (λ free. goes going more (ltb-false (length rest) size e) (leb-false places n free)))))
 
 -- what a step finds
 
@@ -99,7 +115,7 @@ went-more false false true ended more r s at o a = refl
 went-more false false false ended more r s at o one.Judged.Right = refl
 went-more false false false ended more r s at o (one.Judged.Wrong fault byte) = refl
 
-module _ (f : Family) (wide : Bool) (places n at : ℕ) (rest : List ℕ) (ws : List Word) (h : n ≤ 32) (hn : length ws ≡ n) where
+module _ (f : Family) (wide : Bool) (places n at : ℕ) (rest : List ℕ) (ws : List Word) where
   abbrev pub done : Judgement
   done = record { answer = endedAt wide at rest n; words = ws }
 
@@ -107,9 +123,9 @@ module _ (f : Family) (wide : Bool) (places n at : ℕ) (rest : List ℕ) (ws : 
   further w = blockFrom f (32 - (n + 1)) wide places (at + wordSize wide) (drop (wordSize wide) rest) (ws ++ (w ∷ []))
 
   -- the walk's order is the step's
-  pub block-walk : blockFrom f (32 - n) wide places at rest ws ≡ went done further (nextOf f wide places n at rest)
+  pub block-walk : n ≤ 32 → length ws ≡ n → blockFrom f (32 - n) wide places at rest ws ≡ went done further (nextOf f wide places n at rest)
   unfolding blockFrom
-  block-walk = go (32 - n) refl
+  block-walk h hn = go (32 - n) refl
     where
       go : (m : ℕ) → 32 - n ≡ m → blockFrom f m wide places at rest ws ≡ went done further (nextOf f wide places n at rest)
       go zero e = rw (hn, le-leb 32 n (omega arith)) (went-last (isAt 13 rest) done further (NoEnd at))
@@ -119,22 +135,7 @@ module _ (f : Family) (wide : Bool) (places n at : ℕ) (rest : List ℕ) (ws : 
           (went-more (isAt 13 rest) (ltb (length rest) (wordSize wide)) (leb places n) done further (Wrong Short at) (NoPlace at) at
           (wordOf f wide rest) (wordOf f wide rest .answer))
 
-  module _ (r : Stepped) (found : r ≡ nextOf f wide places n at rest) where
-    walked : blockFrom f (32 - n) wide places at rest ws ≡ went done further r
-    walked = block-walk ∙ sym (ap (went done further) found)
-
-    pub walk-ends : r .next ≡ Ends → blockFrom f (32 - n) wide places at rest ws ≡ record { answer = endedAt wide at rest n; words = ws }
-    walk-ends e = walked ∙ rw e
-
-    pub walk-stops : (refusal : Refusal) → r .next ≡ Stops refusal → blockFrom f (32 - n) wide places at rest ws ≡ refusedBy refusal
-    walk-stops refusal e = walked ∙ rw e
-
-    pub walk-goes : r .next ≡ Goes
-        → blockFrom f (32 - n) wide places at rest ws
-        ≡ blockFrom f (32 - (n + 1)) wide places (at + wordSize wide) (drop (wordSize wide) rest) (ws ++ (r .word ∷ []))
-    walk-goes e = walked ∙ rw e
-
--- the same as the walk goes: a list of which n records are kept, and a place that moves by size
+-- what comes next as the walk goes: a list of which n records are kept, and a place that moves by size
 pub walk-on : (f : Family) (m n at size : ℕ) (wide : Bool) (places : ℕ) (s : List ℕ) (words : List Word) (w : Word) → n < length words → size ≡ wordSize wide
     → blockFrom f m wide places (at + wordSize wide) (drop (wordSize wide) (drop at s)) (take n words ++ (w ∷ []))
     ≡ blockFrom f m wide places (at + size) (drop (at + size) s) (take (n + 1) (set words n w))
@@ -142,40 +143,25 @@ walk-on f m n at size wide places s words w h e = rw (e, drop-drop (wordSize wid
 
 -- what a step that found the end, or a word, tells of its place
 
-abbrev steppedBy : Bool → Bool → Bool → Bool → ℕ → OneWord → one.Judged → Stepped
-steppedBy t u v x at o a =
-    cond t (record { next = Ends; word = blank })
-    (cond u (stopsBy (NoEnd at)) (cond v (stopsBy (Wrong Short at)) (cond x (stopsBy (NoPlace at)) (stepOf at o a))))
-
-ended-told : (t u v x : Bool) (at : ℕ) (o : OneWord) (a : one.Judged) → steppedBy t u v x at o a .next ≡ Ends → t ≡ true
-ended-told true u v x at o a e = refl
-ended-told false true v x at o a e = apart cc
-ended-told false false true x at o a e = apart cc
-ended-told false false false true at o a e = apart cc
-ended-told false false false false at o one.Judged.Right e = apart cc
-ended-told false false false false at o (one.Judged.Wrong fault byte) e = apart cc
-
-gone-told : (t u v x : Bool) (at : ℕ) (o : OneWord) (a : one.Judged) → steppedBy t u v x at o a .next ≡ Goes → (u ≡ false) × (v ≡ false)
-gone-told true u v x at o a e = apart cc
-gone-told false true v x at o a e = apart cc
-gone-told false false true x at o a e = apart cc
-gone-told false false false x at o a e = (refl, refl)
-
 module _ (f : Family) (wide : Bool) (places n at : ℕ) (s : List ℕ) (r : Stepped) (found : r ≡ nextOf f wide places n at (drop at s)) where
+  abbrev o : OneWord
+  o = wordOf f wide (drop at s)
+
   pub ends-inside : r .next ≡ Ends → at < length s
   ends-inside e =
-      let rest = drop at s in
-      let next : nextOf f wide places n at rest .next ≡ Ends = rw found at e in
-      let w = wordOf f wide rest in
-      is-inside 13 s at (ended-told (isAt 13 rest) (leb 32 n) (ltb (length rest) (wordSize wide)) (leb places n) at w (w .answer) next)
+      start-by (λ (t : Stepped). t .next ≡ Ends → at < length s) (leb 32 n) (wordSize wide) places n at (drop at s) stopsBy _ _
+      (λ cr _. is-inside 13 s at cr)
+      (λ q. apart cc) (λ _ _ q. apart cc) (λ q. apart cc) (λ _ _ _ _. by (o .answer)) (rw found at e)
+    where
+      by : (a : one.Judged) → stepOf at o a .next ≡ Ends → at < length s
+      by one.Judged.Right q = apart cc
+      by (one.Judged.Wrong fault byte) q = apart cc
 
   pub goes-inside : at ≤ length s → r .next ≡ Goes → (n < 32) × (at + wordSize wide ≤ length s)
   goes-inside h e =
-      let rest = drop at s in
-      let next : nextOf f wide places n at rest .next ≡ Goes = rw found at e in
-      let w = wordOf f wide rest in
-      let told = gone-told (isAt 13 rest) (leb 32 n) (ltb (length rest) (wordSize wide)) (leb places n) at w (w .answer) next in
-      (leb-false 32 n (told .0), omega (arith, ltb-false (length rest) (wordSize wide) (told .1), length-drop at s))
+      start-by (λ (t : Stepped). t .next ≡ Goes → (n < 32) × (at + wordSize wide ≤ length s)) (leb 32 n) (wordSize wide) places n at (drop at s)
+      stopsBy _ _ (λ _ q. apart cc) (λ q. apart cc) (λ _ _ q. apart cc) (λ q. apart cc)
+      (λ _ more long _ _. (leb-false 32 n more, omega (arith, length-drop at s))) (rw found at e)
 
 -- the records kept: those of a list up to n, and then those that were there first
 

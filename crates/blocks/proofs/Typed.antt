@@ -16,12 +16,13 @@ use Rattle.units.specs.declared.counts.Valued.the-variants.{Counted}
 use Rattle.words.specs.declared.records.Word.{Word}
 use Rattle.words.proofs.RoundTrip.{write-read, bytes-length}
 use Rattle.words.proofs.Typed.{given-typed}
-use Rattle.blocks.specs.Judging.{firstAt, judged}
+use Rattle.blocks.specs.Judging.{isAt, firstAt, judged}
 use Rattle.blocks.specs.Composing.{starBytes, wordsBytes}
 use Rattle.figures.specs.Text.{endBytes}
-use Rattle.blocks.specs.Rules.{rightAll, readAs}
+use Rattle.blocks.specs.Rules.{rightAll, readAs, wordStart}
 use Rattle.blocks.specs.declared.answers.Reading.{Reading}
-use Rattle.blocks.proofs.Rooms.{star-length}
+use Rattle.blocks.proofs.Rooms.{words-length, star-length}
+use Rattle.blocks.proofs.Written.{end-at}
 use Rattle.blocks.proofs.Exactly.{read-ruled}
 
 -- past a first part
@@ -49,19 +50,27 @@ word-at f wide (w ∷ ws) (suc k) rest right h =
     (drop-past (bytesOf f wide w) later size (k * size) (bytes-length f wide w (parts .0))) in
     ap (wordOf f wide) is ∙ word-at f wide ws k rest (parts .1) (omega arith)
 
--- each record is what its word's bytes in the input give
-pub block-words : (f : Family) (s : List ℕ) (places : ℕ) (r : Reading) (ws : List Word) → judged f s places ≡ readAs r ws → (k : ℕ) → k < length ws
-    → wordOf f (r .wide) (drop (firstAt (r .wide) + k * wordSize (r .wide)) s) ≡ rightWord (getD ws k blank)
-block-words f s places r ws e k h =
-    let wide = r .wide in
-    let ruled = read-ruled f s places r ws e .0 in
-    let rest = endBytes (r .crlf) ++ drop (r .used) s in
-    let is : s ≡ starBytes wide ++ (wordsBytes f wide ws ++ rest) = ruled .bytes ∙ simp append-assoc in
-    ap (λ t. wordOf f wide (drop (firstAt wide + k * wordSize wide) t)) is
-    ∙ ap (wordOf f wide) (drop-past (starBytes wide) (wordsBytes f wide ws ++ rest) (firstAt wide) (k * wordSize wide) (star-length wide))
-    ∙ word-at f wide ws k rest (ruled .lawful .right) h
+module _ (f : Family) (s : List ℕ) (places : ℕ) (r : Reading) (ws : List Word) (e : judged f s places ≡ readAs r ws) where
+  abbrev rest : List ℕ
+  rest = endBytes (r .crlf) ++ drop (r .used) s
 
-pub block-typed : (f : Family) (s : List ℕ) (places : ℕ) (r : Reading) (ws : List Word) → judged f s places ≡ readAs r ws → (k : ℕ) → k < length ws
-    → valueIn f (r .wide) (drop (firstAt (r .wide) + k * wordSize (r .wide)) s) ≡ Counted (typedOf f (getD ws k blank))
-block-typed f s places r ws e k h =
-    given-typed f (r .wide) (drop (firstAt (r .wide) + k * wordSize (r .wide)) s) (getD ws k blank) (block-words f s places r ws e k h)
+  -- the input from where a word would start
+  from-start : (k : ℕ) → drop (wordStart (r .wide) k) s ≡ drop (k * wordSize (r .wide)) (wordsBytes f (r .wide) ws ++ rest)
+  from-start k =
+      let wide = r .wide in
+      let is : s ≡ starBytes wide ++ (wordsBytes f wide ws ++ rest) = read-ruled f s places r ws e .0 .bytes ∙ simp append-assoc in
+      ap (drop (wordStart wide k)) is ∙ drop-past (starBytes wide) (wordsBytes f wide ws ++ rest) (firstAt wide) (k * wordSize wide) (star-length wide)
+
+  -- each record is what its word's bytes in the input give
+  pub block-words : (k : ℕ) → k < length ws → wordOf f (r .wide) (drop (wordStart (r .wide) k) s) ≡ rightWord (getD ws k blank)
+  block-words k h = ap (wordOf f (r .wide)) (from-start k) ∙ word-at f (r .wide) ws k rest (read-ruled f s places r ws e .0 .lawful .right) h
+
+  pub block-typed : (k : ℕ) → k < length ws → valueIn f (r .wide) (drop (wordStart (r .wide) k) s) ≡ Counted (typedOf f (getD ws k blank))
+  block-typed k h = given-typed f (r .wide) (drop (wordStart (r .wide) k) s) (getD ws k blank) (block-words k h)
+
+  -- and after the last a CR stands
+  pub block-ends : isAt 13 (drop (wordStart (r .wide) (length ws)) s) ≡ true
+  block-ends =
+      let size = words-length f (r .wide) ws (read-ruled f s places r ws e .0 .lawful .right) in
+      ap (isAt 13) (from-start (length ws) ∙ drop-at (wordsBytes f (r .wide) ws) rest (length ws * wordSize (r .wide)) size)
+      ∙ end-at (r .crlf) (drop (r .used) s)

@@ -1,7 +1,7 @@
 -- Each list that the writer takes reads back to that list.
 use Prim.Native.Nat.{ℕ, zero, suc, _+_, _≤_, _<_}
 use mathlib.Core.Path.{_≡_, refl, sym, ap, _∙_}
-use mathlib.Core.Bool.{Bool, true, false, cond, _&&_, _||_, false≢true, and-eq-true-iff}
+use mathlib.Core.Bool.{Bool, true, false, cond, _||_, false≢true, and-eq-true-iff}
 use mathlib.Core.List.{List, [], _∷_, _++_, append-assoc, append-nil}
 use native.Mathlib.Omega.{arith}
 use borrow.Author.Tests.{eqb-false, eq-eqb, ne-eqb, lt-ltb, le-ltb, lt-leb, ltb-false}
@@ -25,10 +25,14 @@ use Rattle.blocks.specs.declared.answers.Refusal.{Refusal}
 use Rattle.blocks.specs.declared.answers.Refusal.the-variants.{Count, Record, Room}
 use Rattle.blocks.specs.declared.answers.Wrote.the-variants.{Refused, Written}
 use Rattle.blocks.specs.Rules.{rightAll, Lawful, readAs, readingOf}
-use Rattle.blocks.proofs.Rooms.{star-length}
+use Rattle.blocks.proofs.Rooms.{wrong-by, star-length}
 
 at-first : (b : ℕ) (rest : List ℕ) → isAt b (b ∷ rest) ≡ true
 at-first b rest = rw (lt-ltb 0 (suc (length rest)) (omega arith)) (eq-eqb b b refl)
+
+pub end-at : (crlf : Bool) (rest : List ℕ) → isAt 13 (endBytes crlf ++ rest) ≡ true
+end-at true rest = at-first 13 (10 ∷ rest)
+end-at false rest = at-first 13 rest
 
 -- what begins with a digit is not empty, and begins with neither CR nor `*`
 
@@ -139,17 +143,6 @@ take-written : (b : Bool) (f : Refusal) (n : ℕ) (v : Written·room) (room room
 take-written true f n v room room′ e = absurd (not-written f n room room′ e)
 take-written false f n v room room′ e = (refl, e)
 
-right-written : (f : Family) {A : Type 0} (wide : Bool) (i : ℕ) (ws : List Word) (wrong : ℕ → A) (next v : A) → ((j : ℕ) → wrong j ≡ v → ⊥)
-    → unlessWrong f wide i ws wrong next ≡ v → (rightAll f wide ws ≡ true) × (next ≡ v)
-unfolding unlessWrong rightAll
-right-written f wide i [] wrong next v h e = (refl, e)
-right-written f wide i (w ∷ ws) wrong next v h e = go (isRight f wide w) refl (right-written f wide (i + 1) ws wrong next v h) e
-  where
-    go : (b : Bool) → isRight f wide w ≡ b → (unlessWrong f wide (i + 1) ws wrong next ≡ v → (rightAll f wide ws ≡ true) × (next ≡ v))
-        → cond b (unlessWrong f wide (i + 1) ws wrong next) (wrong i) ≡ v → (isRight f wide w && rightAll f wide ws ≡ true) × (next ≡ v)
-    go true q ih d = (rw q (ih d .0), ih d .1)
-    go false q ih d = absurd (h i d)
-
 unless-right : (f : Family) {A : Type 0} (wide : Bool) (i : ℕ) (ws : List Word) (wrong : ℕ → A) (next : A) → rightAll f wide ws ≡ true
     → unlessWrong f wide i ws wrong next ≡ next
 unfolding unlessWrong rightAll
@@ -165,7 +158,7 @@ pub record Taken (f : Family) (ws : List Word) (wide crlf : Bool) (room : List �
   pub fits : length (blockBytes f wide crlf ws) ≤ length room
   pub laid-down : room′ ≡ laid (blockBytes f wide crlf ws) room
 
-neither : (a b : Bool) → a || b ≡ false → (a ≡ false) × (b ≡ false)
+pub neither : (a b : Bool) → a || b ≡ false → (a ≡ false) × (b ≡ false)
 neither true b e = absurd (false≢true (sym e))
 neither false b e = (refl, e)
 
@@ -176,7 +169,8 @@ written-lawful f ws wide crlf room n room′ e =
     let v : Written·room = writtenAs n room′ in
     let count = take-written (eqb (length ws) 0 || ltb 32 (length ws)) Count n _ room room′ e in
     let right =
-    right-written f wide 0 ws (λ i. refusedRoom room (Record i)) (blockInRoom bytes room) v (λ i. not-written (Record i) n room room′) (count .1) in
+    wrong-by (λ (x : Written·room). x ≡ v → (rightAll f wide ws ≡ true) × (blockInRoom bytes room ≡ v)) f wide 0 ws (λ i. refusedRoom room (Record i))
+    (blockInRoom bytes room) (λ i _ e. absurd (not-written (Record i) n room room′ e)) (λ right e. (right, e)) (count .1) in
     let fits = take-written (ltb (length room) (length bytes)) (Room (length bytes)) n _ room room′ (right .1) in
     let (some, most) = neither (eqb (length ws) 0) (ltb 32 (length ws)) (count .0) in
     let size : Written (length bytes) ≡ Written n = ap (λ (x : Written·room). x .answer) (fits .1) in

@@ -1,19 +1,27 @@
--- Readers that the promise of `read` shuts out, as theorems: that refuse everything, give one answer or store one block for all, touch nothing,
--- or make up a word count or the bytes used; and writers that `write`'s shuts out: that refuse everything or write one block. Assumes nothing.
+-- Readers that the promise of `read` shuts out, as theorems: that refuse everything, give one answer or store one block for all, touch nothing, make up
+-- a word count or the bytes used, or tell a later word than the first that is wrong; and writers that the writer's shuts out: that refuse everything or write
+-- one block. Assumes nothing.
 use mathlib.Core.Path.{_≡_, refl, sym, _∙_, ap}
 use mathlib.Core.Bool.{Bool, false}
-use mathlib.Core.List.{List, [], _∷_}
-use Prim.Native.Nat.{ℕ}
+use mathlib.Core.List.{List, [], _∷_, _++_}
+use Prim.Native.Nat.{ℕ, zero, suc, _+_, _≤_, _<_}
+use native.Mathlib.Nat.{suc-mul, lt-of-mul-lt-mul-right}
 use native.Mathlib.Omega.{arith}
-use lib.ListN.{length, getD, take, replicate}
+use lib.ListN.{length, getD, take, drop, replicate}
 use lib.Seq.{length-take-le}
-use Rattle.figures.specs.Bytes.{among, every, laid}
+use Rattle.figures.specs.Bytes.{among, every, runOf, laid}
 use Rattle.figures.specs.Decimal.{numberFrom}
 use Rattle.words.specs.Records.{blank}
+use Rattle.words.specs.Reading.{wordSize}
+use Rattle.words.specs.declared.reading.Fault.{Fault}
+use Rattle.words.specs.declared.reading.Fault.the-variants.{Characters}
+use Rattle.words.specs.declared.reading.Judged as one
+use Rattle.words.proofs.Told.{told-within}
 use Rattle.words.specs.declared.records.Word.{Word}
-use Rattle.blocks.specs.Judging.{judged, filled, blockFrom}
+use Rattle.blocks.specs.Judging.{isAt, isWide, judged, filled, blockFrom}
 use Rattle.blocks.specs.Composing.{blockBytes, Written·room, written, Writes}
 use Rattle.blocks.specs.Lists.{Reads}
+use Rattle.blocks.specs.Rules.{wordStart, judgedWord}
 use Rattle.units.specs.declared.kinds.Family.{Family}
 use Rattle.units.specs.declared.kinds.Family.the-variants.{Station, Level}
 use Rattle.blocks.specs.declared.answers.Refusal.{Refusal}
@@ -22,6 +30,7 @@ use Rattle.blocks.specs.declared.answers.Answer.{Answer}
 use Rattle.blocks.specs.declared.answers.Answer.the-variants.{Refused, Read}
 use Rattle.blocks.specs.declared.answers.Wrote.{Wrote}
 use Rattle.blocks.specs.declared.answers.Wrote.the-variants as wrote
+use Rattle.blocks.proofs.Faults.{own-fault}
 use Rattle.blocks.proofs.Accepted.{accepted, accepted-written}
 
 -- what a reader does with an input and a lent list: its answer, and the list as it is then
@@ -118,11 +127,58 @@ pub invents-bytes : (f : Family) (run : Reader) (s : List ℕ) (list : List Word
     → (r .used ≡ length (blockBytes f (r .wide) (r .crlf) (judged f s (length list) .words)) → ⊥) → Keeps f run → ⊥
 invents-bytes f run s list r e other keeps = other (counts-words f run keeps s list r e .1)
 
+-- "Words are judged left to right": one that of some block tells a byte past a word that isn't right
+pub tells-later : (f : Family) (run : Reader) (s : List ℕ) (list : List Word) (x : Fault) (at j : ℕ) → run s list .0 ≡ Refused (Refusal.Wrong x at)
+    → wordStart (isWide s) (suc j) ≤ at → (judgedWord f s j .answer ≡ one.Judged.Right → ⊥) → Keeps f run → ⊥
+tells-later f run s list x at j e late wrong keeps =
+    let first = own-fault f s (length list) x at (sym (keeps s list .0) ∙ e) in
+    let wide = isWide s in
+    let inside = told-within f wide (drop (wordStart wide (first .number)) s) x (first .byte) (first .fault) in
+    wrong (first .before j (later (first .number) (first .byte) inside (rw (first .told) at late)))
+  where
+    later : (k byte : ℕ) → byte < wordSize (isWide s) → wordStart (isWide s) (suc j) ≤ wordStart (isWide s) k + byte → j < k
+    later k byte inside late = lt-of-mul-lt-mul-right (wordSize (isWide s)) {m = j} {n = k} (omega (arith, suc-mul j (wordSize (isWide s))))
+
+-- a block of two words that aren't right, each at the byte 14 of its 16: `83..00-0021315A ` twice, and CR
+abbrev wrong : List ℕ
+wrong = 56 ∷ 51 ∷ 46 ∷ 46 ∷ 48 ∷ 48 ∷ 45 ∷ 48 ∷ 48 ∷ 50 ∷ 49 ∷ 51 ∷ 49 ∷ 53 ∷ 65 ∷ 32 ∷ []
+
+abbrev two-wrong : List ℕ
+two-wrong = wrong ++ (wrong ++ (13 ∷ []))
+
+first-wrong : (f : Family) → judged f two-wrong 2 .answer ≡ Refused (Refusal.Wrong Characters 14)
+unfolding among every runOf blockFrom
+first-wrong Station = refl
+first-wrong Level = refl
+
+second-wrong : (f : Family) → judgedWord f two-wrong 1 .answer ≡ one.Judged.Wrong Characters 14
+unfolding among every runOf
+second-wrong Station = refl
+second-wrong Level = refl
+
+-- so one that tells the last of the words up to the CR that aren't right
+pub tells-the-last : (f : Family) (run : Reader)
+    → ((s : List ℕ) (list : List Word) (x : Fault) (at : ℕ) → run s list .0 ≡ Refused (Refusal.Wrong x at)
+    → (k : ℕ) → ((j : ℕ) → j ≤ k → isAt 13 (drop (wordStart (isWide s) j) s) ≡ false) → (judgedWord f s k .answer ≡ one.Judged.Right → ⊥)
+    → wordStart (isWide s) k ≤ at)
+    → Keeps f run → ⊥
+tells-the-last f run last keeps =
+    let e = keeps two-wrong (blank ∷ blank ∷ []) .0 ∙ first-wrong f in
+    let clash : judgedWord f two-wrong 1 .answer ≡ one.Judged.Right → ⊥ = λ r.
+    let q = sym (second-wrong f) ∙ r in let z : _≡_ {A = ℕ} 0 1 = cc in omega arith in
+    let late : 16 ≤ 14 = last two-wrong (blank ∷ blank ∷ []) Characters 14 e 1 no-end clash in
+    omega arith
+  where
+    no-end : (j : ℕ) → j ≤ 1 → isAt 13 (drop (wordStart (isWide two-wrong) j) two-wrong) ≡ false
+    no-end zero h = refl
+    no-end (suc zero) h = refl
+    no-end (suc (suc j)) h = absurd (omega arith)
+
 -- what a writer does with a list, a width, a terminator and a room: its answer, and the room as it is then
 abbrev pub Writer : Type 0
 Writer = List Word → Bool → Bool → List ℕ → Wrote × List ℕ
 
--- it keeps the promise of `write`
+-- it keeps the writer's promise
 abbrev pub KeepsWriting : Family → Writer → Type 0
 KeepsWriting f run = (ws : List Word) (wide crlf : Bool) (room : List ℕ) → Writes f ws wide crlf room (run ws wide crlf room .0) (run ws wide crlf room .1)
 

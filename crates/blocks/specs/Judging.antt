@@ -1,6 +1,6 @@
 -- "A block is an optional `*`, 1 to 32 words, then CR or CR LF .. Words are judged left to right."
 use Prim.Native.Nat.{ℕ, zero, suc, _+_}
-use mathlib.Core.Bool.{Bool, false, cond}
+use mathlib.Core.Bool.{Bool, true, false, cond}
 use mathlib.Core.List.{List, [], _∷_, _++_}
 use lib.Dec.{eqb, leb, ltb}
 use lib.ListN.{length, getD, drop}
@@ -39,21 +39,31 @@ abbrev pub endedAt : Bool → ℕ → List ℕ → ℕ → Answer
 endedAt wide at rest n =
     Read (record { wide = wide; crlf = isAt 10 (drop 1 rest); words = n; used = cond (isAt 10 (drop 1 rest)) (at + 2) (at + 1) })
 
+abbrev pub endedBy : Bool → ℕ → List ℕ → List Word → Judgement
+endedBy wide at rest ws = record { answer = endedAt wide at rest (length ws); words = ws }
+
 -- a word that was read is followed by what comes next, and a wrong one refuses the block, telling its byte in the input
 abbrev pub afterWord : ℕ → one.Judged → Judgement → Judgement
 afterWord at one.Judged.Right next = next
 afterWord at (one.Judged.Wrong fault byte) next = refusedBy (Wrong fault (at + byte))
 
--- the block from a place on where a word would start, when `more` words may still come and the words before it are ws:
--- "Where a word would start the order is CR, 4, 2, 11, then 5 to 10 in order", with 15 right after 5 (request 104)
+-- "Where a word would start the order is CR, 4, 2, 11, then 5 to 10 in order", with 15 right after 5 (request 104): what comes of it where n words
+-- stand before this place, `full` says that they are as many as a block may have, and `word` is what comes of a word of this size
+abbrev pub atStart : {A : Type 0} → (full : Bool) (size places n at : ℕ) (rest : List ℕ) (ended : A) (refuse : Refusal → A) (word : A) → A
+atStart full size places n at rest ended refuse word =
+    cond (isAt 13 rest) ended
+    (cond full (refuse (NoEnd at))
+    (cond (ltb (length rest) size) (refuse (Wrong Short at))
+    (cond (leb places n) (refuse (NoPlace at))
+    word)))
+
+-- the block from a place on where a word would start, when so many more words may come and the words before it are ws
 unfoldable pub blockFrom : Family → ℕ → Bool → ℕ → ℕ → List ℕ → List Word → Judgement
-blockFrom f zero wide places at rest ws = cond (isAt 13 rest) (record { answer = endedAt wide at rest (length ws); words = ws }) (refusedBy (NoEnd at))
+blockFrom f zero wide places at rest ws =
+    atStart true (wordSize wide) places (length ws) at rest (endedBy wide at rest ws) refusedBy (refusedBy (NoEnd at))
 blockFrom f (suc more) wide places at rest ws =
     let next = blockFrom f more wide places (at + wordSize wide) (drop (wordSize wide) rest) (ws ++ (wordOf f wide rest .word ∷ [])) in
-    cond (isAt 13 rest) (record { answer = endedAt wide at rest (length ws); words = ws })
-    (cond (ltb (length rest) (wordSize wide)) (refusedBy (Wrong Short at))
-    (cond (leb places (length ws)) (refusedBy (NoPlace at))
-    (afterWord at (wordOf f wide rest .answer) next)))
+    atStart false (wordSize wide) places (length ws) at rest (endedBy wide at rest ws) refusedBy (afterWord at (wordOf f wide rest .answer) next)
 
 -- a list of so many places is lent, and s is the input: "Bytes after the terminator aren't looked at."
 abbrev pub judged : Family → List ℕ → ℕ → Judgement

@@ -8,16 +8,15 @@ use Rattle.words.specs.Records.{blank}
 use Rattle.words.specs.Reading.{wordSize, wordOf}
 use Rattle.units.specs.declared.kinds.Family.{Family}
 use Rattle.words.specs.declared.records.Word.{Word}
-use Rattle.words.specs.declared.reading.Fault.the-variants.{Short}
 use Rattle.words.specs.declared.reading.Judged as one
 use Rattle.words.specs.declared.reading.OneWord.{OneWord}
 use Rattle.blocks.specs.declared.answers.Refusal.{Refusal}
-use Rattle.blocks.specs.declared.answers.Refusal.the-variants.{Wrong, NoEnd, NoPlace, Count, Record}
+use Rattle.blocks.specs.declared.answers.Refusal.the-variants.{Wrong, Count, Record}
 use Rattle.blocks.specs.declared.judging.Block.{Block}
 use Rattle.blocks.specs.declared.judging.JudgedBlock.{JudgedBlock}
 use Rattle.blocks.specs.declared.judging.Next.the-variants.{Ends, Stops, Goes}
 use Rattle.blocks.specs.declared.judging.Stepped.{Stepped}
-use Rattle.blocks.specs.Judging.{Judgement, isAt, filled}
+use Rattle.blocks.specs.Judging.{Judgement, atStart, filled}
 use Rattle.figures.specs.Bytes.{laid}
 use Rattle.blocks.specs.declared.answers.Wrote.the-variants.{Refused, Written}
 use Rattle.blocks.specs.declared.composing.Composed.{Composed}
@@ -41,14 +40,12 @@ abbrev pub stepOf : ℕ → OneWord → one.Judged → Stepped
 stepOf at o one.Judged.Right = record { next = Goes; word = o .word }
 stepOf at o (one.Judged.Wrong fault byte) = stopsBy (Wrong fault (at + byte))
 
--- `block-walk`, in proofs/Steps.antt, shows that this is the order of `blockFrom`
+-- `block-walk`, in proofs/Steps.antt, shows that this is a step of `blockFrom`
 abbrev pub nextOf : Family → Bool → ℕ → ℕ → ℕ → List ℕ → Stepped
 nextOf f wide places n at rest =
-    cond (isAt 13 rest) (record { next = Ends; word = blank })
-    (cond (leb 32 n) (stopsBy (NoEnd at))
-    (cond (ltb (length rest) (wordSize wide)) (stopsBy (Wrong Short at))
-    (cond (leb places n) (stopsBy (NoPlace at))
-    (stepOf at (wordOf f wide rest) (wordOf f wide rest .answer)))))
+    let ended : Stepped = record { next = Ends; word = blank } in
+    let o = wordOf f wide rest in
+    atStart (leb 32 n) (wordSize wide) places n at rest ended stopsBy (stepOf at o (o .answer))
 
 -- a block's bytes from the start of 771
 abbrev pub refusedList : Refusal → Composed

@@ -35,7 +35,7 @@ pub enum Wrote {
     Written(usize),
 }
 
-// The number that the rules have for a refusal.
+// Gives the number that the rules have for a refusal.
 pub fn refusal_number(refusal: Refusal) -> u64
     ensures { λ r. ⌜ r ≡ refusalNumber refusal ⌝ }
 {
@@ -51,7 +51,7 @@ pub fn refusal_number(refusal: Refusal) -> u64
     }
 }
 
-// What a refusal tells: a place, a record's number, or the bytes needed.
+// Gives what a refusal tells: a place, a record's number, or the bytes needed.
 pub fn refusal_tells(refusal: Refusal) -> usize
     ensures { λ r. ⌜ r ≡ refusalTells refusal ⌝ }
 {

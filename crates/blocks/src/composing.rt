@@ -30,7 +30,7 @@ fn refuse_list(refusal: Refusal) -> Composed
     }
 }
 
-// What stands before the first word.
+// Lays what stands before the first word.
 fn open(wide: bool) -> [u8; 771]
     ensures { λ r. ⌜ r ≡ opened wide ⌝ }
 {
@@ -41,7 +41,7 @@ fn open(wide: bool) -> [u8; 771]
     bytes
 }
 
-// `*` and the words, up to the terminator.
+// Lays `*` and the words, up to the terminator.
 fn put_words(b: Block, family: Family, wide: bool) -> Composed
     requires { ⌜ b .n ≤ 32 ⌝ }
     ensures { λ r. ⌜ r ≡ wordsPut family wide (take (b .n) (b .words)) ⌝ }
@@ -71,7 +71,7 @@ fn put_words(b: Block, family: Family, wide: bool) -> Composed
     }
 }
 
-// The block of those records.
+// Composes the block of those records.
 fn compose(b: Block, family: Family, wide: bool, crlf: bool) -> Composed
     requires { ⌜ b .n ≤ 32 ⌝ }
     ensures { λ r. ⌜ r ≡ composedOf family wide crlf (take (b .n) (b .words)) ⌝ }

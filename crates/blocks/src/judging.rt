@@ -40,7 +40,7 @@ pub struct Stepped {
     pub word: Word,
 }
 
-// The block of no records.
+// Gives the block of no records.
 pub(crate) fn no_block() -> Block
     ensures { λ r. ⌜ r ≡ noBlock ⌝ }
 {
@@ -71,7 +71,7 @@ fn stops(refusal: Refusal) -> Stepped
     }
 }
 
-// Whether the byte at a place is b.
+// Tells whether the byte at a place is b.
 fn is_at(s: &[u8], at: usize, b: u8) -> bool
     ensures { λ r. ⌜ r ≡ isAt b (drop at (now (s .entry))) ⌝ }
 {
@@ -81,7 +81,7 @@ fn is_at(s: &[u8], at: usize, b: u8) -> bool
     false
 }
 
-// Where a word would start the order is CR, 4, 2, 11, then the word's own.
+// Judges what stands where a word would start; the order is CR, 4, 2, 11, then the word's own.
 fn step(s: &[u8], family: Family, wide: bool, at: usize, count: usize, places: usize) -> Stepped
     requires { ⌜ at ≤ length (now s) ⌝ }
     ensures { λ r. ⌜ r ≡ nextOf family wide places count at (drop at (now (s .entry))) ⌝ }
@@ -125,7 +125,7 @@ pub(crate) fn start_of(wide: bool) -> usize
     if wide { 1 } else { 0 }
 }
 
-// What is answered of so many words whose block's CR stands at a place.
+// Answers a block of so many words, whose CR stands at a place.
 fn ended(s: &[u8], wide: bool, at: usize, words: usize) -> Answer
     requires { ⌜ at < length (now s) ⌝ }
     ensures { λ r. ⌜ r ≡ endedAt wide at (drop at (now (s .entry))) words ⌝ }
@@ -149,7 +149,7 @@ fn ended(s: &[u8], wide: bool, at: usize, words: usize) -> Answer
     Answer::Read(read)
 }
 
-// The words from a place on.
+// Reads the words from a place on.
 fn words_from(s: &[u8], family: Family, wide: bool, start: usize, places: usize) -> JudgedBlock
     requires { ⌜ start ≤ length (now s) ⌝ }
     ensures { λ r. ⌜ r ≡ keptOf (blockFrom family 32 wide places start (drop start (now (s .entry))) []) ⌝ }
@@ -184,7 +184,7 @@ fn words_from(s: &[u8], family: Family, wide: bool, start: usize, places: usize)
     }
 }
 
-// The block of the family at the start of s, with so many places for its records.
+// Judges the block of the family at the start of s, with so many places for its records.
 fn judge_whole(s: &[u8], family: Family, places: usize) -> JudgedBlock
     ensures { λ r. ⌜ r ≡ keptOf (judged family (now (s .entry)) places) ⌝ }
 {
@@ -199,7 +199,7 @@ fn judge_whole(s: &[u8], family: Family, places: usize) -> JudgedBlock
     words_from(s, family, wide, start, places)
 }
 
-// The same. With this one call between them the compiler goes over the whole once more when it joins it with `read`, and the records are copied once less
+// Does the same. With this one call between them the compiler goes over the whole once more when it joins it with `read`, and the records are copied once less
 // (docs/BENCHMARK.md).
 pub fn judge(s: &[u8], family: Family, places: usize) -> JudgedBlock
     ensures { λ r. ⌜ r ≡ keptOf (judged family (now (s .entry)) places) ⌝ }

@@ -3,12 +3,9 @@ ghost use mathlib.Core.Path.{_≡_};
 ghost use mathlib.Core.List.{_++_};
 ghost use Prim.Native.Nat.{_≤_};
 ghost use lib.ListN.{length, take, drop};
-ghost use Rattle.blocks.specs.Composing.{Writes};
 ghost use Rattle.blocks.specs.Lists.{Reads};
 ghost use Rattle.blocks.specs.Keeping.{begunOf, gathered};
 use crate::answers::Answer;
-use crate::answers::Wrote;
-use crate::composing::emit;
 use crate::judging::Block;
 use crate::judging::judge;
 use crate::judging::no_block;
@@ -29,7 +26,7 @@ fn fill(list: &mut [Word], b: Block)
     }
 }
 
-// The block that gather starts from: blank records, and as many to copy as there are, or none where they are too many for a block.
+// Gives the block that `gather` starts from: blank records, and how many are to be copied, none where they are too many for a block.
 fn begin(n: usize) -> Block
     ensures { λ r. ⌜ r ≡ begunOf n ⌝ }
 {
@@ -41,7 +38,7 @@ fn begin(n: usize) -> Block
     Block { words: words, n: n }
 }
 
-// The records of the list as a block; the block of none where they are more than 32.
+// Gives the records of the list as a block; where there are more than 32 it is the block of none.
 pub fn gather(list: &[Word]) -> Block
     ensures { λ r. ⌜ r ≡ gathered (now (list .entry)) ⌝ }
 {
@@ -64,12 +61,4 @@ pub fn read(s: &[u8], family: Family, list: &mut [Word]) -> Answer
     let b = j.block;
     fill(list, b);
     j.answer
-}
-
-// Writes the list's records as one block of the family into the room. Refused, the room is untouched; written, the room beyond the block is.
-pub fn write(list: &[Word], family: Family, wide: bool, crlf: bool, out: &mut [u8]) -> Wrote
-    ensures { λ r. ⌜ Writes family (now (list .entry)) wide crlf (now (out .entry)) r (now (out .exit)) ⌝ }
-{
-    let b = gather(list);
-    emit(b, family, wide, crlf, out)
 }

@@ -3,20 +3,20 @@ use Prim.Native.Nat.{ℕ, zero, suc, _+_, _-_, _*_, _/_, _<_, _≤_}
 use mathlib.Core.Path.{_≡_, refl, ap, subst}
 use mathlib.Core.Bool.{Bool, true, false, cond, _&&_, and-eq-true-iff}
 use mathlib.Core.List.{List, []}
-use native.Mathlib.Nat.{sub-zero}
+use native.Mathlib.Nat.{sub-zero, zero-add}
 use native.Mathlib.Omega.{arith}
 use borrow.Author.Tests.{eqb-true, leb-true, ltb-true}
 use lib.Dec.{eqb, leb, ltb}
-use lib.ListN.{length, take, drop, length-drop}
-use lib.Seq.{take-all}
+use lib.ListN.{length, getD, take, drop, length-drop}
+use lib.Seq.{take-all, drop-cons}
 use Rattle.figures.specs.Bytes.{startsWith, sameBytes}
-use Rattle.figures.specs.Decimal.{numberOf}
+use Rattle.figures.specs.Decimal.{numberFrom, numberOf}
 use Rattle.figures.specs.declared.Said.the-variants as said
 use Rattle.figures.proofs.Bytes.{same-true, starts-length}
-use Rattle.commands.specs.Shapes.{slashAt, numberRight, numberShape, groupRight, groupsRight, groupsIn, hasKeyword, orderOf}
+use Rattle.commands.specs.Shapes.{slashAt, numberRight, numberShape, groupRight, groupsRight, groupsIn, indexesIn, hasKeyword, orderOf}
 use Rattle.commands.specs.Shapes.{set-slash, conf-slash, put-slash, get-i, undo-word, keep-word}
 use Rattle.commands.specs.declared.shapes.Order.{Order}
-use Rattle.commands.specs.declared.shapes.Order.the-variants.{Not, Set, Conf, Put, Get, Undo, Keep, Unknown}
+use Rattle.commands.specs.declared.shapes.Order.the-variants.{WrongShape, Set, Conf, Put, Get, Undo, Keep, NoKeyword}
 
 -- parts of a line
 
@@ -50,6 +50,16 @@ groups-length (suc n) g e =
     let long = leb-true 5 (length g) (and-eq-true-iff (leb 5 (length g)) _ .0 (both .0) .0) in
     omega (arith, groups-length n (drop 5 g) (both .1), length-drop 5 g)
 
+-- a group's number is that of its two digits
+pub group-number : (g : List ℕ) → 5 ≤ length g → numberOf (take 2 (drop 3 g)) ≡ (getD g 3 0 - 48) * 10 + (getD g 4 0 - 48)
+unfolding numberFrom
+group-number g h = rw (drop-cons g 3 0 (omega arith), drop-cons g 4 0 (omega arith), zero-add)
+
+pub indexes-many : (n : ℕ) (g : List ℕ) → length (indexesIn n g) ≡ n
+unfolding indexesIn
+indexes-many zero g = refl
+indexes-many (suc n) g = ap suc (indexes-many n (drop 5 g))
+
 -- a number
 
 number-by : (b : Bool) (m n : ℕ) → said.Number n ≡ cond b (said.Number m) said.Not → (b ≡ true) × (n ≡ m)
@@ -72,7 +82,7 @@ either : (P : Order → Type 0) (b : Bool) (x y : Order) → (b ≡ true → P x
 either P true x y px py = px refl
 either P false x y px py = py
 
-pub order-by : (P : Order → Type 0) (t : List ℕ) → P Not → P Unknown → (startsWith set-slash t ≡ true → (n p : ℕ) → P (Set n p)) → ((n : ℕ) → P (Conf n))
+pub order-by : (P : Order → Type 0) (t : List ℕ) → P WrongShape → P NoKeyword → (startsWith set-slash t ≡ true → (n p : ℕ) → P (Set n p)) → ((n : ℕ) → P (Conf n))
     → (startsWith put-slash t ≡ true → length t ≡ 20 → P Put)
     → (startsWith get-i t ≡ true → (0 < length (drop 5 t)) × (groupsRight (groupsIn (drop 5 t)) (drop 5 t) ≡ true) → P Get)
     → (sameBytes t undo-word ≡ true → P Undo) → (sameBytes t keep-word ≡ true → P Keep) → P (orderOf t)
@@ -92,26 +102,26 @@ order-by P t none unknown set conf put get undo keep =
 
 -- what an order says of the line
 
-abbrev Says : List ℕ → Order → Type 0
-Says t Not = Unit {0}
-Says t (Set n p) = Unit {0}
-Says t (Conf n) = Unit {0}
-Says t Put = length t ≡ 20
-Says t Get = (5 ≤ length t) × (groupsRight (groupsIn (drop 5 t)) (drop 5 t) ≡ true)
-Says t Undo = length t ≡ 4
-Says t Keep = Unit {0}
-Says t Unknown = Unit {0}
+abbrev OrderTells : List ℕ → Order → Type 0
+OrderTells t WrongShape = Unit {0}
+OrderTells t (Set n p) = Unit {0}
+OrderTells t (Conf n) = Unit {0}
+OrderTells t Put = length t ≡ 20
+OrderTells t Get = (5 ≤ length t) × (groupsRight (groupsIn (drop 5 t)) (drop 5 t) ≡ true) × (0 < length (drop 5 t))
+OrderTells t Undo = length t ≡ 4
+OrderTells t Keep = Unit {0}
+OrderTells t NoKeyword = Unit {0}
 
-order-says : (t : List ℕ) → Says t (orderOf t)
+order-says : (t : List ℕ) → OrderTells t (orderOf t)
 order-says t =
-    order-by (Says t) t tt tt (λ _ n p. tt) (λ n. tt) (λ _ long. long) (λ e groups. (starts-length get-i t e, groups .1))
+    order-by (OrderTells t) t tt tt (λ _ n p. tt) (λ n. tt) (λ _ long. long) (λ e groups. (starts-length get-i t e, groups .1, groups .0))
     (λ e. ap length (same-true t undo-word e)) (λ _. tt)
 
 pub order-put : (t : List ℕ) → orderOf t ≡ Put → length t ≡ 20
-order-put t e = subst (Says t) e (order-says t)
+order-put t e = subst (OrderTells t) e (order-says t)
 
-pub order-get : (t : List ℕ) → orderOf t ≡ Get → (5 ≤ length t) × (groupsRight (groupsIn (drop 5 t)) (drop 5 t) ≡ true)
-order-get t e = subst (Says t) e (order-says t)
+pub order-get : (t : List ℕ) → orderOf t ≡ Get → (5 ≤ length t) × (groupsRight (groupsIn (drop 5 t)) (drop 5 t) ≡ true) × (0 < length (drop 5 t))
+order-get t e = subst (OrderTells t) e (order-says t)
 
 pub order-undo : (t : List ℕ) → orderOf t ≡ Undo → length t ≡ 4
-order-undo t e = subst (Says t) e (order-says t)
+order-undo t e = subst (OrderTells t) e (order-says t)

@@ -1,7 +1,7 @@
 -- A line's end and its shape. "One call takes exactly one line with its CR or CR LF, whatever setting 73 says .. Upper case only."
 use Prim.Native.Nat.{ℕ, zero, suc, _+_, _-_, _/_}
 use mathlib.Core.Bool.{Bool, cond, not, _&&_, _||_}
-use mathlib.Core.List.{List}
+use mathlib.Core.List.{List, [], _∷_}
 use lib.Dec.{eqb, leb, ltb}
 use lib.ListN.{length, getD, take, drop}
 use Rattle.figures.specs.Text.{codes}
@@ -10,7 +10,7 @@ use Rattle.figures.specs.Decimal.{isDigit, numberOf}
 use Rattle.figures.specs.declared.Said.{Said}
 use Rattle.figures.specs.declared.Said.the-variants as said
 use Rattle.commands.specs.declared.shapes.Order.{Order}
-use Rattle.commands.specs.declared.shapes.Order.the-variants.{Not, Set, Conf, Put, Get, Undo, Keep, Unknown}
+use Rattle.commands.specs.declared.shapes.Order.the-variants.{WrongShape, Set, Conf, Put, Get, Undo, Keep, NoKeyword}
 
 -- the byte at a place from the end, the last at 1
 abbrev pub fromEnd : ℕ → List ℕ → ℕ
@@ -46,11 +46,11 @@ slashAt s = runOf (isOther 47) s
 abbrev pub setOrder : List ℕ → Order
 setOrder s =
     cond (ltb (slashAt s) (length s) && (numberRight (take (slashAt s) s) && numberRight (drop (slashAt s + 1) s)))
-    (Set (numberOf (take (slashAt s) s)) (numberOf (drop (slashAt s + 1) s))) Not
+    (Set (numberOf (take (slashAt s) s)) (numberOf (drop (slashAt s + 1) s))) WrongShape
 
 -- `number`
 abbrev pub confOrder : List ℕ → Order
-confOrder s = cond (numberRight s) (Conf (numberOf s)) Not
+confOrder s = cond (numberRight s) (Conf (numberOf s)) WrongShape
 
 -- `/WI` and two digits
 abbrev pub groupRight : List ℕ → Bool
@@ -66,7 +66,16 @@ groupsIn s = length s / 5
 
 -- "one or more `/WI` with two digits"
 abbrev pub getOrder : List ℕ → Order
-getOrder s = cond (ltb 0 (length s) && groupsRight (groupsIn s) s) Get Not
+getOrder s = cond (ltb 0 (length s) && groupsRight (groupsIn s) s) Get WrongShape
+
+-- the numbers after each `/WI` of n groups
+unfoldable pub indexesIn : ℕ → List ℕ → List ℕ
+indexesIn zero g = []
+indexesIn (suc n) g = numberOf (take 2 (drop 3 g)) ∷ indexesIn n (drop 5 g)
+
+-- the indexes that a GET names, in the line's order
+abbrev pub indexesOf : List ℕ → List ℕ
+indexesOf t = indexesIn (groupsIn (drop 5 t)) (drop 5 t)
 
 -- the keywords
 abbrev pub set-slash : List ℕ
@@ -94,13 +103,13 @@ hasKeyword t =
     || (startsWith (codes "CONF") t
     || (startsWith (codes "PUT") t || (startsWith (codes "GET") t || (startsWith undo-word t || startsWith keep-word t))))
 
--- the shapes; "`PUT/` and 16 characters". Not is "a known keyword with a wrong remainder", Unknown no keyword
+-- the shapes; "`PUT/` and 16 characters". WrongShape is "a known keyword with a wrong remainder"
 abbrev pub orderOf : List ℕ → Order
 orderOf t =
     cond (startsWith set-slash t) (setOrder (drop 4 t))
     (cond (startsWith conf-slash t) (confOrder (drop 5 t))
-    (cond (startsWith put-slash t) (cond (eqb (length t) 20) Put Not)
+    (cond (startsWith put-slash t) (cond (eqb (length t) 20) Put WrongShape)
     (cond (startsWith get-i t) (getOrder (drop 5 t))
     (cond (sameBytes t undo-word) Undo
     (cond (sameBytes t keep-word) Keep
-    (cond (hasKeyword t) Not Unknown))))))
+    (cond (hasKeyword t) WrongShape NoKeyword))))))

@@ -10,20 +10,20 @@ use figures::run_before;
 use figures::same;
 use figures::starts;
 
-// What a line of a right shape orders. PUT's word and GET's indexes stand in the line. Not is a line whose keyword goes on wrongly, Unknown one that
-// starts with no keyword.
+// What a line of a right shape orders. PUT's word and GET's indexes stand in the line. WrongShape is a line whose keyword goes on wrongly, NoKeyword one
+// that starts with none.
 pub enum Order {
-    Not,
+    WrongShape,
     Set(u64, u64),
     Conf(u64),
     Put,
     Get,
     Undo,
     Keep,
-    Unknown,
+    NoKeyword,
 }
 
-// The length of a line's end: 1 for CR, 2 for CR LF, 0 for none.
+// Gives the length of a line's end: 1 for CR, 2 for CR LF, 0 for none.
 pub fn end_of(line: &[u8]) -> usize
     ensures { λ r. ⌜ r ≡ endOf (now (line .entry)) ⌝ }
 {
@@ -46,7 +46,7 @@ pub fn end_of(line: &[u8]) -> usize
     0
 }
 
-// Whether there is no CR and no LF.
+// Tells whether there is no CR and no LF.
 pub fn is_plain(s: &[u8]) -> bool
     ensures { λ r. ⌜ r ≡ isPlain (now (s .entry)) ⌝ }
 {
@@ -63,7 +63,7 @@ pub fn is_plain(s: &[u8]) -> bool
     true
 }
 
-// A number: 1 to 4 digits and no leading zero, save 0 itself.
+// Reads a number: 1 to 4 digits and no leading zero, save 0 itself.
 fn number_of(s: &[u8]) -> Said
     ensures { λ r. ⌜ r ≡ numberShape (now (s .entry)) ⌝ }
 {
@@ -87,14 +87,14 @@ fn set_order(s: &[u8]) -> Order
 {
     let cut = run_before(s, b'/');
     if s.len() <= cut {
-        return Order::Not;
+        return Order::WrongShape;
     }
     let Said::Number(setting) = number_of(&s[0..cut]) else {
-        return Order::Not;
+        return Order::WrongShape;
     };
     let from = cut + 1;
     let Said::Number(parameter) = number_of(&s[from..]) else {
-        return Order::Not;
+        return Order::WrongShape;
     };
     Order::Set(setting, parameter)
 }
@@ -103,12 +103,12 @@ fn conf_order(s: &[u8]) -> Order
     ensures { λ r. ⌜ r ≡ confOrder (now (s .entry)) ⌝ }
 {
     let Said::Number(setting) = number_of(s) else {
-        return Order::Not;
+        return Order::WrongShape;
     };
     Order::Conf(setting)
 }
 
-// One group of GET: /WI and two digits.
+// Tells whether one group of GET stands there: /WI and two digits.
 fn group_right(s: &[u8], at: usize) -> bool
     requires { ⌜ at ≤ length (now s) ⌝ }
     ensures { λ r. ⌜ r ≡ groupRight (drop at (now (s .entry))) ⌝ }
@@ -130,15 +130,15 @@ fn get_order(s: &[u8]) -> Order
     ensures { λ r. ⌜ r ≡ getOrder (now (s .entry)) ⌝ }
 {
     if s.len() == 0 {
-        return Order::Not;
+        return Order::WrongShape;
     }
     if s.len() % 5 != 0 {
-        return Order::Not;
+        return Order::WrongShape;
     }
     let mut at = 0;
     while at < s.len() {
         if !group_right(s, at) {
-            return Order::Not;
+            return Order::WrongShape;
         }
         at += 5;
     }
@@ -166,7 +166,7 @@ fn has_keyword(text: &[u8]) -> bool
     starts(text, b"KEEP")
 }
 
-// The shape of a line without its end.
+// Finds the shape of a line without its end.
 pub fn order_of(text: &[u8]) -> Order
     ensures { λ r. ⌜ r ≡ orderOf (now (text .entry)) ⌝ }
 {
@@ -180,7 +180,7 @@ pub fn order_of(text: &[u8]) -> Order
         if text.len() == 20 {
             return Order::Put;
         }
-        return Order::Not;
+        return Order::WrongShape;
     }
     if starts(text, b"GET/I") {
         return get_order(&text[5..]);
@@ -192,7 +192,7 @@ pub fn order_of(text: &[u8]) -> Order
         return Order::Keep;
     }
     if has_keyword(text) {
-        return Order::Not;
+        return Order::WrongShape;
     }
-    Order::Unknown
+    Order::NoKeyword
 }

@@ -37,7 +37,7 @@ same-cond : (t : Bool) (n : ℕ) → cond t n n ≡ n
 same-cond true n = refl
 same-cond false n = refl
 
-module _ (place : ℕ) (b : List ℕ) (long : length b ≡ 16) (named : storedAt place .0 ≡ indexOf (pos 1 b) (pos 2 b))
+module _ (place : ℕ) (b : List ℕ) (long : length b ≡ 16) (named : storedAt place .index ≡ indexOf (pos 1 b) (pos 2 b))
     (first : isDigit (pos 1 b) ≡ true) (second : isDigit (pos 2 b) ≡ true) (right : putRight place b ≡ true) where
   abbrev d : Eight
   d = eightOf (drop 7 b)
@@ -51,7 +51,7 @@ module _ (place : ℕ) (b : List ℕ) (long : length b ≡ 16) (named : storedAt
       let kept = put-kept-right place b long named first second right in
       let small = kept-small place u m d kept in
       let is : b ≡ spread (places false false u m d small (storedAt place)) [] =
-      sym (word-back place b long named first second right) ∙ rw (same-cond (eqb (storedAt place .1) 46) 46) in
+      sym (word-back place b long named first second right) ∙ rw (same-cond (eqb (storedAt place .first) 46) 46) in
       ap (wordOf Station false) is ∙ place-reads false false u m d small place kept
 
   pub put-given : (wide : Bool) → PutGiven wide place b (wordOf Station false b .word)

@@ -1,13 +1,13 @@
 -- A word of GET/I, of either width, reads to the record of its value. The table is walked once, and a row by its kind; the mode is GET's or a
 -- PUT's, so that the word that was put is read by the same laws.
-use Prim.Native.Nat.{ℕ, zero, suc, _≤_}
+use Prim.Native.Nat.{ℕ, suc, _≤_}
 use mathlib.Core.Path.{_≡_, refl, sym, ap, _∙_}
 use mathlib.Core.Bool.{Bool, true, false, cond, _&&_, false≢true, and-false}
 use mathlib.Core.List.{List, [], _∷_, _++_}
 use native.Mathlib.Omega.{arith}
-use borrow.Author.Tests.{eqb-true, eqb-false, ne-eqb, leb-true}
+use borrow.Author.Tests.{eqb-true, eqb-false, ne-eqb, leb-true, lt-ltb}
 use lib.Dec.{eqb, leb, ltb}
-use lib.ListN.{length, getD, drop, replicate}
+use lib.ListN.{length, replicate}
 use lib.Seq.{take-all}
 use Rattle.figures.specs.Bytes.{within, among, every}
 use Rattle.figures.specs.Decimal.{isDigit, numberFrom, numberOf}
@@ -18,6 +18,7 @@ use Rattle.units.specs.Information.{stationMarks, allRight, signByte, signRight
 use Rattle.units.specs.Counts.{whole, zeroWhole, degrees, minutes, seconds, tenthsOf, counted, angleAt, lengthOf, valueAt, firstOf, secondOf}
 use Rattle.units.proofs.Positions.{tensOf, onesOf, index-on, index-below, tens-digit, ones-digit, sign-on, sign-right}
 use Rattle.words.specs.Records.{width, isGraphic, isRight, recordOf}
+use Rattle.words.proofs.Letters.{one-right, text-right}
 use Rattle.words.specs.Reading.{wordSize, dataRight, figuresIn, textField, isCounted, rightWord, wordOf}
 use Rattle.words.specs.Writing.{bytesOf}
 use Rattle.words.proofs.Places.{Places, spread, wordBy, word-spread}
@@ -33,12 +34,12 @@ use Rattle.units.specs.declared.counts.Figures.the-variants.{Number}
 use Rattle.units.specs.declared.counts.Valued.{Valued}
 use Rattle.units.specs.declared.counts.Valued.the-variants.{Counted}
 use Rattle.words.specs.declared.records.Word.{Word}
-use Rattle.instrument.specs.Values.{unitsOf, stored, noStored, storedAt, isPut, valueWord, putRight, keptRight, getWord, eightBytes, wordIn}
+use Rattle.instrument.specs.Values.{unitsOf, storedAt, isPut, valueWord, putRight, keptRight, getWord, eightBytes, wordIn}
 use Rattle.instrument.specs.declared.values.Stored.{Stored}
 use Rattle.instrument.specs.declared.values.Eight.{Eight}
 use Rattle.instrument.specs.declared.values.Kept.{Kept}
 use Rattle.instrument.specs.declared.values.Kept.the-variants.{Never, Put}
-use Rattle.instrument.proofs.Kept.{heldBy, kept-outside, kept-held}
+use Rattle.instrument.proofs.Kept.{each-stored, heldBy, kept-outside, kept-held}
 use Rattle.controller.specs.Given.{sizeIn, zeros, textGiven, given}
 
 -- zeros on the left
@@ -94,7 +95,7 @@ informs k mode u = allRight (stationMarks k 46 46 mode u)
 
 -- GET answers mode 1 for a number, and a PUT has a dot there
 abbrev modeIn : Bool → Stored → ℕ
-modeIn get r = cond (eqb (r .1) 46) 46 (cond get 49 46)
+modeIn get r = cond (eqb (r .first) 46) 46 (cond get 49 46)
 
 length-units : (get : Bool) → Even (informs kind.Length (cond get 49 46)) true 48 50
 unfolding among
@@ -107,15 +108,6 @@ angle-units true = refl
 angle-units false = refl
 
 -- text by its kind
-
-text-right : (k : Kind) (l : List ℕ) → isTextual k ≡ true → dataRight k l ≡ every isGraphic l
-text-right kind.Missing l e = absurd (false≢true e)
-text-right kind.Numbered l e = refl
-text-right kind.Text l e = refl
-text-right kind.Angle l e = absurd (false≢true e)
-text-right kind.Length l e = absurd (false≢true e)
-text-right kind.Constant l e = absurd (false≢true e)
-text-right kind.Pair l e = absurd (false≢true e)
 
 text-value : (k : Kind) (i u m : ℕ) (l : List ℕ) → isTextual k ≡ true → valueAt k i u m (figuresIn k l) ≡ Counted Text
 text-value kind.Missing i u m l e = absurd (false≢true e)
@@ -132,8 +124,8 @@ module _ (get wide : Bool) (u m : ℕ) (d : Eight) (small : m ≤ 1) where
 
   abbrev pub places : Stored → Places
   places r = record {
-    tens = tensOf (r .0);
-    ones = onesOf (r .0);
+    tens = tensOf (r .index);
+    ones = onesOf (r .index);
     first = 46;
     second = 46;
     mode = modeIn get r;
@@ -149,95 +141,81 @@ module _ (get wide : Bool) (u m : ℕ) (d : Eight) (small : m ≤ 1) where
   abbrev pub rowGiven : Stored → Word
   rowGiven r =
       record {
-        index = r .0;
+        index = r .index;
         info = info r;
         minus = m;
         mmminus = 0;
-        size = cond (eqb (r .1) 46) 0 (sizeIn u (numberOf (eightBytes d)));
+        size = cond (eqb (r .first) 46) 0 (sizeIn u (numberOf (eightBytes d)));
         mm = 0;
-        text = cond (eqb (r .1) 46) (textGiven wide d) (replicate 16 0);
+        text = cond (eqb (r .first) 46) (textGiven wide d) (replicate 16 0);
       }
 
   -- a value that the row holds
   abbrev Reads : Stored → Type 0
-  Reads r = r .1 ≤ u → u ≤ r .2 → heldBy r u m (eightBytes d) ≡ true → wordBy Station wide (places r) ≡ rightWord (rowGiven r)
+  Reads r = r .first ≤ u → u ≤ r .last → heldBy r u m (eightBytes d) ≡ true → wordBy Station wide (places r) ≡ rightWord (rowGiven r)
 
   abbrev Units : Stored → Type 0
-  Units r = Even (informs (stationKind (r .0)) (modeIn get r)) true (r .1) (suc (r .2))
+  Units r = Even (informs (stationKind (r .index)) (modeIn get r)) true (r .first) (suc (r .last))
 
-  row-reads : (r : Stored) (c : Count) → isListed (stationKind (r .0)) ≡ true → Units r → r .1 ≤ u → u ≤ r .2
-      → signRight (stationKind (r .0)) (signByte m) ≡ true → dataRight (stationKind (r .0)) letters ≡ true
-      → valueAt (stationKind (r .0)) (r .0) u m (figuresIn (stationKind (r .0)) letters) ≡ Counted c
-      → recordOf (r .0) (info r) c (textField (stationKind (r .0)) letters) ≡ rowGiven r
+  row-reads : (r : Stored) (c : Count) → isListed (stationKind (r .index)) ≡ true → Units r → r .first ≤ u → u ≤ r .last
+      → signRight (stationKind (r .index)) (signByte m) ≡ true → dataRight (stationKind (r .index)) letters ≡ true
+      → valueAt (stationKind (r .index)) (r .index) u m (figuresIn (stationKind (r .index)) letters) ≡ Counted c
+      → recordOf (r .index) (info r) c (textField (stationKind (r .index)) letters) ≡ rowGiven r
       → wordBy Station wide (places r) ≡ rightWord (rowGiven r)
   row-reads r c listed units low high sign right value same =
-      let i = r .0 in
+      let i = r .index in
       let k = stationKind i in
-      let informed = sym (along (informs k (modeIn get r)) (r .1) (suc (r .2)) units low (omega arith)) in
-      rw (index-on i (index-below i listed), tens-digit i, ones-digit i, listed, sign-on m small, informed, sign, right, value) (ap rightWord same)
+      let informed = sym (along (informs k (modeIn get r)) (r .first) (suc (r .last)) units low (omega arith)) in
+      rw (index-on i (index-below i listed), tens-digit i, ones-digit i, listed, lt-ltb i 100 (index-below i listed), sign-on m small, informed, sign, right, value) (ap rightWord same)
 
-  by-text : (r : Stored) → isListed (stationKind (r .0)) ≡ true → Units r → isTextual (stationKind (r .0)) ≡ true → eqb (r .1) 46 ≡ true → Reads r
+  by-text : (r : Stored) → isListed (stationKind (r .index)) ≡ true → Units r → isTextual (stationKind (r .index)) ≡ true → eqb (r .first) 46 ≡ true → Reads r
   by-text r listed units text dot low high held =
-      let k = stationKind (r .0) in
+      let k = stationKind (r .index) in
       let parts = both (eqb m 0) (every isGraphic (eightBytes d)) (rw dot at held) in
       let plus = eqb-true m 0 (parts .0) in
       let sign = sign-right k m (record { small = small; plus = λ _. plus }) in
       let right : dataRight k letters ≡ true = text-right k letters text ∙ zeros-every isGraphic wide (eightBytes d) refl ∙ parts .1 in
-      row-reads r Text listed units low high sign right (text-value k (r .0) u m letters text) (rw (text, dot, plus))
+      row-reads r Text listed units low high sign right (text-value k (r .index) u m letters text) (rw (text, dot, plus))
 
-  by-number : (r : Stored) → isListed (stationKind (r .0)) ≡ true → Units r → isTextual (stationKind (r .0)) ≡ false
-      → ((l : List ℕ) → dataRight (stationKind (r .0)) l ≡ every isDigit l) → ((l : List ℕ) → figuresIn (stationKind (r .0)) l ≡ Number (numberOf l))
-      → eqb (r .1) 46 ≡ false
-      → ((n : ℕ) → r .1 ≤ u → u ≤ r .2 → isCounted (valueAt (stationKind (r .0)) (r .0) u m (Number n)) ≡ true
-      → Sized (valueAt (stationKind (r .0)) (r .0) u m (Number n)) (whole m (sizeIn u n)))
+  by-number : (r : Stored) → isListed (stationKind (r .index)) ≡ true → Units r → isTextual (stationKind (r .index)) ≡ false
+      → ((l : List ℕ) → dataRight (stationKind (r .index)) l ≡ every isDigit l) → ((l : List ℕ) → figuresIn (stationKind (r .index)) l ≡ Number (numberOf l))
+      → eqb (r .first) 46 ≡ false
+      → ((n : ℕ) → r .first ≤ u → u ≤ r .last → isCounted (valueAt (stationKind (r .index)) (r .index) u m (Number n)) ≡ true
+      → Sized (valueAt (stationKind (r .index)) (r .index) u m (Number n)) (whole m (sizeIn u n)))
       → Reads r
   by-number r listed units plain digits says dot sized low high held =
-      let k = stationKind (r .0) in
+      let k = stationKind (r .index) in
       let n = numberOf (eightBytes d) in
-      let parts = both (every isDigit (eightBytes d)) (isCounted (valueAt k (r .0) u m (Number n))) (rw dot at held) in
+      let parts = both (every isDigit (eightBytes d)) (isCounted (valueAt k (r .index) u m (Number n))) (rw dot at held) in
       let s = sized n low high (parts .1) in
       let sign = sign-right k m (record { small = small; plus = λ t. absurd (false≢true (sym plain ∙ t)) }) in
       let right : dataRight k letters ≡ true = digits letters ∙ zeros-every isDigit wide (eightBytes d) refl ∙ parts .0 in
-      let value : valueAt k (r .0) u m (figuresIn k letters) ≡ Counted (s .count) = rw (says letters, zeros-number wide (eightBytes d)) (s .counts) in
+      let value : valueAt k (r .index) u m (figuresIn k letters) ≡ Counted (s .count) = rw (says letters, zeros-number wide (eightBytes d)) (s .counts) in
       row-reads r (s .count) listed units low high sign right value (rw (plain, dot, s .first, s .second))
 
-  abbrev Each : List Stored → Type 0
-  Each [] = Reads noStored
-  Each (r ∷ rows) = Reads r × Each rows
-
-  each-at : (rows : List Stored) → Each rows → (place : ℕ) → Reads (getD rows place noStored)
-  each-at [] h zero = h
-  each-at [] h (suc place) = h
-  each-at (r ∷ rows) h zero = h .0
-  each-at (r ∷ rows) h (suc place) = each-at rows (h .1) place
-
-  each : Each stored
-  unfolding stored among
+  each : (place : ℕ) → Reads (storedAt place)
+  unfolding among
   each =
-      let text : (i : ℕ) → isListed (stationKind i) ≡ true → Units (unitsOf i "." ".") → isTextual (stationKind i) ≡ true → Reads (unitsOf i "." ".") =
-      λ i listed units text. by-text (unitsOf i "." ".") listed units text refl in
-      let length : (i : ℕ) → stationKind i ≡ kind.Length → Reads (unitsOf i "0" "1") =
-      λ i is.
-      by-number (unitsOf i "0" "1") (rw is) (rw is (length-units get)) (rw is) (λ l. rw is) (λ l. rw is) refl
-      (λ n low high. rw is (λ _. length-sized u m n high)) in
-      let angle : (i : ℕ) → stationKind i ≡ kind.Angle → Reads (unitsOf i "2" "4") =
-      λ i is.
-      by-number (unitsOf i "2" "4") (rw is) (rw is (angle-units get)) (rw is) (λ l. rw is) (λ l. rw is) refl
-      (λ n low high. rw is (angle-sized u m n low high)) in
-      let none : Reads noStored = λ low high held. absurd (false≢true (sym (and-false (every isDigit (eightBytes d))) ∙ held)) in
-      let last : Each (drop 8 stored) = (length 86 refl, (length 87 refl, (length 88 refl, none))) in
-      let lengths : Each (drop 4 stored) = (length 34 refl, (length 83 refl, (length 84 refl, (length 85 refl, last)))) in
-      (text 11 refl refl refl, (text 16 refl refl refl, (angle 21 refl, (angle 24 refl, lengths))))
+      each-stored Reads
+      (by-text (unitsOf 11 "." ".") refl refl refl refl)
+      (by-text (unitsOf 16 "." ".") refl refl refl refl)
+      (λ i is.
+      by-number (unitsOf i "2" "4") (rw is) (rw is (angle-units get)) (rw is) (λ l. rw is (one-right isDigit l)) (λ l. rw is) refl
+      (λ n low high. rw is (angle-sized u m n low high)))
+      (λ i is.
+      by-number (unitsOf i "0" "1") (rw is) (rw is (length-units get)) (rw is) (λ l. rw is (one-right isDigit l)) (λ l. rw is) refl
+      (λ n low high. rw is (λ _. length-sized u m n high)))
+      (λ low high held. absurd (false≢true (sym (and-false (every isDigit (eightBytes d))) ∙ held)))
 
   pub place-reads : (place : ℕ) → keptRight place (Put u m d) ≡ true
       → wordOf Station wide (spread (places (storedAt place)) []) ≡ rightWord (rowGiven (storedAt place))
   place-reads place right =
       let r = storedAt place in
-      by-test (within (r .1) (r .2) u)
+      by-test (within (r .first) (r .last) u)
       (λ q.
-      let unit = within-bounds (r .1) (r .2) u q in
+      let unit = within-bounds (r .first) (r .last) u q in
       let held = sym (kept-held u m d small place (Put u m d) refl (unit .0) (unit .1)) ∙ right in
-      word-spread wide (places r) (zeros-length wide d) Station [] ∙ each-at stored each place (unit .0) (unit .1) held)
+      word-spread wide (places r) (zeros-length wide d) Station [] ∙ each place (unit .0) (unit .1) held)
       (λ q. absurd (false≢true (sym (kept-outside u m d small place (Put u m d) refl q) ∙ right)))
 
 pub kept-small : (place u m : ℕ) (d : Eight) → keptRight place (Put u m d) ≡ true → m ≤ 1

@@ -16,7 +16,7 @@ use Rattle.instrument.specs.declared.values.Kept.{Kept}
 use Rattle.instrument.specs.declared.values.Kept.the-variants.{Never, Put}
 
 abbrev pub isText : ℕ → Bool
-isText place = eqb (storedAt place .1) 46
+isText place = eqb (storedAt place .first) 46
 
 -- "zeros added on the left of the data"
 abbrev pub zeros : Bool → List ℕ

@@ -4,7 +4,7 @@ use mathlib.Core.Path.{_≡_, refl, sym, ap, _∙_}
 use mathlib.Core.Bool.{Bool, true, false, cond, _&&_}
 use mathlib.Core.List.{List, [], _∷_, _++_}
 use native.Mathlib.Omega.{arith}
-use borrow.Author.Tests.{le-leb, lt-ltb, le-ltb, ne-eqb}
+use borrow.Author.Tests.{le-leb, lt-ltb, le-ltb, ne-eqb, eqb-false}
 use lib.Dec.{eqb, ltb}
 use lib.ListN.{length, getD, drop}
 use Rattle.units.specs.Kinds.{kindOf, indexBy, areDigits, listedBy}
@@ -12,7 +12,7 @@ use Rattle.units.specs.Information.{leadOf, signRight}
 use Rattle.units.specs.declared.kinds.Family.{Family}
 use Rattle.units.specs.declared.kinds.Kind.{Kind}
 use Rattle.words.specs.Records.{width}
-use Rattle.words.specs.Reading.{wordSize, pos, dataIn, indexIn, kindAt, leadIn, dataRight, dataAt, valueIn, isCounted, recordIn, rightWord, unless, wordOf}
+use Rattle.words.specs.Reading.{wordSize, pos, dataIn, indexIn, kindAt, leadIn, dataTests, passing, dataAt, dataRight, valueIn, isCounted, recordIn, rightWord, unless, wordOf}
 use Rattle.words.specs.declared.records.Word.{Word}
 use Rattle.words.specs.declared.reading.Fault.{Fault}
 use Rattle.words.specs.declared.reading.Fault.the-variants.{Information, Sign, Characters, Separator, Value}
@@ -21,8 +21,8 @@ use Rattle.words.specs.declared.reading.Judged.the-variants.{Right, Wrong}
 use Rattle.words.specs.declared.reading.OneWord.{OneWord}
 use Rattle.words.proofs.Checks.{width-bounds, data-length}
 use Rattle.words.proofs.Places.{spread-places}
-use Rattle.damage.proofs.Passed.{passed, passed-append, some-failed}
-use Rattle.damage.proofs.Letters.{letterTests, letters-by, tests-length}
+use Rattle.words.proofs.Letters.{passing-most, passing-append}
+use Rattle.damage.proofs.Noughts.{tests-length}
 use Rattle.damage.proofs.Marks.{firstRight, secondRight, modeRight, unitRight, marks-each}
 
 abbrev pub isBlank : ℕ → Bool
@@ -31,12 +31,12 @@ isBlank b = eqb b 32
 -- the tests from position 3 on, of an index whose kind is k and information begins with a
 abbrev pub testsAt : Family → Bool → ℕ → Kind → ℕ → List (ℕ → Bool)
 testsAt f wide i k a =
-    (λ c. firstRight f i k (leadOf f i c)) ∷ secondRight f i k a ∷ modeRight f i k a ∷ unitRight f i k a ∷ signRight k
-    ∷ (letterTests k (width wide) ++ (isBlank ∷ []))
+    (λ c. firstRight f i k (leadOf i c)) ∷ secondRight f i k a ∷ modeRight f i k a ∷ unitRight f i k a ∷ signRight k
+    ∷ (dataTests k (width wide) ++ (isBlank ∷ []))
 
 -- they go by positions 1-3
 abbrev pub testsBy : Family → Bool → ℕ → ℕ → ℕ → List (ℕ → Bool)
-testsBy f wide t o c = let i = indexBy f t o c in testsAt f wide i (kindOf f i) (leadOf f i c)
+testsBy f wide t o c = let i = indexBy f t o c in testsAt f wide i (kindOf f i) (leadOf i c)
 
 abbrev pub testsIn : Family → Bool → List ℕ → List (ℕ → Bool)
 testsIn f wide s = testsBy f wide (pos 1 s) (pos 2 s) (pos 3 s)
@@ -81,8 +81,7 @@ module _ (w : ℕ) (value : Bool) where
 -- of a whole word whose index is listed
 pub word-told : (f : Family) (wide : Bool) (s : List ℕ) → wordSize wide ≤ length s → areDigits (pos 1 s) (pos 2 s) ≡ true
     → listedBy f (pos 1 s) (pos 2 s) (pos 3 s) ≡ true
-    → wordOf f wide s .answer ≡ told (width wide) (isCounted (valueIn f wide s)) (passed (testsIn f wide s) (drop 2 s))
-unfolding passed
+    → wordOf f wide s .answer ≡ told (width wide) (isCounted (valueIn f wide s)) (passing (testsIn f wide s) (drop 2 s))
 word-told f wide s h digits listed =
     let w = width wide in
     let k = kindAt f s in
@@ -93,14 +92,14 @@ word-told f wide s h digits listed =
     let least = width-bounds wide .0 in
     let long = data-length wide s h in
     let all = tests-length k w (omega arith) in
-    let letters = letters-by k w d long (omega arith) in
     let bytes : drop 2 s ≡ pos 3 s ∷ pos 4 s ∷ pos 5 s ∷ pos 6 s ∷ pos 7 s ∷ (d ++ (end ∷ rest)) = ap (drop 2) (spread-places wide s h) in
-    let on : passed (letterTests k w ++ (isBlank ∷ [])) (d ++ (end ∷ rest)) ≡ cond (dataRight k d) (w + cond (isBlank end) 1 0) (dataAt k d) =
-    passed-append (isBlank ∷ []) (end ∷ rest) (letterTests k w) d (all ∙ sym long) ∙ rw (long, ← letters .0, ← letters .1) in
-    let near : dataRight k d ≡ false → dataAt k d < w = λ q. omega (arith, some-failed (letterTests k w) d (sym (letters .0) ∙ q)) in
+    let on : passing (dataTests k w ++ (isBlank ∷ [])) (d ++ (end ∷ rest)) ≡ cond (dataRight k d) (w + cond (isBlank end) 1 0) (dataAt k d) =
+    passing-append (isBlank ∷ []) (end ∷ rest) (dataTests k w) d (all ∙ sym long) ∙ rw long in
+    let near : dataRight k d ≡ false → dataAt k d < w =
+    λ q. omega (arith, passing-most (dataTests k (length d)) d, eqb-false (dataAt k d) (length d) q) in
     let tail = by-tail w counts (dataRight k d) (isBlank end) (dataAt k d) (recordIn f wide s) near ∙ ap (λ n. told w counts (5 + n)) (sym on) in
     let a = leadIn f s in
     let i = indexIn f s in
     rw (le-leb (wordSize wide) (length s) h, digits, listed, marks-each f i k a (pos 4 s) (pos 5 s) (pos 6 s), bytes)
-    (by-head w counts (passed (letterTests k w ++ (isBlank ∷ [])) (d ++ (end ∷ rest))) (firstRight f i k a) (secondRight f i k a (pos 4 s))
+    (by-head w counts (passing (dataTests k w ++ (isBlank ∷ [])) (d ++ (end ∷ rest))) (firstRight f i k a) (secondRight f i k a (pos 4 s))
     (modeRight f i k a (pos 5 s)) (unitRight f i k a (pos 6 s)) (signRight k (pos 7 s)) _ tail)

@@ -9,11 +9,14 @@ use Rattle.units.specs.declared.kinds.Family.{Family}
 use Rattle.units.specs.declared.kinds.Family.the-variants.{Station, Level}
 use Rattle.words.specs.Reading.{wordOf}
 use Rattle.words.specs.declared.reading.Fault.{Fault}
-use Rattle.words.specs.declared.reading.Fault.the-variants.{Information, Sign, Characters, Separator}
+use Rattle.words.specs.declared.reading.Fault.the-variants.{Index, Information, Sign, Characters, Separator}
 use Rattle.words.specs.declared.reading.Judged.the-variants.{Wrong}
 
 abbrev Tells : Family → String → Fault → ℕ → Type 0
 Tells f text x at = wordOf f false (codes text) .answer ≡ Wrong x at
+
+pub ones : Tells Station "8A..10+00005320 " Index 1
+ones = refl
 
 -- a level's index of three digits is none of a total station's, which has a dot at position 3
 pub third : Tells Station "331106+00010198 " Information 2

@@ -4,7 +4,7 @@ use mathlib.Core.Path.{_≡_, refl, sym, ap, _∙_}
 use mathlib.Core.Bool.{Bool, true, false, cond, false≢true}
 use mathlib.Core.List.{List, [], _∷_, _++_}
 use native.Mathlib.Omega.{arith}
-use borrow.Author.Tests.{le-ltb, leb-true, leb-false}
+use borrow.Author.Tests.{le-ltb, leb-false, eq-eqb}
 use lib.Dec.{leb}
 use lib.ListN.{length, getD, take, drop, length-append, length-drop}
 use lib.Seq.{take-at, drop-at, drop-drop, drop-cons, take-add, length-take-le}
@@ -14,14 +14,15 @@ use Rattle.units.specs.Information.{leadOf, signOf}
 use Rattle.units.specs.declared.kinds.Family.{Family}
 use Rattle.units.specs.declared.kinds.Kind.{Kind}
 use Rattle.words.specs.Records.{width}
-use Rattle.words.specs.Reading.{faultNumber, wordSize, pos, dataIn, valueIn, isCounted, wordOf}
+use Rattle.words.specs.Reading.{faultNumber, wordSize, pos, dataIn, dataTests, passing, valueIn, isCounted, wordOf}
 use Rattle.words.specs.declared.reading.Fault.{Fault}
 use Rattle.words.specs.declared.reading.Fault.the-variants.{Value}
 use Rattle.words.specs.declared.reading.Judged.the-variants.{Right, Wrong}
 use Rattle.words.proofs.Checks.{width-bounds}
-use Rattle.damage.specs.Breaks.{Goes, Kept}
-use Rattle.damage.proofs.Passed.{passed, passes, all-passed, passes-on, passes-append}
-use Rattle.damage.proofs.Letters.{letterTests, tests-length, noughts, noughts-length, noughts-pass, noughts-count}
+use Rattle.damage.specs.Breaks.{Survives, Kept}
+use Rattle.words.proofs.Letters.{passing-append}
+use Rattle.damage.proofs.Passed.{passing-on}
+use Rattle.damage.proofs.Noughts.{tests-length, noughts, noughts-length, noughts-pass, noughts-count}
 use Rattle.damage.proofs.Marks.{fitMode, fitUnit, fits, thirdRight}
 use Rattle.damage.proofs.Answers.{isBlank, testsBy, testsIn, word-told}
 
@@ -30,7 +31,7 @@ abbrev fillAt : Bool → Kind → ℕ → ℕ → List ℕ
 fillAt wide k a c = c ∷ fitMode k a ∷ fitMode k a ∷ fitUnit k a ∷ 43 ∷ (noughts k (width wide) ++ (32 ∷ []))
 
 abbrev pub fillBy : Family → Bool → ℕ → ℕ → ℕ → List ℕ
-fillBy f wide t o c = let i = indexBy f t o c in fillAt wide (kindOf f i) (leadOf f i c) c
+fillBy f wide t o c = let i = indexBy f t o c in fillAt wide (kindOf f i) (leadOf i c) c
 
 module _ (f : Family) (wide : Bool) (t o c : ℕ) where
   fill-length : length (fillBy f wide t o c) ≡ 6 + width wide
@@ -43,18 +44,18 @@ module _ (f : Family) (wide : Bool) (t o c : ℕ) where
   all-length =
       let k = kindOf f (indexBy f t o c) in
       let least = width-bounds wide in
-      omega (arith, length-append (letterTests k (width wide)) (isBlank ∷ []), tests-length k (width wide) (omega arith))
+      omega (arith, length-append (dataTests k (width wide)) (isBlank ∷ []), tests-length k (width wide) (omega arith))
 
-  fill-passes : thirdRight f t o c ≡ true → passes (testsBy f wide t o c) (fillBy f wide t o c) ≡ true
-  unfolding passes
+  fill-passes : thirdRight f t o c ≡ true → passing (testsBy f wide t o c) (fillBy f wide t o c) ≡ length (testsBy f wide t o c)
   fill-passes right =
       let i = indexBy f t o c in
       let k = kindOf f i in
       let least = width-bounds wide .0 in
-      let (listed, second, mode, unit) = fits f i k (leadOf f i c) right in
-      let long = tests-length k (width wide) (omega arith) ∙ sym (noughts-length k (width wide) (omega arith)) in
-      let letters = passes-append (isBlank ∷ []) (32 ∷ []) (letterTests k (width wide)) (noughts k (width wide)) long in
-      rw (right, second, mode, unit, letters, noughts-pass k (width wide) listed)
+      let (listed, second, mode, unit) = fits f i k (leadOf i c) right in
+      let long = noughts-length k (width wide) (omega arith) in
+      let letters = passing-append (isBlank ∷ []) (32 ∷ []) (dataTests k (width wide)) (noughts k (width wide)) (tests-length k (width wide) (omega arith) ∙ sym long) in
+      rw (right, second, mode, unit, letters, noughts-pass k (width wide) (omega arith) listed, long, eq-eqb (width wide) (width wide) refl)
+      (omega (arith, all-length))
 
 -- n bytes of x, and then those of y after as many
 abbrev mixed : ℕ → List ℕ → List ℕ → List ℕ
@@ -72,14 +73,14 @@ module _ (n : ℕ) (x y : List ℕ) (h : n ≤ length x) where
   take-mixed : take n (mixed n x y) ≡ take n x
   take-mixed = take-at (take n x) (drop n y) n (length-take-le n x h)
 
-goes-on : (x : Fault) (counts : Bool) → (faultNumber x < 8 → counts ≡ true) → Goes x (cond counts Right (Wrong Value 7))
-goes-on x true h = tt
-goes-on x false h = (by-test (leb 8 (faultNumber x)) (λ q. leb-true 8 (faultNumber x) q) (λ q. absurd (false≢true (h (leb-false 8 (faultNumber x) q)))), refl)
+survives-by : (x : Fault) (counts : Bool) → (faultNumber x < 8 → counts ≡ true) → Survives x (cond counts Right (Wrong Value 7))
+survives-by x true h = tt
+survives-by x false h = by-test (leb 8 (faultNumber x)) (λ q. rw q) (λ q. absurd (false≢true (h (leb-false 8 (faultNumber x) q))))
 
 -- positions 1-2 of s, and n bytes after them, and then what fits with c at position 3: that of s, or another where n is 0
 module _ (f : Family) (wide : Bool) (s : List ℕ) (whole : wordSize wide ≤ length s) (x : Fault) (n c : ℕ) (near : n < 6 + width wide)
     (digits : areDigits (pos 1 s) (pos 2 s) ≡ true) (listed : listedBy f (pos 1 s) (pos 2 s) c ≡ true) (right : thirdRight f (pos 1 s) (pos 2 s) c ≡ true)
-    (before : n ≤ passed (testsBy f wide (pos 1 s) (pos 2 s) c) (drop 2 s)) where
+    (before : n ≤ passing (testsBy f wide (pos 1 s) (pos 2 s) c) (drop 2 s)) where
   abbrev tail : List ℕ
   tail = mixed n (drop 2 s) (fillBy f wide (pos 1 s) (pos 2 s) c)
 
@@ -97,9 +98,8 @@ module _ (f : Family) (wide : Bool) (s : List ℕ) (whole : wordSize wide ≤ le
       let far : n ≤ length (drop 2 s) = omega (arith, length-drop 2 s) in
       let filled = fill-length f wide t o c in
       let long : length other ≡ wordSize wide = omega (arith, mixed-length n (drop 2 s) fill far (omega arith)) in
-      let passing : passes (testsIn f wide other) tail ≡ true =
-      rw third (passes-on (testsBy f wide t o c) n (drop 2 s) fill before (fill-passes f wide t o c right)) in
-      let all : passed (testsIn f wide other) tail ≡ 6 + w = all-passed (testsIn f wide other) tail passing ∙ all-length f wide t o (getD tail 0 0) in
+      let all : passing (testsIn f wide other) tail ≡ 6 + w =
+      rw third (passing-on (testsBy f wide t o c) n (drop 2 s) fill before (fill-passes f wide t o c right) ∙ all-length f wide t o c) in
       let end : wordOf f wide other .answer ≡ cond (isCounted (valueIn f wide other)) Right (Wrong Value 7) =
       word-told f wide other (omega arith) digits (rw third listed) ∙ rw (all, le-ltb (6 + w) (6 + w) (omega arith)) in
       let counts : faultNumber x < 8 → isCounted (valueIn f wide other) ≡ true =
@@ -113,5 +113,5 @@ module _ (f : Family) (wide : Bool) (s : List ℕ) (whole : wordSize wide ≤ le
         word = other;
         size = long;
         same = take-add 2 n other ∙ rw (take-mixed n (drop 2 s) fill far, take-add 2 n s, start);
-        goes = rw end (goes-on x (isCounted (valueIn f wide other)) counts);
+        survives = rw end (survives-by x (isCounted (valueIn f wide other)) counts);
       }

@@ -1,5 +1,5 @@
 pub mod Passed
-pub mod Letters
+pub mod Noughts
 pub mod Marks
 pub mod Answers
 pub mod Kept

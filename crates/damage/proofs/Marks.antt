@@ -1,24 +1,21 @@
 -- Positions 3-6, byte by byte: the test of each by position 3, bytes that pass them, and what may stand at position 3.
-use Prim.Native.Nat.{ℕ, _<_}
+use Prim.Native.Nat.{ℕ, _<_, zero-le}
 use mathlib.Core.Path.{_≡_, refl, sym, ap, _∙_}
-use mathlib.Core.Bool.{Bool, true, false, cond, _||_, false≢true}
-use mathlib.Core.List.{[], _∷_}
-use borrow.Author.Tests.{eqb-true, eqb-false, ltb-true, lt-ltb}
-use lib.Dec.{eqb, ltb}
-use Rattle.figures.specs.Bytes.{within, among}
+use mathlib.Core.Bool.{Bool, true, false, cond, false≢true}
+use borrow.Author.Tests.{lt-ltb, le-ltb}
+use lib.Dec.{eqb}
+use Rattle.figures.specs.Bytes.{among}
 use Rattle.figures.specs.Decimal.{isDigit}
-use Rattle.figures.proofs.Tests.{both, by-test}
-use Rattle.units.specs.Classes.{none, number, text, numbered, classOf}
-use Rattle.units.specs.Kinds.{stationKind, levelKind, kindOf, isListed, indexOf, threeOf, levelIndex, levelListed, indexBy, areDigits, listedBy}
-use Rattle.units.specs.Information.{isDot, marks, marksBy, numberedMarks, infoMarks, leadOf}
+use Rattle.figures.proofs.Tests.{both, by-test, along}
+use Rattle.units.specs.Classes.{number, text, classOf}
+use Rattle.units.specs.Kinds.{stationKind, levelKind, kindOf, isListed, areDigits, indexOf, threeOf, ofKind, levelAt, isIndex, indexOr, listedBy, indexBy}
+use Rattle.units.specs.Information.{isDot, marks, fourMarks, numberedMarks, infoMarks, leadOf}
 use Rattle.units.specs.declared.information.Marks.{Marks}
 use Rattle.units.specs.declared.kinds.Family.{Family}
 use Rattle.units.specs.declared.kinds.Family.the-variants.{Station, Level}
 use Rattle.units.specs.declared.kinds.Kind.{Kind}
 use Rattle.units.specs.declared.kinds.Kind.the-variants.{Missing, Numbered, Text, Angle, Length, Constant, Pair}
-use Rattle.units.proofs.ThreeDigits.{class-low, class-none}
-use Rattle.units.specs.declared.kinds.Indexed.the-variants.{Listed}
-use Rattle.units.proofs.Levels.{levelAt, at-number, at-text, at-numbered}
+use Rattle.units.proofs.Levels.{Found, alone, block, long, an-index, found, found-kind}
 use Rattle.units.proofs.Positions.{two-digits}
 
 -- the tests of a kind's information, whose first byte is a
@@ -36,7 +33,7 @@ unitRight f i k a d = infoMarks f i k a 0 0 d .3
 
 -- four digits or four dots, where it is known which
 abbrev chosen : Bool → ℕ → ℕ → ℕ → ℕ → Marks
-chosen digits a b c d = cond digits (marksBy isDigit a b c d) (marksBy isDot a b c d)
+chosen digits a b c d = cond digits (fourMarks isDigit a b c d) (fourMarks isDot a b c d)
 
 numbered-each : (a b c d : ℕ)
     → numberedMarks a b c d ≡ marks (numberedMarks a 0 0 0 .0) (numberedMarks a b 0 0 .1) (numberedMarks a 0 c 0 .2) (numberedMarks a 0 0 d .3)
@@ -117,59 +114,51 @@ fits Level i Pair a e = absurd (false≢true e)
 
 -- whether it is right for an index, and for the one that positions 1-2 say with it
 abbrev rightFor : Family → ℕ → ℕ → Bool
-rightFor f i c = firstRight f i (kindOf f i) (leadOf f i c)
+rightFor f i c = firstRight f i (kindOf f i) (leadOf i c)
 
 abbrev pub thirdRight : Family → ℕ → ℕ → ℕ → Bool
 thirdRight f t o c = rightFor f (indexBy f t o c) c
 
 -- a digit there is part of a level's index, or of the number after 11 or 41
-module _ (two c : ℕ) (h : two < 100) (digit : isDigit c ≡ true) (listed : levelListed two c ≡ true) where
-  by-index : (i : ℕ) (k : Kind) → levelAt two c ≡ Listed i k → firstRight Level i k (leadOf Level i c) ≡ true
-      → rightFor Level (levelIndex two c) c ≡ true
-  by-index i k e right =
-      let told : Listed (levelIndex two c) (kindOf Level (levelIndex two c)) ≡ Listed i k = rw listed at e in
-      let index : levelIndex two c ≡ i = cc in
-      let kind : kindOf Level (levelIndex two c) ≡ k = cc in
-      rw (kind, index) right
+module _ (two c : ℕ) (h : two < 100) (digit : isDigit c ≡ true) where
+  by-found : (i : ℕ) (k : Kind) → Found two c i k → firstRight Level i k (leadOf i c) ≡ true
+  by-found i k (alone d l) = absurd (false≢true (sym d ∙ digit))
+  by-found i k (block d class) = rw (lt-ltb two 100 h) (ap (λ t. chosen t c 0 0 0 .0) digit ∙ digit)
+  by-found i k (long d high l) =
+      let class = classOf (threeOf two c) in
+      let far = le-ltb (threeOf two c) 100 high in
+      by-test (eqb class number) (λ q. rw (q, far))
+      (λ q. by-test (eqb class text) (λ r. rw (q, r, far)) (λ r. absurd (false≢true (rw (q, r) at l))))
 
-  digit-right : rightFor Level (levelIndex two c) c ≡ true
-  digit-right =
-      let three = threeOf two c in
-      let class = classOf three in
-      let unlisted : class ≡ none → ⊥ = λ e. false≢true (rw (digit, e) at listed) in
-      let high : ltb three 100 ≡ false = by-test (ltb three 100) (λ q. absurd (unlisted (class-low three (ltb-true three 100 q)))) (λ q. q) in
-      let block : firstRight Level two Numbered c ≡ true = ap (λ t. chosen t c 0 0 0 .0) digit ∙ digit in
-      by-test (eqb class number) (λ q. by-index three Length (at-number two c h digit (eqb-true class number q)) (rw high))
-      (λ x. by-test (eqb class text) (λ q. by-index three Text (at-text two c h digit (eqb-true class text q)) (rw high))
-      (λ y. by-test (eqb class numbered) (λ q. by-index two Numbered (at-numbered two c h digit (eqb-true class numbered q)) (rw (lt-ltb two 100 h) block))
-      (λ z. absurd (unlisted (class-none three (eqb-false class number x) (eqb-false class text y) (eqb-false class numbered z))))))
+  digit-right : isIndex (levelAt two c) ≡ true → rightFor Level (indexOr (levelAt two c)) c ≡ true
+  digit-right listed =
+      let (i, k, is) = an-index (levelAt two c) listed in
+      let this = found two c i k is in
+      rw (is, found-kind two c h i k this) (by-found i k this)
+
+-- a dot is right after two digits that are an index
+dot-after : (f : Family) (n : ℕ) → n < 100 → isListed (kindOf f n) ≡ true → rightFor f n 46 ≡ true
+unfolding among
+dot-after Station n h e = sym (rw e at (along (λ m. cond (isListed (kindOf Station m)) (rightFor Station m 46) true) 0 100 refl zero-le h))
+dot-after Level n h e = sym (rw e at (along (λ m. cond (isListed (kindOf Level m)) (rightFor Level m 46) true) 0 100 refl zero-le h))
+
+listed-of : (i : ℕ) (k : Kind) → isIndex (ofKind i k) ≡ true → isListed k ≡ true
+listed-of i k e = by-test (isListed k) (λ q. q) (λ q. absurd (false≢true (rw q at e)))
 
 -- where it is wrong a dot may stand there: the index is listed and the dot is right
 pub dot-right : (f : Family) (t o c : ℕ) → areDigits t o ≡ true → listedBy f t o c ≡ true → thirdRight f t o c ≡ false
     → (listedBy f t o 46 ≡ true) × (thirdRight f t o 46 ≡ true)
-dot-right Station t o c digits listed wrong = (listed, go (stationKind (indexOf t o)) listed)
+dot-right f t o c digits listed wrong =
+    let (tens, ones) = both (isDigit t) (isDigit o) digits in
+    go f (two-digits t o tens ones) listed wrong
   where
-    go : (k : Kind) → isListed k ≡ true → firstRight Station (indexOf t o) k 46 ≡ true
-    go Missing e = absurd (false≢true e)
-    go Numbered e = refl
-    go Text e = refl
-    go Angle e = refl
-    go Length e = refl
-    go Constant e = refl
-    go Pair e = refl
-dot-right Level t o c digits listed wrong =
-    let two = indexOf t o in
-    let parts = both (isDigit t) (isDigit o) digits in
-    let h = two-digits t o (parts .0) (parts .1) in
-    by-test (isDigit c) (λ q. absurd (false≢true (sym wrong ∙ digit-right two c h q listed)))
-    (λ q.
-    let own : isListed (levelKind two) ≡ true = rw q at listed in
-    let low = lt-ltb two 100 h in
-    (own, rw low (go (among two (11 ∷ 41 ∷ [])) (among two (52 ∷ 57 ∷ []) || within 42 49 two) (among two (32 ∷ 83 ∷ [])) low own)))
-  where
-    go : (x y z : Bool) → ltb (indexOf t o) 100 ≡ true → isListed (cond x Numbered (cond y Text (cond z Length Missing))) ≡ true
-        → firstRight Level (indexOf t o) (cond x Numbered (cond y Text (cond z Length Missing))) 46 ≡ true
-    go true y z low e = refl
-    go false true z low e = rw low
-    go false false true low e = rw low
-    go false false false low e = absurd (false≢true e)
+    go : (g : Family) → indexOf t o < 100 → listedBy g t o c ≡ true → thirdRight g t o c ≡ false
+        → (listedBy g t o 46 ≡ true) × (thirdRight g t o 46 ≡ true)
+    go Station h l w =
+        let own = listed-of (indexOf t o) (stationKind (indexOf t o)) l in
+        (l, rw own (dot-after Station (indexOf t o) h own))
+    go Level h l w =
+        by-test (isDigit c) (λ q. absurd (false≢true (sym w ∙ digit-right (indexOf t o) c h q l)))
+        (λ q.
+        let own = listed-of (indexOf t o) (levelKind (indexOf t o)) (rw q at l) in
+        (rw own, rw own (dot-after Level (indexOf t o) h (rw (lt-ltb (indexOf t o) 100 h) own))))

@@ -11,6 +11,10 @@ use lib.Dec.{eqb, leb}
 use lib.ListN.{replicate}
 use Rattle.figures.specs.Bytes.{among, every}
 
+-- what can't be: a clash of two cases gives this by `cc`
+pub clash : _≡_ {A = ℕ} 0 1 → ⊥
+clash e = omega arith
+
 pub both : (a b : Bool) → a && b ≡ true → (a ≡ true) × (b ≡ true)
 both a b = and-eq-true-iff a b .0
 

@@ -5,10 +5,15 @@ use Prim.Native.String.{String}
 use Prim.Native.String as text
 use mathlib.Core.Bool.{Bool, cond}
 use mathlib.Core.List.{List, [], _∷_}
+use lib.ListN.{getD}
 
 abbrev pub codes : String → List ℕ
 codes text.[] = []
 codes (text._∷_ c s) = code c ∷ codes s
+
+-- the byte of one character: `byte "8"` is 56
+abbrev pub byte : String → ℕ
+byte s = getD (codes s) 0 0
 
 -- CR LF or CR
 abbrev pub endBytes : Bool → List ℕ

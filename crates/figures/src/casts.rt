@@ -1,4 +1,4 @@
-// A number in a wider type: said once, so that a proof is asked for nothing where one is used.
+// Numbers in a wider type. Each cast stands here once, so that nothing is left to prove where one is used.
 ghost use mathlib.Core.Path.{_≡_};
 
 pub fn wide(b: u8) -> u64

@@ -10,7 +10,7 @@ ghost use Rattle.figures.specs.Decimal.{numberIn, digitsOf, isDigit};
 ghost use Rattle.figures.specs.Bytes.{laid, startsWith, sameBytes, every, runOf, isOther, within};
 use crate::casts::wide;
 
-// What digits say; Not where a byte is no digit, or there are more of them than a word can have.
+// The number that digits say; Not where a byte is no digit, or where there are more digits than a word can have.
 pub enum Said {
     Not,
     Number(u64),
@@ -25,7 +25,7 @@ pub fn digit(b: u8) -> bool
     b <= b'9'
 }
 
-// The number that the bytes say.
+// Reads the number that the bytes say.
 pub fn number(s: &[u8]) -> Said
     ensures { λ r. ⌜ r ≡ numberIn (now (s .entry)) ⌝ }
 {
@@ -58,7 +58,7 @@ pub fn put_number(n: u64, out: &mut [u8])
     }
 }
 
-// How many bytes at the start are from low to high: the place of the first that isn't, or the length.
+// Counts the bytes at the start that are from low to high: this is the place of the first that isn't, or the length.
 pub fn run_within(s: &[u8], low: u8, high: u8) -> usize
     ensures { λ r. ⌜ (r ≡ runOf (within low high) (now (s .entry))) × (r ≤ length (now (s .entry))) ⌝ }
 {
@@ -76,14 +76,14 @@ pub fn run_within(s: &[u8], low: u8, high: u8) -> usize
     i
 }
 
-// Whether every byte is from low to high.
+// Tells whether every byte is from low to high.
 pub fn all_within(s: &[u8], low: u8, high: u8) -> bool
     ensures { λ r. ⌜ r ≡ every (within low high) (now (s .entry)) ⌝ }
 {
     run_within(s, low, high) == s.len()
 }
 
-// How many bytes come before the first b: its place, or the length.
+// Counts the bytes before the first b: this is its place, or the length.
 pub fn run_before(s: &[u8], b: u8) -> usize
     ensures { λ r. ⌜ (r ≡ runOf (isOther b) (now (s .entry))) × (r ≤ length (now (s .entry))) ⌝ }
 {
@@ -111,7 +111,7 @@ pub fn lay(w: &[u8], room: &mut [u8])
     }
 }
 
-// Whether s starts with w.
+// Tells whether s starts with w.
 pub fn starts(s: &[u8], w: &[u8]) -> bool
     ensures { λ r. ⌜ r ≡ startsWith (now (w .entry)) (now (s .entry)) ⌝ }
 {
@@ -128,7 +128,7 @@ pub fn starts(s: &[u8], w: &[u8]) -> bool
     true
 }
 
-// Whether the two are the same bytes. The loop has no way out, so that many bytes are compared at once.
+// Tells whether the two are the same bytes. The loop never leaves early, so that many bytes are compared at once.
 pub fn same(a: &[u8], b: &[u8]) -> bool
     ensures { λ r. ⌜ r ≡ sameBytes (now (a .entry)) (now (b .entry)) ⌝ }
 {

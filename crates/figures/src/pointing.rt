@@ -5,7 +5,7 @@ ghost use Rattle.figures.specs.Rooms.{Puts};
 ghost use Rattle.figures.specs.Pointing.{shown, caretText};
 use crate::rooms::put;
 
-// A byte as it is shown: itself where it is graphic or a blank, otherwise a dot.
+// Gives a byte as it is shown: itself where it is graphic or a blank, otherwise a dot.
 fn shown_as(b: u8) -> u8
     ensures { λ r. ⌜ r ≡ shown b ⌝ }
 {
@@ -15,7 +15,7 @@ fn shown_as(b: u8) -> u8
     }
 }
 
-// The text as it is shown.
+// Puts the text as it is shown.
 pub fn put_shown(room: &mut [u8], at: usize, s: &[u8]) -> usize
     ensures { λ r. ⌜ Puts (now (room .entry)) at (map shown (now (s .entry))) r (now (room .exit)) ⌝ }
 {
@@ -28,7 +28,7 @@ pub fn put_shown(room: &mut [u8], at: usize, s: &[u8]) -> usize
     next
 }
 
-// The line with the caret.
+// Puts the line with the caret.
 pub fn put_caret(room: &mut [u8], at: usize, place: usize) -> usize
     ensures { λ r. ⌜ Puts (now (room .entry)) at (caretText place) r (now (room .exit)) ⌝ }
 {

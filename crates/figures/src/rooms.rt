@@ -4,7 +4,7 @@ ghost use Prim.Native.Nat.{_≤_};
 ghost use Rattle.figures.specs.Decimal.{places, decimalOf};
 ghost use Rattle.figures.specs.Rooms.{Puts};
 
-// Answers where the next part begins.
+// Puts a text, and answers where the next part begins.
 pub fn put(room: &mut [u8], at: usize, text: &[u8]) -> usize
     ensures { λ r. ⌜ Puts (now (room .entry)) at (now (text .entry)) r (now (room .exit)) ⌝ }
 {
@@ -19,7 +19,7 @@ pub fn put(room: &mut [u8], at: usize, text: &[u8]) -> usize
     at + text.len()
 }
 
-// How many digits n has.
+// Counts the digits of n.
 fn digits_in(n: u64) -> usize
     ensures { λ r. ⌜ (r ≡ places n) × (r ≤ 20) ⌝ }
 {
@@ -32,7 +32,7 @@ fn digits_in(n: u64) -> usize
     k
 }
 
-// n in its fewest digits.
+// Puts n in its fewest digits.
 pub fn put_decimal(room: &mut [u8], at: usize, n: u64) -> usize
     ensures { λ r. ⌜ Puts (now (room .entry)) at (decimalOf n) r (now (room .exit)) ⌝ }
 {

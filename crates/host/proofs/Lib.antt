@@ -1,5 +1,7 @@
 pub mod Told
 pub mod Whole
+pub mod Refused
+pub mod RoundTrips
 pub mod Answered
 pub mod Determined
 pub mod Lent

@@ -9,10 +9,7 @@ use Rattle.words.specs.Reading.{faultNumber}
 use Rattle.blocks.specs.declared.answers.Refusal.{Refusal}
 use Rattle.blocks.specs.declared.answers.Refusal.the-variants as refusal
 use Rattle.blocks.specs.Answers.{refusalNumber}
-use Rattle.lines.specs.declared.verdicts.Verdict.{Verdict}
-use Rattle.lines.specs.declared.verdicts.Verdict.the-variants.{Accepted, Unended, Long, Keyword, Shape, Setting, ReadOnly, Parameter, Index}
-use Rattle.lines.specs.declared.verdicts.Verdict.the-variants.{Word, NeverPut, Full, NoEntry, Room, NoState}
-use Rattle.lines.specs.Verdicts.{verdictNumber, verdictWhich, verdictByte}
+use Rattle.lines.specs.Verdicts.{verdictWhich, verdictByte}
 use Rattle.lines.specs.declared.machine.Told.{Told}
 use Rattle.sheets.specs.declared.answers.Sheeted.{Sheeted}
 use Rattle.sheets.specs.declared.answers.Sheeted.the-variants as sheet
@@ -24,42 +21,25 @@ pub bit-le : (on : Bool) (weight : ℕ) → bitOf on weight ≤ weight
 bit-le true weight = le-refl weight
 bit-le false weight = zero-le
 
-fault-small : (f : Fault) → faultNumber f ≤ 15
-fault-small fault.Short = omega arith
-fault-small fault.Index = omega arith
-fault-small fault.Unlisted = omega arith
-fault-small fault.Information = omega arith
-fault-small fault.Sign = omega arith
-fault-small fault.Characters = omega arith
-fault-small fault.Separator = omega arith
-fault-small fault.Value = omega arith
+fault-small : (f : Fault) → (1 ≤ faultNumber f) × (faultNumber f ≤ 15)
+fault-small fault.Short = (omega arith, omega arith)
+fault-small fault.Index = (omega arith, omega arith)
+fault-small fault.Unlisted = (omega arith, omega arith)
+fault-small fault.Information = (omega arith, omega arith)
+fault-small fault.Sign = (omega arith, omega arith)
+fault-small fault.Characters = (omega arith, omega arith)
+fault-small fault.Separator = (omega arith, omega arith)
+fault-small fault.Value = (omega arith, omega arith)
 
-pub number-small : (r : Refusal) → refusalNumber r ≤ 15
-number-small refusal.Empty = omega arith
+pub number-small : (r : Refusal) → (1 ≤ refusalNumber r) × (refusalNumber r ≤ 15)
+number-small refusal.Empty = (omega arith, omega arith)
 number-small (refusal.Wrong fault at) = fault-small fault
-number-small refusal.NoWord = omega arith
-number-small (refusal.NoEnd at) = omega arith
-number-small (refusal.NoPlace at) = omega arith
-number-small refusal.Count = omega arith
-number-small (refusal.Record at) = omega arith
-number-small (refusal.Room bytes) = omega arith
-
-pub verdict-small : (v : Verdict) → verdictNumber v ≤ 39
-verdict-small Accepted = omega arith
-verdict-small Unended = omega arith
-verdict-small Long = omega arith
-verdict-small Keyword = omega arith
-verdict-small Shape = omega arith
-verdict-small Setting = omega arith
-verdict-small ReadOnly = omega arith
-verdict-small Parameter = omega arith
-verdict-small Index = omega arith
-verdict-small (Word x at) = omega arith
-verdict-small NeverPut = omega arith
-verdict-small Full = omega arith
-verdict-small NoEntry = omega arith
-verdict-small Room = omega arith
-verdict-small NoState = omega arith
+number-small refusal.NoWord = (omega arith, omega arith)
+number-small (refusal.NoEnd at) = (omega arith, omega arith)
+number-small (refusal.NoPlace at) = (omega arith, omega arith)
+number-small refusal.Count = (omega arith, omega arith)
+number-small (refusal.Record at) = (omega arith, omega arith)
+number-small (refusal.Room bytes) = (omega arith, omega arith)
 
 -- what a line tells is below 2^32, each part in its own bits
 pub tells-below : (t : Told) → lineTells t < 4294967296

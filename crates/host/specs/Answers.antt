@@ -1,5 +1,5 @@
 -- What the C functions answer: number * 2^32 + told, our own packing.
-use Prim.Native.Nat.{ℕ, _+_, _*_, _%_}
+use Prim.Native.Nat.{ℕ, _+_, _*_, _/_, _%_, min}
 use mathlib.Core.Path.{_≡_}
 use mathlib.Core.Bool.{Bool, cond, not}
 use mathlib.Core.List.{List}
@@ -17,9 +17,9 @@ use Rattle.blocks.specs.Answers.{refusalNumber, refusalTells}
 use Rattle.blocks.specs.Judging.{judged, filled}
 use Rattle.blocks.specs.Composing.{written}
 
--- the low 32 bits of what is told, so that any answer has a number; they are all of it (proofs/Whole.antt, Answered.antt)
+-- what would be told above 2^32 - 1 is told as 2^32 - 1, so that any answer has a number; no answer tells so much (proofs/Whole.antt, Answered.antt)
 abbrev pub packed : ℕ → ℕ → ℕ
-packed number told = number * 4294967296 + told % 4294967296
+packed number told = number * 4294967296 + min told 4294967295
 
 abbrev pub refusedTold : Refusal → ℕ
 refusedTold r = packed (refusalNumber r) (refusalTells r)
@@ -51,6 +51,31 @@ readWhole (answer.Read k) = k .used + k .words * 65536 + bitOf (k .wide) 1677721
 abbrev pub wroteWhole : Wrote → ℕ
 wroteWhole (wrote.Refused r) = refusedWhole r
 wroteWhole (wrote.Written n) = n
+
+-- the number that an answer has; 0 is accepted
+abbrev pub readNumber : Answer → ℕ
+readNumber (answer.Refused r) = refusalNumber r
+readNumber (answer.Read k) = 0
+
+abbrev pub wroteNumber : Wrote → ℕ
+wroteNumber (wrote.Refused r) = refusalNumber r
+wroteNumber (wrote.Written n) = 0
+
+-- as gsi.h takes an answer apart: GSI_NUMBER, and of a block that was read GSI_USED, GSI_WORDS, GSI_IS_WIDE and GSI_IS_CRLF
+abbrev pub answerNumberIn : ℕ → ℕ
+answerNumberIn r = r / 4294967296
+
+abbrev pub usedIn : ℕ → ℕ
+usedIn r = r % 65536
+
+abbrev pub wordsIn : ℕ → ℕ
+wordsIn r = r / 65536 % 256
+
+abbrev pub wideIn : ℕ → ℕ
+wideIn r = r / 16777216 % 2
+
+abbrev pub crlfIn : ℕ → ℕ
+crlfIn r = r / 33554432 % 2
 
 -- wide and crlf: 0 is no, any other number is yes
 abbrev pub isYes : ℕ → Bool

@@ -13,12 +13,15 @@ use blocks::composing::emit;
 use blocks::judging::Block;
 use units::kinds::Family;
 
-// The number over the low 32 bits of what is told.
-fn pack(number: u64, told: usize) -> u64
-    requires { ⌜ number ≤ 15 ⌝ }
+// The number over what is told; what would be more than 2^32 - 1 is told as that.
+pub(crate) fn pack(number: u64, told: usize) -> u64
+    requires { ⌜ number ≤ 40 ⌝ }
     ensures { λ r. ⌜ r ≡ packed number told ⌝ }
 {
-    number * 4294967296 + told as u64 % 4294967296
+    if told < 4294967295 {
+        return number * 4294967296 + told as u64;
+    }
+    number * 4294967296 + 4294967295
 }
 
 fn refused(refusal: Refusal) -> u64
@@ -35,7 +38,7 @@ fn bit(on: bool, weight: u64) -> u64
     if on { weight } else { 0 }
 }
 
-// What an accepted block tells, each part in its own bits.
+// Gives what an accepted block tells, each part in its own bits.
 fn accepted(reading: Reading) -> u64
     ensures { λ r. ⌜ r ≡ readingTold reading ⌝ }
 {
@@ -44,7 +47,7 @@ fn accepted(reading: Reading) -> u64
     used + words * 65536 + bit(reading.wide, 16777216) + bit(reading.crlf, 33554432)
 }
 
-// The answer of a reading.
+// Gives the answer of a reading.
 pub fn told_read(a: Answer) -> u64
     ensures { λ r. ⌜ r ≡ readTold a ⌝ }
 {
@@ -54,7 +57,7 @@ pub fn told_read(a: Answer) -> u64
     }
 }
 
-// The answer of a writing.
+// Gives the answer of a writing.
 fn told_wrote(w: Wrote) -> u64
     ensures { λ r. ⌜ r ≡ wroteTold w ⌝ }
 {

@@ -15,7 +15,7 @@ use state::image::IMAGE_300;
 use state::image::encode;
 use state::image::image_size;
 
-// What a line tells, each part in its own bits: the bytes of its reply, and of 26 which rule the word breaks and the byte of the line.
+// Gives what a line tells, each part in its own bits: the bytes of its reply, and for 26 which rule the word breaks and the byte of the line.
 fn line_tells(told: Told) -> u64
     ensures { λ r. ⌜ r ≡ lineTells told ⌝ }
 {
@@ -26,7 +26,7 @@ fn line_tells(told: Told) -> u64
     count + which * 65536 + byte * 16777216
 }
 
-// The answer of a line.
+// Gives the answer of a line.
 pub fn told_line(told: Told) -> u64
     ensures { λ r. ⌜ r ≡ toldLine told ⌝ }
 {
@@ -35,7 +35,7 @@ pub fn told_line(told: Told) -> u64
     number * 4294967296 + line_tells(told)
 }
 
-// The length of a TPS100's image.
+// Tells the length of a TPS100's image.
 #[no_mangle]
 pub extern "C" fn gsi_image_size() -> u64
     ensures { λ r. ⌜ r ≡ imageN Tps100 ⌝ }
@@ -43,7 +43,7 @@ pub extern "C" fn gsi_image_size() -> u64
     IMAGE_100 as u64
 }
 
-// The length of a TPS300's image.
+// Tells the length of a TPS300's image.
 #[no_mangle]
 pub extern "C" fn gsi_image_size_300() -> u64
     ensures { λ r. ⌜ r ≡ imageN Tps300 ⌝ }
@@ -51,7 +51,7 @@ pub extern "C" fn gsi_image_size_300() -> u64
     IMAGE_300 as u64
 }
 
-// Lays the series' factory state down in exactly its image's length; 31 otherwise, and nothing touched.
+// Lays the series' factory state down in exactly its image's length; otherwise it answers 31 and touches nothing.
 fn lay_factory(series: Series, image: &mut [u8]) -> u64
     ensures { λ r. ⌜ LaysFactory series (now (image .entry)) r (now (image .exit)) ⌝ }
 {

@@ -1,19 +1,20 @@
 // The sheet's functions for a host in C.
 ghost use mathlib.Core.Path.{_≡_};
 ghost use Rattle.host.specs.Machine.{toldSheet, WritesSheetC, LoadsC};
+use crate::answers::pack;
 use sheets::answers::Sheeted;
 use sheets::answers::sheet_number;
 use sheets::answers::sheet_tells;
 use sheets::loading::load;
 use sheets::writing::write;
 
-// The answer of a sheet.
+// Gives the answer of a sheet.
 pub fn told_sheet(answer: Sheeted) -> u64
     ensures { λ r. ⌜ r ≡ toldSheet answer ⌝ }
 {
     let number = sheet_number(answer);
-    let tells = sheet_tells(answer) as u64;
-    number * 4294967296 + tells % 4294967296
+    let tells = sheet_tells(answer);
+    pack(number, tells)
 }
 
 // Writes the image's sheet into the room.

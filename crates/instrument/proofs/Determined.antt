@@ -5,7 +5,7 @@ use mathlib.Core.List.{List}
 use Prim.Native.Nat.{ℕ}
 use Rattle.figures.specs.Promises.{Determined}
 use Rattle.figures.proofs.Determined.{by-equation}
-use Rattle.instrument.specs.Settings.{settingNumber, rowAt, settingsN, settingPlace, factorySettings, places, inRange, inRanges}
+use Rattle.instrument.specs.Settings.{settingNumber, rowAt, settingsN, settingPlace, factorySettings, heldRows, inRange, inRanges}
 use Rattle.words.specs.declared.reading.Judged.{Judged}
 use Rattle.instrument.specs.Values.{storedAt, valuePlace, isPut, putJudged, putKept, keptRight, getWord, widened}
 use Rattle.instrument.specs.Rows.{keyBytes}
@@ -33,8 +33,8 @@ in-range-determined = by-equation (Row × ℕ) Bool (λ i. inRange (i .0) (i .1)
 pub factory-settings-determined : Determined Series (List ℕ) (λ i r. r ≡ factorySettings i)
 factory-settings-determined = by-equation Series (List ℕ) factorySettings
 
-pub in-ranges-determined : Determined (Series × List ℕ) Bool (λ i r. r ≡ inRanges (places (i .0)) (i .1))
-in-ranges-determined = by-equation (Series × List ℕ) Bool (λ i. inRanges (places (i .0)) (i .1))
+pub in-ranges-determined : Determined (Series × List ℕ) Bool (λ i r. r ≡ inRanges (heldRows (i .0)) (i .1))
+in-ranges-determined = by-equation (Series × List ℕ) Bool (λ i. inRanges (heldRows (i .0)) (i .1))
 
 pub stored-at-determined : Determined ℕ Stored (λ i r. r ≡ storedAt i)
 stored-at-determined = by-equation ℕ Stored storedAt

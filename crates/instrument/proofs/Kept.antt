@@ -5,7 +5,7 @@ use mathlib.Core.Path.{_≡_, refl, sym, ap, _∙_}
 use mathlib.Core.Bool.{Bool, true, false, cond, not, _&&_, _||_, false≢true, and-true, and-false, and-eq-true-iff}
 use mathlib.Core.List.{List, [], _∷_, _++_}
 use native.Mathlib.Omega.{arith}
-use borrow.Author.Tests.{eqb-true, eq-eqb, le-leb}
+use borrow.Author.Tests.{eqb-true, eq-eqb, le-leb, lt-ltb}
 use lib.Dec.{eqb, leb}
 use lib.ListN.{length, getD, drop, drop-of-length-le}
 use lib.Seq.{drop-cons, getD-drop}
@@ -19,9 +19,10 @@ use Rattle.units.specs.Information.{isDot, stationMarks, allRight, firstWrong, 
 use Rattle.units.specs.Counts.{valueAt}
 use Rattle.units.proofs.Positions.{tensOf, onesOf, index-on, index-below, tens-digit, ones-digit, sign-on, sign-right}
 use Rattle.words.specs.Records.{isGraphic}
+use Rattle.words.proofs.Letters.{one-right}
 use Rattle.words.specs.Reading.{pos, wordOf, indexIn, kindAt, marksIn, dataIn, dataRight, figuresIn}
 use Rattle.words.specs.Reading.{countOr, isCounted, valueIn, recordIn, unless, rightWord, wordSize}
-use Rattle.words.proofs.Places.{Places, spread, placesIn, Tells, tellsBy, rules, recordBy, word-spread}
+use Rattle.words.proofs.Places.{Places, spread, placesIn, Tells, informedAt, tellsBy, rules, recordBy, word-spread}
 use Rattle.words.proofs.Signs.{minus-as-plus}
 use Rattle.units.specs.declared.kinds.Family.the-variants.{Station}
 use Rattle.units.specs.declared.kinds.Kind.{Kind}
@@ -32,6 +33,7 @@ use Rattle.words.specs.declared.reading.Fault.the-variants.{Short, Information}
 use Rattle.words.specs.declared.reading.Judged as one
 use Rattle.words.specs.declared.reading.OneWord.{OneWord}
 use Rattle.words.specs.declared.records.Word.{Word}
+use Rattle.instrument.proofs.Seek.{Each, each-at}
 use Rattle.instrument.specs.Values.{unitsOf, stored, noStored, storedAt, isRightWord, putMarks, putRight}
 use Rattle.instrument.specs.Values.{putKept, valueWord, keptRight, eightOf, eightBytes}
 use Rattle.instrument.specs.declared.values.Stored.{Stored}
@@ -81,16 +83,16 @@ sign-below b = go (eqb b 43)
     go false = omega arith
 
 -- a word with dots at 3-5 and a unit of the place: what is left is whether it is read
-pub put-read : (place : ℕ) (b : List ℕ) → pos 3 b ≡ 46 → pos 4 b ≡ 46 → pos 5 b ≡ 46 → storedAt place .1 ≤ pos 6 b → pos 6 b ≤ storedAt place .2
+pub put-read : (place : ℕ) (b : List ℕ) → pos 3 b ≡ 46 → pos 4 b ≡ 46 → pos 5 b ≡ 46 → storedAt place .first ≤ pos 6 b → pos 6 b ≤ storedAt place .last
     → putRight place b ≡ isRightWord (wordOf Station false b .answer)
 put-read place b p q r low high =
-    let unit = bounds-within (storedAt place .1) (storedAt place .2) (pos 6 b) low high in
+    let unit = bounds-within (storedAt place .first) (storedAt place .last) (pos 6 b) low high in
     rw (eq-eqb (pos 3 b) 46 p, eq-eqb (pos 4 b) 46 q, eq-eqb (pos 5 b) 46 r, unit)
 
 -- the rules that are left for a value of that row after its unit: text, or digits that count
 abbrev pub heldBy : Stored → ℕ → ℕ → List ℕ → Bool
 heldBy r u m l =
-    cond (eqb (r .1) 46) (eqb m 0 && every isGraphic l) (every isDigit l && isCounted (valueAt (stationKind (r .0)) (r .0) u m (Number (numberOf l))))
+    cond (eqb (r .first) 46) (eqb m 0 && every isGraphic l) (every isDigit l && isCounted (valueAt (stationKind (r .index)) (r .index) u m (Number (numberOf l))))
 
 -- the same by the kind, as a word is read
 abbrev partsRight : Kind → ℕ → ℕ → ℕ → List ℕ → Bool
@@ -107,8 +109,8 @@ rules-read t true true true true w e = refl
 
 text-held : (k : Kind) (i u m : ℕ) (l : List ℕ) → isTextual k ≡ true → partsRight k i u m l ≡ eqb m 0 && every isGraphic l
 text-held kind.Missing i u m l e = absurd (false≢true e)
-text-held kind.Numbered i u m l e = by-test (eqb m 0) (λ q. rw (q, and-true)) (λ q. rw q)
-text-held kind.Text i u m l e = by-test (eqb m 0) (λ q. rw (q, and-true)) (λ q. rw q)
+text-held kind.Numbered i u m l e = by-test (eqb m 0) (λ q. rw (q, and-true) (one-right isGraphic l)) (λ q. rw q)
+text-held kind.Text i u m l e = by-test (eqb m 0) (λ q. rw (q, and-true) (one-right isGraphic l)) (λ q. rw q)
 text-held kind.Angle i u m l e = absurd (false≢true e)
 text-held kind.Length i u m l e = absurd (false≢true e)
 text-held kind.Constant i u m l e = absurd (false≢true e)
@@ -117,6 +119,16 @@ text-held kind.Pair i u m l e = absurd (false≢true e)
 -- nothing counts at an index that is missing
 none-held : (u m n : ℕ) (b : Bool) → b && isCounted (valueAt kind.Missing 0 u m (Number n)) ≡ false
 none-held u m n b = rw and-false
+
+-- what holds of text, of angles and of lengths, and past the last, holds of every stored value
+pub each-stored : (P : Stored → Type 0) → P (unitsOf 11 "." ".") → P (unitsOf 16 "." ".")
+    → ((i : ℕ) → stationKind i ≡ kind.Angle → P (unitsOf i "2" "4")) → ((i : ℕ) → stationKind i ≡ kind.Length → P (unitsOf i "0" "1")) → P noStored
+    → (place : ℕ) → P (storedAt place)
+unfolding stored among
+each-stored P number text angle length none =
+    let last : Each P noStored (drop 8 stored) = (length 86 refl, (length 87 refl, (length 88 refl, none))) in
+    let lengths : Each P noStored (drop 4 stored) = (length 34 refl, (length 83 refl, (length 84 refl, (length 85 refl, last)))) in
+    each-at P noStored stored (number, (text, (angle 21 refl, (angle 24 refl, lengths))))
 
 module _ (u m : ℕ) (d : Eight) (small : m ≤ 1) where
   abbrev places : ℕ → Places
@@ -134,77 +146,64 @@ module _ (u m : ℕ) (d : Eight) (small : m ≤ 1) where
 
   -- each unit of a row is right after three dots
   abbrev Units : Stored → Type 0
-  Units r = Even (λ x. allRight (stationMarks (stationKind (r .0)) 46 46 46 x)) true (r .1) (suc (r .2))
+  Units r = Even (λ x. allRight (stationMarks (stationKind (r .index)) 46 46 46 x)) true (r .first) (suc (r .last))
 
   -- the word of a value with a unit of the row is read where its parts hold
   abbrev Judged : Stored → Type 0
-  Judged r = r .1 ≤ u → u ≤ r .2 → isRightWord (wordOf Station false (spread (places (r .0)) []) .answer) ≡ heldBy r u m (eightBytes d)
+  Judged r = r .first ≤ u → u ≤ r .last → isRightWord (wordOf Station false (spread (places (r .index)) []) .answer) ≡ heldBy r u m (eightBytes d)
 
-  row-read : (r : Stored) → isListed (stationKind (r .0)) ≡ true → Units r → r .1 ≤ u → u ≤ r .2
-      → isRightWord (wordOf Station false (spread (places (r .0)) []) .answer) ≡ partsRight (stationKind (r .0)) (r .0) u m (eightBytes d)
+  row-read : (r : Stored) → isListed (stationKind (r .index)) ≡ true → Units r → r .first ≤ u → u ≤ r .last
+      → isRightWord (wordOf Station false (spread (places (r .index)) []) .answer) ≡ partsRight (stationKind (r .index)) (r .index) u m (eightBytes d)
   row-read r listed units low high =
-      let i = r .0 in
+      let i = r .index in
       let k = stationKind i in
       let p = places i in
       let l = eightBytes d in
       let value = valueAt k i u m (figuresIn k l) in
       let word = recordBy Station i p (countOr value) in
-      let info = sym (along (λ x. allRight (stationMarks k 46 46 46 x)) (r .1) (suc (r .2)) units low (omega arith)) in
+      let info : allRight (informedAt Station i p) ≡ true =
+      rw (lt-ltb i 100 (index-below i listed)) (sym (along (λ x. allRight (stationMarks k 46 46 46 x)) (r .first) (suc (r .last)) units low (omega arith))) in
       ap (λ (w : OneWord). isRightWord (w .answer)) (word-spread false p refl Station [])
       ∙ rw (index-on i (index-below i listed), tens-digit i, ones-digit i, listed, sign-on m small)
-      (rules-read (tellsBy Station false i p) (allRight (stationMarks k 46 46 46 u)) (signRight k (signByte m)) (dataRight k l) (isCounted value) word info)
+      (rules-read (tellsBy Station false i p) (allRight (informedAt Station i p)) (signRight k (signByte m)) (dataRight k l) (isCounted value) word info)
 
-  by-text : (r : Stored) → isListed (stationKind (r .0)) ≡ true → Units r → isTextual (stationKind (r .0)) ≡ true → eqb (r .1) 46 ≡ true → Judged r
+  by-text : (r : Stored) → isListed (stationKind (r .index)) ≡ true → Units r → isTextual (stationKind (r .index)) ≡ true → eqb (r .first) 46 ≡ true → Judged r
   by-text r listed units text dot low high =
-      row-read r listed units low high ∙ text-held (stationKind (r .0)) (r .0) u m (eightBytes d) text ∙ rw dot
+      row-read r listed units low high ∙ text-held (stationKind (r .index)) (r .index) u m (eightBytes d) text ∙ rw dot
 
   number-held : (k : Kind) (i : ℕ) (l : List ℕ) → isTextual k ≡ false → dataRight k l ≡ every isDigit l → figuresIn k l ≡ Number (numberOf l)
       → partsRight k i u m l ≡ every isDigit l && isCounted (valueAt k i u m (Number (numberOf l)))
   number-held k i l plain digits says =
       rw (sign-right k m (record { small = small; plus = λ t. absurd (false≢true (sym plain ∙ t)) }), digits, says)
 
-  by-number : (r : Stored) → isListed (stationKind (r .0)) ≡ true → Units r → isTextual (stationKind (r .0)) ≡ false
-      → dataRight (stationKind (r .0)) (eightBytes d) ≡ every isDigit (eightBytes d)
-      → figuresIn (stationKind (r .0)) (eightBytes d) ≡ Number (numberOf (eightBytes d))
-      → eqb (r .1) 46 ≡ false → Judged r
+  by-number : (r : Stored) → isListed (stationKind (r .index)) ≡ true → Units r → isTextual (stationKind (r .index)) ≡ false
+      → dataRight (stationKind (r .index)) (eightBytes d) ≡ every isDigit (eightBytes d)
+      → figuresIn (stationKind (r .index)) (eightBytes d) ≡ Number (numberOf (eightBytes d))
+      → eqb (r .first) 46 ≡ false → Judged r
   by-number r listed units plain digits says dot low high =
-      row-read r listed units low high ∙ number-held (stationKind (r .0)) (r .0) (eightBytes d) plain digits says ∙ rw dot
+      row-read r listed units low high ∙ number-held (stationKind (r .index)) (r .index) (eightBytes d) plain digits says ∙ rw dot
 
-  abbrev Each : List Stored → Type 0
-  Each [] = Judged noStored
-  Each (r ∷ rows) = Judged r × Each rows
-
-  each-at : (rows : List Stored) → Each rows → (place : ℕ) → Judged (getD rows place noStored)
-  each-at [] h zero = h
-  each-at [] h (suc place) = h
-  each-at (r ∷ rows) h zero = h .0
-  each-at (r ∷ rows) h (suc place) = each-at rows (h .1) place
-
-  each : Each stored
-  unfolding stored among
+  each : (place : ℕ) → Judged (storedAt place)
+  unfolding among
   each =
-      let text : (i : ℕ) → isListed (stationKind i) ≡ true → Units (unitsOf i "." ".") → isTextual (stationKind i) ≡ true → Judged (unitsOf i "." ".") =
-      λ i listed units text. by-text (unitsOf i "." ".") listed units text refl in
-      let length : (i : ℕ) → stationKind i ≡ kind.Length → Judged (unitsOf i "0" "1") =
-      λ i is. by-number (unitsOf i "0" "1") (rw is) (rw is) (rw is) (rw is) (rw is) refl in
-      let angle : (i : ℕ) → stationKind i ≡ kind.Angle → Judged (unitsOf i "2" "4") =
-      λ i is. by-number (unitsOf i "2" "4") (rw is) (rw is) (rw is) (rw is) (rw is) refl in
-      let none : Judged noStored = λ low high. sym (none-held u m (numberOf (eightBytes d)) (every isDigit (eightBytes d))) in
-      let last : Each (drop 8 stored) = (length 86 refl, (length 87 refl, (length 88 refl, none))) in
-      let lengths : Each (drop 4 stored) = (length 34 refl, (length 83 refl, (length 84 refl, (length 85 refl, last)))) in
-      (text 11 refl refl refl, (text 16 refl refl refl, (angle 21 refl, (angle 24 refl, lengths))))
+      each-stored Judged
+      (by-text (unitsOf 11 "." ".") refl refl refl refl)
+      (by-text (unitsOf 16 "." ".") refl refl refl refl)
+      (λ i is. by-number (unitsOf i "2" "4") (rw is) (rw is) (rw is) (rw is (one-right isDigit (eightBytes d))) (rw is) refl)
+      (λ i is. by-number (unitsOf i "0" "1") (rw is) (rw is) (rw is) (rw is (one-right isDigit (eightBytes d))) (rw is) refl)
+      (λ low high. sym (none-held u m (numberOf (eightBytes d)) (every isDigit (eightBytes d))))
 
-  pub kept-outside : (place : ℕ) (k : Kept) → k ≡ Put u m d → within (storedAt place .1) (storedAt place .2) u ≡ false → keptRight place k ≡ false
+  pub kept-outside : (place : ℕ) (k : Kept) → k ≡ Put u m d → within (storedAt place .first) (storedAt place .last) u ≡ false → keptRight place k ≡ false
   kept-outside place k e out =
       kept-put place k u m d e small ∙ rw out
 
   -- a unit of the place: what is left is the sign and the characters
-  pub kept-held : (place : ℕ) (k : Kept) → k ≡ Put u m d → storedAt place .1 ≤ u → u ≤ storedAt place .2
+  pub kept-held : (place : ℕ) (k : Kept) → k ≡ Put u m d → storedAt place .first ≤ u → u ≤ storedAt place .last
       → keptRight place k ≡ heldBy (storedAt place) u m (eightBytes d)
   kept-held place k e low high =
       kept-put place k u m d e small
       ∙ put-read place (valueWord 46 place u m d) refl refl refl low high
-      ∙ each-at stored each place low high
+      ∙ each place low high
 
 -- "26 and 40 follow" (request 102): a number may be put and kept with a minus wherever it may with a plus
 
@@ -215,18 +214,18 @@ put-minus place a b c d e u rest number =
     ap (λ (t : one.Judged). isRightWord (cond (allRight m) t (one.Judged.Wrong Information (2 + firstWrong m))))
     (minus-as-plus Station false a b c d e u rest number)
 
-pub kept-minus : (place u : ℕ) (d : Eight) → isListed (stationKind (storedAt place .0)) ≡ true → isTextual (stationKind (storedAt place .0)) ≡ false
+pub kept-minus : (place u : ℕ) (d : Eight) → isListed (stationKind (storedAt place .index)) ≡ true → isTextual (stationKind (storedAt place .index)) ≡ false
     → keptRight place (Put u 1 d) ≡ keptRight place (Put u 0 d)
 kept-minus place u d listed number =
-    let i = storedAt place .0 in
-    put-minus place (tensOf i) (onesOf i) 46 46 46 u (eightBytes d ++ codes " ") (rw (index-on i (index-below i listed)) number)
+    let i = storedAt place .index in
+    put-minus place (tensOf i) (onesOf i) 46 46 46 u (eightBytes d ++ codes " ") (rw (index-on i (index-below i listed), listed) number)
 
 -- a word that may be put there
 pub record PutRight (place : ℕ) (b : List ℕ) : Type 0 where
   pub dot3 : pos 3 b ≡ 46
   pub dot4 : pos 4 b ≡ 46
   pub dot5 : pos 5 b ≡ 46
-  pub unit : within (storedAt place .1) (storedAt place .2) (pos 6 b) ≡ true
+  pub unit : within (storedAt place .first) (storedAt place .last) (pos 6 b) ≡ true
   pub read : isRightWord (wordOf Station false b .answer) ≡ true
 
 pub put-parts : (place : ℕ) (b : List ℕ) → putRight place b ≡ true → PutRight place b
@@ -234,7 +233,7 @@ put-parts place b e =
     let p = isDot (pos 3 b) in
     let q = isDot (pos 4 b) in
     let r = isDot (pos 5 b) in
-    let u = within (storedAt place .1) (storedAt place .2) (pos 6 b) in
+    let u = within (storedAt place .first) (storedAt place .last) (pos 6 b) in
     let (all, read) = both-right (allRight (putMarks place b)) (wordOf Station false b .answer) _ _ e in
     let first = and-eq-true-iff p (q && (r && u)) .0 all in
     let second = and-eq-true-iff q (r && u) .0 (first .1) in
@@ -252,7 +251,7 @@ put-parts place b e =
     both-right true j x at h = (refl, h)
     both-right false j x at h = absurd (false≢true h)
 
-module _ (place : ℕ) (b : List ℕ) (long : length b ≡ 16) (named : storedAt place .0 ≡ indexOf (pos 1 b) (pos 2 b))
+module _ (place : ℕ) (b : List ℕ) (long : length b ≡ 16) (named : storedAt place .index ≡ indexOf (pos 1 b) (pos 2 b))
     (first : isDigit (pos 1 b) ≡ true) (second : isDigit (pos 2 b) ≡ true) (right : putRight place b ≡ true) where
   -- the word of what is stored is the one that was put
   pub word-back : valueWord 46 place (pos 6 b) (signOf (pos 7 b)) (eightOf (drop 7 b)) ≡ b

@@ -1,38 +1,41 @@
 -- Laws of the series and of the loops over their rows: parameters in range, and a list mapped into an array.
 use Prim.Native.Nat.{ℕ, zero, suc, _+_, _-_, _<_, _≤_}
 use mathlib.Core.Path.{_≡_, refl, sym, ap, _∙_}
-use mathlib.Core.Bool.{true, false, not, _&&_, false≢true, and-eq-true-iff}
+use mathlib.Core.Bool.{Bool, true, false, cond, not, _&&_, false≢true, and-eq-true-iff}
 use mathlib.Core.List.{List, [], _∷_, _++_, map}
 use native.Mathlib.Numerals.{add-one}
 use native.Mathlib.Omega.{arith}
-use borrow.Author.Tests.{leb-true}
+use borrow.Author.Tests.{le-leb, leb-true, leb-false, not-true}
 use lib.Dec.{leb}
 use lib.ListN.{length, getD, set, take, drop, replicate, drop-of-length-le, length-map, length-append, length-drop, length-replicate, List·getD-map}
 use lib.Seq.{drop-cons, drop-at, take-suc, take-suc-set, take-all}
 use Rattle.instrument.specs.declared.settings.Row.{Row}
 use Rattle.instrument.specs.declared.settings.Series.{Series}
 use Rattle.instrument.specs.declared.settings.Series.the-variants.{Tps100, Tps300}
-use Rattle.instrument.specs.Settings.{rows100, rows300, settingNumber, rowsOf, settingsN, settingsMost, noRow, rowAt, places, isGap, inRange, inRanges}
+use Rattle.instrument.specs.Settings.{rows100, rows300, settingNumber, rowsOf, settingsN, settingsMost, noRow, rowAt, heldRows, only, isGap, inRange, inRanges}
 use Rattle.instrument.specs.Rows.{keyBytes}
-use Rattle.instrument.proofs.Seek.{NoneOf, past-place}
-use Rattle.figures.specs.Bytes.{within, every}
-use Rattle.figures.proofs.Tests.{and-on, and-off, by-test}
+use Rattle.instrument.proofs.Seek.{eachRow, row-tested, NoneOf, past-place}
+use Rattle.figures.specs.Bytes.{within, among, every}
+use Rattle.figures.proofs.Tests.{and-on, and-off, by-test, along, among-above}
 
 -- the series
 
-pub rows-long : (k : Series) → length (rowsOf k) ≡ settingsN k
-unfolding rows100 rows300
-rows-long Tps100 = refl
-rows-long Tps300 = refl
+pub settings-100 : settingsN Tps100 ≡ 19
+unfolding rows100
+settings-100 = refl
+
+pub settings-300 : settingsN Tps300 ≡ 30
+unfolding rows300
+settings-300 = refl
 
 pub settings-few : (k : Series) → settingsN k ≤ settingsMost
-settings-few Tps100 = omega arith
-settings-few Tps300 = omega arith
+settings-few Tps100 = omega (arith, settings-100)
+settings-few Tps300 = omega (arith, settings-300)
 
-pub places-long : (k : Series) → length (places k) ≡ settingsMost
-places-long k =
+pub held-rows-long : (k : Series) → length (heldRows k) ≡ settingsMost
+held-rows-long k =
     let all = length-append (rowsOf k) (replicate (settingsMost - settingsN k) noRow) in
-    omega (arith, rows-long k, settings-few k, length-replicate (settingsMost - settingsN k) noRow)
+    omega (arith, settings-few k, length-replicate (settingsMost - settingsN k) noRow)
 
 getD-same : {A : Type 0} (n : ℕ) (d : A) (i : ℕ) → getD (replicate n d) i d ≡ d
 getD-same zero d i = refl
@@ -45,7 +48,7 @@ row-there (r ∷ rs) n zero = refl
 row-there (r ∷ rs) n (suc i) = row-there rs n i
 
 -- past the series' last both are blank
-pub place-row : (k : Series) (i : ℕ) → getD (places k) i noRow ≡ rowAt k i
+pub place-row : (k : Series) (i : ℕ) → getD (heldRows k) i noRow ≡ rowAt k i
 place-row k i = row-there (rowsOf k) (settingsMost - settingsN k) i
 
 -- what a `match` on a place gives of the rows' keys: the key of an arm's row, and past the last
@@ -73,10 +76,10 @@ blanks-within (suc n) (p ∷ ps) e = rw (blank-within p, blanks-within n ps (ome
 
 -- so what is left past the series' last
 pub ranges-past : (k : Series) (ps : List ℕ) → length ps ≡ settingsMost
-    → inRanges (drop (settingsN k) (places k)) (drop (settingsN k) ps) ≡ every (within 0 0) (drop (settingsN k) ps)
+    → inRanges (drop (settingsN k) (heldRows k)) (drop (settingsN k) ps) ≡ every (within 0 0) (drop (settingsN k) ps)
 ranges-past k ps long =
     let n = settingsN k in
-    let rest : drop n (places k) ≡ replicate (settingsMost - n) noRow = drop-at (rowsOf k) (replicate (settingsMost - n) noRow) n (rows-long k) in
+    let rest : drop n (heldRows k) ≡ replicate (settingsMost - n) noRow = drop-at (rowsOf k) (replicate (settingsMost - n) noRow) n refl in
     ap (λ (rs : List Row). inRanges rs (drop n ps)) rest ∙ blanks-within (settingsMost - n) (drop n ps) (length-drop n ps ∙ omega arith)
 
 -- parameters
@@ -103,11 +106,50 @@ ranges-at (r ∷ rs) [] i e = absurd (false≢true e)
 ranges-at (r ∷ rs) (p ∷ ps) zero e = and-eq-true-iff (inRange r p) (inRanges rs ps) .0 e .0
 ranges-at (r ∷ rs) (p ∷ ps) (suc i) e = ranges-at rs ps i (and-eq-true-iff (inRange r p) (inRanges rs ps) .0 e .1)
 
-pub range-high : (r : Row) (p : ℕ) → inRange r p ≡ true → p ≤ r .2
+pub ranges-long : (rs : List Row) (ps : List ℕ) → inRanges rs ps ≡ true → length ps ≡ length rs
+unfolding inRanges
+ranges-long [] [] e = refl
+ranges-long [] (p ∷ ps) e = absurd (false≢true e)
+ranges-long (r ∷ rs) [] e = absurd (false≢true e)
+ranges-long (r ∷ rs) (p ∷ ps) e = ap suc (ranges-long rs ps (and-eq-true-iff (inRange r p) (inRanges rs ps) .0 e .1))
+
+pub range-high : (r : Row) (p : ℕ) → inRange r p ≡ true → p ≤ r .highest
 range-high r p e =
-    let top = leb p (r .2) in
-    let held = not (isGap (r .3) p) in
-    leb-true p (r .2) (and-eq-true-iff top held .0 (and-eq-true-iff (leb (r .1) p) (top && held) .0 e .1) .0)
+    let top = leb p (r .highest) in
+    let held = not (isGap (r .gaps) p) in
+    leb-true p (r .highest) (and-eq-true-iff top held .0 (and-eq-true-iff (leb (r .lowest) p) (top && held) .0 e .1) .0)
+
+-- each row's highest parameter is a byte, so each parameter that a setting has
+
+rows-byte : (k : Series) → eachRow (λ (r : Row). leb (r .highest) 255) (rowsOf k) ≡ true
+unfolding eachRow rows100 rows300
+rows-byte Tps100 = refl
+rows-byte Tps300 = refl
+
+pub rows-high : (k : Series) (i : ℕ) → rowAt k i .highest ≤ 255
+rows-high k i = leb-true (rowAt k i .highest) 255 (row-tested (λ (r : Row). leb (r .highest) 255) (rowsOf k) noRow refl (rows-byte k) i)
+
+pub range-byte : (k : Series) (i p : ℕ) → inRange (rowAt k i) p ≡ true → p ≤ 255
+range-byte k i p e = omega (arith, range-high (rowAt k i) p e, rows-high k i)
+
+-- "161 only 0, 1, 5, 6, 7, 9 or 10"
+
+abbrev modes : List ℕ
+modes = 0 ∷ 1 ∷ 5 ∷ 6 ∷ 7 ∷ 9 ∷ 10 ∷ []
+
+pub only-those : (p : ℕ) → inRange (only 161 modes) p ≡ among p modes
+unfolding among every
+only-those p =
+    by-test (leb p 10)
+    (λ e. same (inRange (only 161 modes) p) (among p modes) (sym (along agree 0 11 {n = p} refl (omega arith) (omega (arith, leb-true p 10 e)))))
+    (λ e. rw (le-leb 0 p (omega arith), e) (sym (among-above 10 modes refl p (omega (arith, leb-false p 10 e)))))
+  where
+    agree : ℕ → Bool
+    agree p = cond (inRange (only 161 modes) p) (among p modes) (not (among p modes))
+
+    same : (a b : Bool) → cond a b (not b) ≡ true → a ≡ b
+    same true b e = sym e
+    same false b e = sym (not-true b e)
 
 pub ranges-all : (rs : List Row) (ps : List ℕ) (i : ℕ) → length rs ≤ i → length ps ≤ i → inRanges (drop i rs) (drop i ps) ≡ true
 unfolding inRanges

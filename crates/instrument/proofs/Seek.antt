@@ -1,7 +1,8 @@
--- The lookup of a number in a list of rows, whatever a row is: a turn of the loop at a time, and what a place that is found says.
+-- Laws of a list of rows, whatever a row is: what holds of each holds at a place, and the lookup of a number, a turn of the loop at a time, with what a place
+-- that is found says.
 use Prim.Native.Nat.{ℕ, zero, suc, _+_, _<_, _≤_}
 use mathlib.Core.Path.{_≡_, refl, sym, ap, _∙_}
-use mathlib.Core.Bool.{Bool, true, false, cond}
+use mathlib.Core.Bool.{Bool, true, false, cond, _&&_}
 use mathlib.Core.List.{List, [], _∷_}
 use native.Mathlib.Numerals.{add-one}
 use native.Mathlib.Omega.{arith}
@@ -9,6 +10,7 @@ use borrow.Author.Tests.{eq-eqb, ne-eqb, eqb-true, eqb-false}
 use lib.Dec.{eqb}
 use lib.ListN.{length, getD, drop, drop-of-length-le, List·getD-eq-default}
 use lib.Seq.{drop-cons}
+use Rattle.figures.proofs.Tests.{both}
 use Rattle.instrument.specs.Rows.{seek}
 use Rattle.instrument.specs.declared.settings.Found.{Found}
 use Rattle.instrument.specs.declared.settings.Found.the-variants.{Nothing, At}
@@ -16,6 +18,28 @@ use Rattle.instrument.specs.declared.settings.Found.the-variants.{Nothin
 -- the place j of a row of that number, counted from k
 abbrev FoundIn : {A : Type 0} → (A → ℕ) → List A → A → ℕ → ℕ → ℕ → Type 0
 FoundIn key l d k n i = (j : ℕ) × (i ≡ k + j) × (j < length l) × (key (getD l j d) ≡ n)
+
+-- what holds of each row, and past the last, holds at every place
+
+abbrev pub Each : {A : Type 0} → (A → Type 0) → A → List A → Type 0
+Each P d [] = P d
+Each P d (r ∷ rs) = P r × Each P d rs
+
+pub each-at : {A : Type 0} (P : A → Type 0) (d : A) (rs : List A) → Each P d rs → (i : ℕ) → P (getD rs i d)
+each-at P d [] h i = h
+each-at P d (r ∷ rs) h zero = h .0
+each-at P d (r ∷ rs) h (suc i) = each-at P d rs (h .1) i
+
+-- the same of a test, which a table passes by computation
+unfoldable pub eachRow : {A : Type 0} → (A → Bool) → List A → Bool
+eachRow test [] = true
+eachRow test (r ∷ rs) = test r && eachRow test rs
+
+pub row-tested : {A : Type 0} (test : A → Bool) (rs : List A) (d : A) → test d ≡ true → eachRow test rs ≡ true → (i : ℕ) → test (getD rs i d) ≡ true
+unfolding eachRow
+row-tested test [] d h e i = h
+row-tested test (r ∷ rs) d h e zero = both (test r) (eachRow test rs) e .0
+row-tested test (r ∷ rs) d h e (suc i) = row-tested test rs d h (both (test r) (eachRow test rs) e .1) i
 
 -- what a `match` on a place gives: the row of an arm, and past the last, where the place is none of the arms'
 

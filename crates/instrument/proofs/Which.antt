@@ -62,13 +62,13 @@ word-rules b long digits listed =
     (keep (isCounted (valueIn Station false b)) Value 7 (rightWord (recordIn Station false b)) (omega arith, omega arith) tt)))))
 
 -- the index of each stored value is listed
-all-listed : (place : ℕ) → place < 11 → isListed (stationKind (storedAt place .0)) ≡ true
+all-listed : (place : ℕ) → place < 11 → isListed (stationKind (storedAt place .index)) ≡ true
 unfolding stored among
-all-listed place h = sym (along (λ p. isListed (stationKind (storedAt p .0))) 0 11 refl (omega arith) h)
+all-listed place h = sym (along (λ p. isListed (stationKind (storedAt p .index))) 0 11 refl (omega arith) h)
 
-pub put-which : (place : ℕ) (b : List ℕ) (x : Fault) (at : ℕ) → place < 11 → 16 ≤ length b → storedAt place .0 ≡ indexOf (pos 1 b) (pos 2 b)
+pub put-which : (place : ℕ) (b : List ℕ) (x : Fault) (at : ℕ) → place < 11 → 16 ≤ length b → storedAt place .index ≡ indexOf (pos 1 b) (pos 2 b)
     → areDigits (pos 1 b) (pos 2 b) ≡ true → putJudged place b ≡ Wrong x at → (6 ≤ faultNumber x) × (faultNumber x ≤ 10)
 put-which place b x at h long named digits e =
     let listed = ap (λ i. isListed (stationKind i)) (sym named) ∙ all-listed place h in
-    let word : wordOf Station false b .answer ≡ Wrong x at → Rule x = λ is. rw is at (word-rules b long digits listed) in
+    let word : wordOf Station false b .answer ≡ Wrong x at → Rule x = λ is. rw is at (word-rules b long digits (rw listed)) in
     put-by place b x at (λ y n. Rule y) (λ n small. (omega arith, omega arith)) word e

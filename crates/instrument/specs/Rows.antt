@@ -16,9 +16,13 @@ unfoldable pub seek : {A : Type 0} → (A → ℕ) → List A → ℕ → ℕ �
 seek number [] i n = Nothing
 seek number (r ∷ rs) i n = cond (eqb (number r) n) (At i) (seek number rs (i + 1) n)
 
--- "`s` and each setting", "`v` and each index": a letter, the number and `=`
+-- "`s` and each setting", "`v` and each index": a letter and the number
+abbrev pub nameOf : String → ℕ → List ℕ
+nameOf letter n = codes letter ++ decimalOf n
+
+-- with the `=` that follows it on a sheet
 abbrev pub keyOf : String → ℕ → List ℕ
-keyOf letter n = codes letter ++ (decimalOf n ++ codes "=")
+keyOf letter n = nameOf letter n ++ codes "="
 
 -- as a row holds it: from the start of five bytes, the rest 0
 abbrev pub keyBytes : String → ℕ → List ℕ

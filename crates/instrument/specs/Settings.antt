@@ -1,10 +1,10 @@
 -- The settings of each series. "Settings (000, SET list of TPS100; all equipment fitted), those up to 136 only, as number:highest parameter, lowest 0
 -- each"; of TPS300 (request 103) "000's CONF list from 41 to 171, with its ranges".
-use Prim.Native.Nat.{ℕ, _-_}
+use Prim.Native.Nat.{ℕ, zero, suc, _+_, _-_}
 use mathlib.Core.Bool.{Bool, true, false, not, _&&_, _||_}
 use mathlib.Core.List.{List, [], _∷_, _++_, map}
 use lib.Dec.{eqb, leb}
-use lib.ListN.{getD, take, replicate}
+use lib.ListN.{length, getD, take, replicate}
 use Rattle.figures.specs.Bytes.{laid}
 use Rattle.instrument.specs.Rows.{seek}
 use Rattle.instrument.specs.declared.settings.Series.{Series}
@@ -14,20 +14,20 @@ use Rattle.instrument.specs.declared.settings.Row.{Row}
 use Rattle.instrument.specs.declared.settings.Found.{Found}
 use Rattle.instrument.specs.declared.settings.Found.the-variants.{Nothing, At}
 
--- four parameters left out between the lowest and the highest; 255 leaves none out
-abbrev pub gaps : ℕ → ℕ → ℕ → ℕ → Gaps
-gaps a b c d = record { 0 = a; 1 = b; 2 = c; 3 = d }
+-- up to four parameters that are left out between the lowest and the highest; 255 leaves none out
+abbrev pub gapsOf : List ℕ → Gaps
+gapsOf l = record { 0 = getD l 0 255; 1 = getD l 1 255; 2 = getD l 2 255; 3 = getD l 3 255 }
 
-abbrev pub whole : Gaps
-whole = gaps 255 255 255 255
+abbrev pub noGaps : Gaps
+noGaps = gapsOf []
 
 -- number, lowest and highest parameter, gaps, whether it can only be asked for, and the factory's
 abbrev pub rowOf : ℕ → ℕ → ℕ → Gaps → Bool → ℕ → Row
 rowOf number lowest highest g asked factory =
-    record { 0 = number; 1 = lowest; 2 = highest; 3 = g; 4 = asked; 5 = factory }
+    record { number = number; lowest = lowest; highest = highest; gaps = g; asked = asked; factory = factory }
 
 abbrev pub row : ℕ → ℕ → ℕ → ℕ → Row
-row number lowest highest factory = rowOf number lowest highest whole false factory
+row number lowest highest factory = rowOf number lowest highest noGaps false factory
 
 -- "Factory values are each setting's lowest."
 abbrev pub low : ℕ → ℕ → ℕ → Row
@@ -35,22 +35,38 @@ low number lowest highest = row number lowest highest lowest
 
 -- "90, 91 (0 to 100 here), 122, 160 and 170 can't be SET"
 abbrev pub asked : ℕ → ℕ → ℕ → Row
-asked number lowest highest = rowOf number lowest highest whole true lowest
+asked number lowest highest = rowOf number lowest highest noGaps true lowest
+
+-- so many numbers from n on
+abbrev pub numbers : ℕ → ℕ → List ℕ
+numbers n zero = []
+numbers n (suc k) = n ∷ numbers (n + 1) k
+
+-- the numbers from n on that a list in order leaves out
+abbrev pub leftOut : ℕ → List ℕ → List ℕ
+leftOut n [] = []
+leftOut n (p ∷ ps) = numbers n (p - n) ++ leftOut (p + 1) ps
+
+-- a setting that has those parameters and no others, in order; `only-those`, in proofs/Ranges.antt, shows it of 161
+abbrev pub only : ℕ → List ℕ → Row
+only number parameters =
+    let lowest = getD parameters 0 0 in
+    rowOf number lowest (getD parameters (length parameters - 1) 0) (gapsOf (leftOut lowest parameters)) false lowest
 
 abbrev pub settingNumber : Row → ℕ
-settingNumber r = r .0
+settingNumber r = r .number
 
 abbrev pub isGap : Gaps → ℕ → Bool
 isGap g p = eqb p (g .0) || (eqb p (g .1) || (eqb p (g .2) || eqb p (g .3)))
 
 abbrev pub inRange : Row → ℕ → Bool
-inRange r p = leb (r .1) p && (leb p (r .2) && not (isGap (r .3) p))
+inRange r p = leb (r .lowest) p && (leb p (r .highest) && not (isGap (r .gaps) p))
 
 abbrev pub isAsked : Row → Bool
-isAsked r = r .4
+isAsked r = r .asked
 
 abbrev pub factoryOf : Row → ℕ
-factoryOf r = r .5
+factoryOf r = r .factory
 
 -- "Factory: 70 is 5, 73 is 1, 103 is 1, the rest 0."
 unfoldable pub rows100 : List Row
@@ -106,20 +122,21 @@ rows300 =
     ∷ low 136 0 127
     ∷ low 137 0 1
     ∷ asked 160 0 1
-    ∷ rowOf 161 0 10 (gaps 2 3 4 8) false 0
+    ∷ only 161 (0 ∷ 1 ∷ 5 ∷ 6 ∷ 7 ∷ 9 ∷ 10 ∷ [])
     ∷ asked 170 0 1
     ∷ low 171 0 1
     ∷ []
 
--- a third series would be one more table
+-- A third series takes its case of `Series`; its table, here and in src/settings.rt, with `settingsMost` if it has more than any; its keys in src/keys.rt; its byte
+-- in an image (`formOf`, `seriesIn`); its line on a sheet (`seriesLine`); and an arm wherever the code names the series. Lookup, range, key and factory go by
+-- the rows, whichever series they are of.
 abbrev pub rowsOf : Series → List Row
 rowsOf Tps100 = rows100
 rowsOf Tps300 = rows300
 
 -- how many settings a series has
 abbrev pub settingsN : Series → ℕ
-settingsN Tps100 = 19
-settingsN Tps300 = 30
+settingsN k = length (rowsOf k)
 
 -- the most that a series has
 abbrev pub settingsMost : ℕ
@@ -151,11 +168,11 @@ held k settings = take (settingsN k) settings
 abbrev pub padded : List ℕ → List ℕ
 padded ps = laid ps (replicate settingsMost 0)
 
-abbrev pub places : Series → List Row
-places k = rowsOf k ++ replicate (settingsMost - settingsN k) noRow
+abbrev pub heldRows : Series → List Row
+heldRows k = rowsOf k ++ replicate (settingsMost - settingsN k) noRow
 
 abbrev pub factorySettings : Series → List ℕ
-factorySettings k = map factoryOf (places k)
+factorySettings k = map factoryOf (heldRows k)
 
 -- one parameter for each row, and each in its range
 unfoldable pub inRanges : List Row → List ℕ → Bool

@@ -22,10 +22,10 @@ use Rattle.instrument.specs.declared.values.Kept.the-variants.{Never, Pu
 
 -- index, first and last unit as they stand at position 6; the unit of text is a dot
 abbrev pub unitsOf : ℕ → String → String → Stored
-unitsOf index first last = record { 0 = index; 1 = getD (codes first) 0 0; 2 = getD (codes last) 0 0; 3 = keyBytes "v" index }
+unitsOf index first last = record { index = index; first = getD (codes first) 0 0; last = getD (codes last) 0 0; key = keyBytes "v" index }
 
 abbrev pub indexNumber : Stored → ℕ
-indexNumber r = r .0
+indexNumber r = r .index
 
 unfoldable pub stored : List Stored
 stored =
@@ -47,7 +47,7 @@ valuesN = 11
 
 -- past the last
 abbrev pub noStored : Stored
-noStored = record { 0 = 0; 1 = 0; 2 = 0; 3 = keyBytes "v" 0 }
+noStored = record { index = 0; first = 0; last = 0; key = keyBytes "v" 0 }
 
 abbrev pub storedAt : ℕ → Stored
 storedAt i = getD stored i noStored
@@ -63,7 +63,7 @@ isPut (Put u m d) = true
 -- "A PUT word has dots at 3-5 (3-6 for text) and otherwise obeys the block rules." All four are of 6, the unit of the value too
 abbrev pub putMarks : ℕ → List ℕ → Marks
 putMarks place b =
-    marks (isDot (pos 3 b)) (isDot (pos 4 b)) (isDot (pos 5 b)) (within (storedAt place .1) (storedAt place .2) (pos 6 b))
+    marks (isDot (pos 3 b)) (isDot (pos 4 b)) (isDot (pos 5 b)) (within (storedAt place .first) (storedAt place .last) (pos 6 b))
 
 -- "26 also tells which of 6 to 10 it was, with the byte" (request 104), here of the word; `put-which`, in proofs/Which.antt, shows that it is one of these
 abbrev pub putJudged : ℕ → List ℕ → one.Judged
@@ -90,7 +90,7 @@ eightBytes d = d .0 ∷ d .1 ∷ d .2 ∷ d .3 ∷ d .4 ∷ d .5 ∷ d .6 ∷ d 
 -- the word of a value, with that byte at position 5
 abbrev pub valueWord : ℕ → ℕ → ℕ → ℕ → Eight → List ℕ
 valueWord mark place u m d =
-    (48 + storedAt place .0 / 10 % 10) ∷ (48 + storedAt place .0 % 10) ∷ (codes ".." ++ (mark ∷ u ∷ signByte m ∷ (eightBytes d ++ codes " ")))
+    (48 + storedAt place .index / 10 % 10) ∷ (48 + storedAt place .index % 10) ∷ (codes ".." ++ (mark ∷ u ∷ signByte m ∷ (eightBytes d ++ codes " ")))
 
 -- "each value never put or as a PUT can leave it"
 abbrev pub keptRight : ℕ → Kept → Bool
@@ -100,7 +100,7 @@ keptRight place (Put u m d) = leb m 1 && putRight place (valueWord 46 place u m 
 -- "GET/I answers text words with four dots, others as dot, dot, `1`, the unit; sign and data as put."
 abbrev pub getWord : ℕ → Kept → List ℕ
 getWord place Never = replicate 16 32
-getWord place (Put u m d) = valueWord (cond (eqb (storedAt place .1) 46) 46 49) place u m d
+getWord place (Put u m d) = valueWord (cond (eqb (storedAt place .first) 46) 46 49) place u m d
 
 -- "wide words, with zeros added on the left of the data" (request 103)
 abbrev pub widened : List ℕ → List ℕ

@@ -6,7 +6,7 @@ ghost use Rattle.instrument.specs.Settings.{rows100, rows300, noRow, set
 use crate::settings::Series;
 
 // Each from the start of five bytes, by its setting's number. They stand by name: a byte string that is taken out in an arm of a `match` has memory of its
-// own there, and thirty of those are dear to prove.
+// own there, and thirty of those are expensive to prove.
 const K30: [u8; 5] = *b"s30=\0";
 
 const K32: [u8; 5] = *b"s32=\0";
@@ -86,7 +86,7 @@ const K171: [u8; 5] = *b"s171=";
 // The key of a row of noughts, past a series' last.
 const NONE: [u8; 5] = *b"s0=\0\0";
 
-// TPS100's. They stand apart from the rows, so that a row is short.
+// Gives TPS100's keys. They stand apart from the rows, so that a row is short.
 fn key_100(place: usize) -> [u8; 5]
     ensures { λ r. ⌜ r ≡ keyBytes "s" (settingNumber (getD rows100 place noRow)) ⌝ }
 {
@@ -114,7 +114,7 @@ fn key_100(place: usize) -> [u8; 5]
     }
 }
 
-// TPS300's.
+// Gives TPS300's keys.
 fn key_300(place: usize) -> [u8; 5]
     ensures { λ r. ⌜ r ≡ keyBytes "s" (settingNumber (getD rows300 place noRow)) ⌝ }
 {
@@ -153,7 +153,7 @@ fn key_300(place: usize) -> [u8; 5]
     }
 }
 
-// The key of the setting at a place.
+// Gives the key of the setting at a place.
 pub fn key_at(series: Series, place: usize) -> [u8; 5]
     ensures { λ r. ⌜ r ≡ keyBytes "s" (settingNumber (rowAt series place)) ⌝ }
 {

@@ -1,22 +1,39 @@
 // The series and their settings: one constant row for each setting, and the lookup of one by its number, whatever the series.
 ghost use mathlib.Core.Path.{_≡_};
-ghost use Rattle.instrument.specs.Settings.{rows100, rows300, noRow, rowAt, settingsN, places, settingPlace, factorySettings, isGap, inRange, inRanges};
+ghost use Rattle.instrument.specs.Settings.{rows100, rows300, noRow, rowAt, settingsN, heldRows, settingPlace, factorySettings, isGap, inRange, inRanges};
 ghost use lib.ListN.{getD};
 use figures::casts::wide;
 
-// The most settings that a series has.
+// How many settings a TPS100 has.
+pub const SETTINGS_100: usize = 19;
+
+// The most settings that a series has: those of a TPS300.
 pub const SETTINGS: usize = 30;
+
+// Where 73, which says how a reply ends, and 137, which says how wide its words are, stand among the rows below; what uses a place proves it.
+pub const END_100: usize = 10;
+
+pub const END_300: usize = 9;
+
+pub const WIDE_300: usize = 25;
 
 pub enum Series {
     Tps100,
     Tps300,
 }
 
-// Parameters between the lowest and the highest that a setting hasn't; 255 where there is none to leave out.
+// Parameters between the lowest and the highest that a setting doesn't have; 255 where there is none to leave out.
 pub struct Gaps(pub u8, pub u8, pub u8, pub u8);
 
-// Number, lowest and highest parameter, gaps between them, whether it can only be asked for, and the factory's.
-pub struct Row(pub u16, pub u8, pub u8, pub Gaps, pub bool, pub u8);
+// A setting: its number, its lowest and highest parameter, the gaps between them, whether it can only be asked for, and the factory's parameter.
+pub struct Row {
+    pub number: u16,
+    pub lowest: u8,
+    pub highest: u8,
+    pub gaps: Gaps,
+    pub asked: bool,
+    pub factory: u8,
+}
 
 // A place in a list of rows.
 pub enum Found {
@@ -24,115 +41,465 @@ pub enum Found {
     At(usize),
 }
 
-const WHOLE: Gaps = Gaps(255, 255, 255, 255);
+const NO_GAPS: Gaps = Gaps(255, 255, 255, 255);
 
 // The modes of 161 are 0, 1, 5, 6, 7, 9 and 10.
 const MODES: Gaps = Gaps(2, 3, 4, 8);
 
 // Document 000, SET list of TPS100.
-const S30: Row = Row(30, 0, 1, WHOLE, false, 0);
+const S30: Row = Row {
+    number: 30,
+    lowest: 0,
+    highest: 1,
+    gaps: NO_GAPS,
+    asked: false,
+    factory: 0,
+};
 
-const S32: Row = Row(32, 0, 3, WHOLE, false, 0);
+const S32: Row = Row {
+    number: 32,
+    lowest: 0,
+    highest: 3,
+    gaps: NO_GAPS,
+    asked: false,
+    factory: 0,
+};
 
-const S34: Row = Row(34, 0, 1, WHOLE, false, 0);
+const S34: Row = Row {
+    number: 34,
+    lowest: 0,
+    highest: 1,
+    gaps: NO_GAPS,
+    asked: false,
+    factory: 0,
+};
 
-const S40: Row = Row(40, 0, 2, WHOLE, false, 0);
+const S40: Row = Row {
+    number: 40,
+    lowest: 0,
+    highest: 2,
+    gaps: NO_GAPS,
+    asked: false,
+    factory: 0,
+};
 
-const S41: Row = Row(41, 0, 1, WHOLE, false, 0);
+const S41: Row = Row {
+    number: 41,
+    lowest: 0,
+    highest: 1,
+    gaps: NO_GAPS,
+    asked: false,
+    factory: 0,
+};
 
-const S44: Row = Row(44, 0, 2, WHOLE, false, 0);
+const S44: Row = Row {
+    number: 44,
+    lowest: 0,
+    highest: 2,
+    gaps: NO_GAPS,
+    asked: false,
+    factory: 0,
+};
 
-const S49: Row = Row(49, 0, 1, WHOLE, false, 0);
+const S49: Row = Row {
+    number: 49,
+    lowest: 0,
+    highest: 1,
+    gaps: NO_GAPS,
+    asked: false,
+    factory: 0,
+};
 
-const S50: Row = Row(50, 0, 2, WHOLE, false, 0);
+const S50: Row = Row {
+    number: 50,
+    lowest: 0,
+    highest: 2,
+    gaps: NO_GAPS,
+    asked: false,
+    factory: 0,
+};
 
-const S70: Row = Row(70, 0, 5, WHOLE, false, 5);
+const S70: Row = Row {
+    number: 70,
+    lowest: 0,
+    highest: 5,
+    gaps: NO_GAPS,
+    asked: false,
+    factory: 5,
+};
 
-const S71: Row = Row(71, 0, 2, WHOLE, false, 0);
+const S71: Row = Row {
+    number: 71,
+    lowest: 0,
+    highest: 2,
+    gaps: NO_GAPS,
+    asked: false,
+    factory: 0,
+};
 
-const S73: Row = Row(73, 0, 1, WHOLE, false, 1);
+const S73: Row = Row {
+    number: 73,
+    lowest: 0,
+    highest: 1,
+    gaps: NO_GAPS,
+    asked: false,
+    factory: 1,
+};
 
-const S76: Row = Row(76, 0, 1, WHOLE, false, 0);
+const S76: Row = Row {
+    number: 76,
+    lowest: 0,
+    highest: 1,
+    gaps: NO_GAPS,
+    asked: false,
+    factory: 0,
+};
 
-const S80: Row = Row(80, 0, 1, WHOLE, false, 0);
+const S80: Row = Row {
+    number: 80,
+    lowest: 0,
+    highest: 1,
+    gaps: NO_GAPS,
+    asked: false,
+    factory: 0,
+};
 
-const S81: Row = Row(81, 0, 2, WHOLE, false, 0);
+const S81: Row = Row {
+    number: 81,
+    lowest: 0,
+    highest: 2,
+    gaps: NO_GAPS,
+    asked: false,
+    factory: 0,
+};
 
-const S95: Row = Row(95, 0, 1, WHOLE, false, 0);
+const S95: Row = Row {
+    number: 95,
+    lowest: 0,
+    highest: 1,
+    gaps: NO_GAPS,
+    asked: false,
+    factory: 0,
+};
 
-const S102: Row = Row(102, 0, 1, WHOLE, false, 0);
+const S102: Row = Row {
+    number: 102,
+    lowest: 0,
+    highest: 1,
+    gaps: NO_GAPS,
+    asked: false,
+    factory: 0,
+};
 
-const S103: Row = Row(103, 0, 1, WHOLE, false, 1);
+const S103: Row = Row {
+    number: 103,
+    lowest: 0,
+    highest: 1,
+    gaps: NO_GAPS,
+    asked: false,
+    factory: 1,
+};
 
-const S135: Row = Row(135, 0, 1, WHOLE, false, 0);
+const S135: Row = Row {
+    number: 135,
+    lowest: 0,
+    highest: 1,
+    gaps: NO_GAPS,
+    asked: false,
+    factory: 0,
+};
 
-const S136: Row = Row(136, 0, 1, WHOLE, false, 0);
+const S136: Row = Row {
+    number: 136,
+    lowest: 0,
+    highest: 1,
+    gaps: NO_GAPS,
+    asked: false,
+    factory: 0,
+};
 
 // Document 000, CONF list of TPS300/700 from 41 to 171.
-const T41: Row = Row(41, 0, 4, WHOLE, false, 0);
+const T41: Row = Row {
+    number: 41,
+    lowest: 0,
+    highest: 4,
+    gaps: NO_GAPS,
+    asked: false,
+    factory: 0,
+};
 
-const T42: Row = Row(42, 0, 1, WHOLE, false, 0);
+const T42: Row = Row {
+    number: 42,
+    lowest: 0,
+    highest: 1,
+    gaps: NO_GAPS,
+    asked: false,
+    factory: 0,
+};
 
-const T43: Row = Row(43, 0, 6, WHOLE, false, 0);
+const T43: Row = Row {
+    number: 43,
+    lowest: 0,
+    highest: 6,
+    gaps: NO_GAPS,
+    asked: false,
+    factory: 0,
+};
 
-const T50: Row = Row(50, 0, 4, WHOLE, false, 0);
+const T50: Row = Row {
+    number: 50,
+    lowest: 0,
+    highest: 4,
+    gaps: NO_GAPS,
+    asked: false,
+    factory: 0,
+};
 
-const T51: Row = Row(51, 0, 4, WHOLE, false, 0);
+const T51: Row = Row {
+    number: 51,
+    lowest: 0,
+    highest: 4,
+    gaps: NO_GAPS,
+    asked: false,
+    factory: 0,
+};
 
-const T55: Row = Row(55, 1, 10, WHOLE, false, 1);
+const T55: Row = Row {
+    number: 55,
+    lowest: 1,
+    highest: 10,
+    gaps: NO_GAPS,
+    asked: false,
+    factory: 1,
+};
 
-const T56: Row = Row(56, 1, 10, WHOLE, false, 1);
+const T56: Row = Row {
+    number: 56,
+    lowest: 1,
+    highest: 10,
+    gaps: NO_GAPS,
+    asked: false,
+    factory: 1,
+};
 
-const T70: Row = Row(70, 0, 6, WHOLE, false, 0);
+const T70: Row = Row {
+    number: 70,
+    lowest: 0,
+    highest: 6,
+    gaps: NO_GAPS,
+    asked: false,
+    factory: 0,
+};
 
-const T71: Row = Row(71, 0, 2, WHOLE, false, 0);
+const T71: Row = Row {
+    number: 71,
+    lowest: 0,
+    highest: 2,
+    gaps: NO_GAPS,
+    asked: false,
+    factory: 0,
+};
 
-const T73: Row = Row(73, 0, 1, WHOLE, false, 0);
+const T73: Row = Row {
+    number: 73,
+    lowest: 0,
+    highest: 1,
+    gaps: NO_GAPS,
+    asked: false,
+    factory: 0,
+};
 
-const T75: Row = Row(75, 0, 1, WHOLE, false, 0);
+const T75: Row = Row {
+    number: 75,
+    lowest: 0,
+    highest: 1,
+    gaps: NO_GAPS,
+    asked: false,
+    factory: 0,
+};
 
-const T76: Row = Row(76, 0, 1, WHOLE, false, 0);
+const T76: Row = Row {
+    number: 76,
+    lowest: 0,
+    highest: 1,
+    gaps: NO_GAPS,
+    asked: false,
+    factory: 0,
+};
 
-const T78: Row = Row(78, 0, 50, WHOLE, false, 0);
+const T78: Row = Row {
+    number: 78,
+    lowest: 0,
+    highest: 50,
+    gaps: NO_GAPS,
+    asked: false,
+    factory: 0,
+};
 
-const T90: Row = Row(90, 0, 10, WHOLE, true, 0);
+const T90: Row = Row {
+    number: 90,
+    lowest: 0,
+    highest: 10,
+    gaps: NO_GAPS,
+    asked: true,
+    factory: 0,
+};
 
-const T91: Row = Row(91, 0, 100, WHOLE, true, 0);
+const T91: Row = Row {
+    number: 91,
+    lowest: 0,
+    highest: 100,
+    gaps: NO_GAPS,
+    asked: true,
+    factory: 0,
+};
 
-const T95: Row = Row(95, 0, 1, WHOLE, false, 0);
+const T95: Row = Row {
+    number: 95,
+    lowest: 0,
+    highest: 1,
+    gaps: NO_GAPS,
+    asked: false,
+    factory: 0,
+};
 
-const T102: Row = Row(102, 0, 1, WHOLE, false, 0);
+const T102: Row = Row {
+    number: 102,
+    lowest: 0,
+    highest: 1,
+    gaps: NO_GAPS,
+    asked: false,
+    factory: 0,
+};
 
-const T103: Row = Row(103, 0, 1, WHOLE, false, 0);
+const T103: Row = Row {
+    number: 103,
+    lowest: 0,
+    highest: 1,
+    gaps: NO_GAPS,
+    asked: false,
+    factory: 0,
+};
 
-const T104: Row = Row(104, 0, 100, WHOLE, false, 0);
+const T104: Row = Row {
+    number: 104,
+    lowest: 0,
+    highest: 100,
+    gaps: NO_GAPS,
+    asked: false,
+    factory: 0,
+};
 
-const T105: Row = Row(105, 0, 100, WHOLE, false, 0);
+const T105: Row = Row {
+    number: 105,
+    lowest: 0,
+    highest: 100,
+    gaps: NO_GAPS,
+    asked: false,
+    factory: 0,
+};
 
-const T106: Row = Row(106, 0, 1, WHOLE, false, 0);
+const T106: Row = Row {
+    number: 106,
+    lowest: 0,
+    highest: 1,
+    gaps: NO_GAPS,
+    asked: false,
+    factory: 0,
+};
 
-const T120: Row = Row(120, 0, 1, WHOLE, false, 0);
+const T120: Row = Row {
+    number: 120,
+    lowest: 0,
+    highest: 1,
+    gaps: NO_GAPS,
+    asked: false,
+    factory: 0,
+};
 
-const T122: Row = Row(122, 0, 1, WHOLE, true, 0);
+const T122: Row = Row {
+    number: 122,
+    lowest: 0,
+    highest: 1,
+    gaps: NO_GAPS,
+    asked: true,
+    factory: 0,
+};
 
-const T135: Row = Row(135, 0, 8, WHOLE, false, 0);
+const T135: Row = Row {
+    number: 135,
+    lowest: 0,
+    highest: 8,
+    gaps: NO_GAPS,
+    asked: false,
+    factory: 0,
+};
 
-const T136: Row = Row(136, 0, 127, WHOLE, false, 0);
+const T136: Row = Row {
+    number: 136,
+    lowest: 0,
+    highest: 127,
+    gaps: NO_GAPS,
+    asked: false,
+    factory: 0,
+};
 
-const T137: Row = Row(137, 0, 1, WHOLE, false, 0);
+const T137: Row = Row {
+    number: 137,
+    lowest: 0,
+    highest: 1,
+    gaps: NO_GAPS,
+    asked: false,
+    factory: 0,
+};
 
-const T160: Row = Row(160, 0, 1, WHOLE, true, 0);
+const T160: Row = Row {
+    number: 160,
+    lowest: 0,
+    highest: 1,
+    gaps: NO_GAPS,
+    asked: true,
+    factory: 0,
+};
 
-const T161: Row = Row(161, 0, 10, MODES, false, 0);
+const T161: Row = Row {
+    number: 161,
+    lowest: 0,
+    highest: 10,
+    gaps: MODES,
+    asked: false,
+    factory: 0,
+};
 
-const T170: Row = Row(170, 0, 1, WHOLE, true, 0);
+const T170: Row = Row {
+    number: 170,
+    lowest: 0,
+    highest: 1,
+    gaps: NO_GAPS,
+    asked: true,
+    factory: 0,
+};
 
-const T171: Row = Row(171, 0, 1, WHOLE, false, 0);
+const T171: Row = Row {
+    number: 171,
+    lowest: 0,
+    highest: 1,
+    gaps: NO_GAPS,
+    asked: false,
+    factory: 0,
+};
 
-// One of noughts, past a series' last.
-const NONE: Row = Row(0, 0, 0, WHOLE, false, 0);
+// The row of noughts, for places past a series' last.
+const NONE: Row = Row {
+    number: 0,
+    lowest: 0,
+    highest: 0,
+    gaps: NO_GAPS,
+    asked: false,
+    factory: 0,
+};
 
-// The row at a place of TPS100. Rows by name, since an array of them would be laid down whole for each that is taken out of it.
+// Gives the row at a place of TPS100. The rows go by name, since an array of them would be laid down whole for each that is taken out of it.
 fn row_100(place: usize) -> Row
     ensures { λ r. ⌜ r ≡ getD rows100 place noRow ⌝ }
 {
@@ -160,7 +527,7 @@ fn row_100(place: usize) -> Row
     }
 }
 
-// The row at a place of TPS300.
+// Gives the row at a place of TPS300.
 fn row_300(place: usize) -> Row
     ensures { λ r. ⌜ r ≡ getD rows300 place noRow ⌝ }
 {
@@ -199,7 +566,7 @@ fn row_300(place: usize) -> Row
     }
 }
 
-// The row at a place; one of noughts past the series' last.
+// Gives the row at a place; past the series' last it is the row of noughts.
 pub fn row_at(series: Series, place: usize) -> Row
     ensures { λ r. ⌜ r ≡ rowAt series place ⌝ }
 {
@@ -209,13 +576,13 @@ pub fn row_at(series: Series, place: usize) -> Row
     }
 }
 
-// How many settings the series has.
+// Tells how many settings the series has.
 pub fn settings_of(series: Series) -> usize
     ensures { λ r. ⌜ r ≡ settingsN series ⌝ }
 {
     match series {
-        Series::Tps100 => 19,
-        Series::Tps300 => 30,
+        Series::Tps100 => SETTINGS_100,
+        Series::Tps300 => SETTINGS,
     }
 }
 
@@ -226,7 +593,7 @@ fn seek(series: Series, number: u16) -> Found
     let mut i = 0;
     while i < n {
         let row = row_at(series, i);
-        if row.0 == number {
+        if row.number == number {
             return Found::At(i);
         }
         i += 1;
@@ -234,7 +601,7 @@ fn seek(series: Series, number: u16) -> Found
     Found::Nothing
 }
 
-// The place of the setting of that number. The series is named, here and below, so that the compiler knows the table: with one that it doesn't know, each
+// Finds the place of the setting of that number. The series is named, here and below, so that the compiler knows the table: otherwise each
 // row is a call.
 pub fn setting_at(series: Series, number: u16) -> Found
     ensures { λ r. ⌜ r ≡ settingPlace series number ⌝ }
@@ -245,7 +612,7 @@ pub fn setting_at(series: Series, number: u16) -> Found
     }
 }
 
-// The parameters of the factory, noughts past the series' last.
+// Gives the parameters of the factory, with noughts past the series' last.
 pub fn factory_settings(series: Series) -> [u8; SETTINGS]
     ensures { λ r. ⌜ r ≡ factorySettings series ⌝ }
 {
@@ -253,7 +620,7 @@ pub fn factory_settings(series: Series) -> [u8; SETTINGS]
     let mut i = 0;
     while i < SETTINGS {
         let row = row_at(series, i);
-        settings[i] = row.5;
+        settings[i] = row.factory;
         i += 1;
     }
     settings
@@ -274,21 +641,21 @@ fn is_gap(gaps: Gaps, parameter: u64) -> bool
     parameter == wide(gaps.3)
 }
 
-// Whether the setting has the parameter: from the lowest to the highest, and in no gap.
+// Tells whether the setting has the parameter: from the lowest to the highest, and in no gap.
 pub fn in_range(row: Row, parameter: u64) -> bool
     ensures { λ r. ⌜ r ≡ inRange row parameter ⌝ }
 {
-    if parameter < wide(row.1) {
+    if parameter < wide(row.lowest) {
         return false;
     }
-    if wide(row.2) < parameter {
+    if wide(row.highest) < parameter {
         return false;
     }
-    !is_gap(row.3, parameter)
+    !is_gap(row.gaps, parameter)
 }
 
 fn each_in_range(series: Series, settings: [u8; SETTINGS]) -> bool
-    ensures { λ r. ⌜ r ≡ inRanges (places series) settings ⌝ }
+    ensures { λ r. ⌜ r ≡ inRanges (heldRows series) settings ⌝ }
 {
     let n = settings_of(series);
     let mut i = 0;
@@ -302,9 +669,9 @@ fn each_in_range(series: Series, settings: [u8; SETTINGS]) -> bool
     figures::all_within(&settings[n..], 0, 0)
 }
 
-// Whether each parameter is one that its setting has, and those past the series' last are noughts.
+// Tells whether each parameter is one that its setting has, and those past the series' last are noughts.
 pub fn in_ranges(series: Series, settings: [u8; SETTINGS]) -> bool
-    ensures { λ r. ⌜ r ≡ inRanges (places series) settings ⌝ }
+    ensures { λ r. ⌜ r ≡ inRanges (heldRows series) settings ⌝ }
 {
     match series {
         Series::Tps100 => each_in_range(Series::Tps100, settings),

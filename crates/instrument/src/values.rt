@@ -21,8 +21,13 @@ use words::reading::read_word;
 
 pub const VALUES: usize = 11;
 
-// Index, first and last unit as they stand at position 6, and the key on a sheet, from the start of five bytes.
-pub struct Stored(pub u16, pub u8, pub u8, pub [u8; 5]);
+// A stored value: its index, first and last unit as they stand at position 6, and its key on a sheet, from the start of five bytes.
+pub struct Stored {
+    pub index: u16,
+    pub first: u8,
+    pub last: u8,
+    pub key: [u8; 5],
+}
 
 // A value's eight characters.
 pub struct Eight(
@@ -47,29 +52,84 @@ pub struct Value {
 }
 
 // Text, angles of unit 2-4, lengths of unit 0 or 1.
-const V11: Stored = Stored(11, b'.', b'.', *b"v11=\0");
+const V11: Stored = Stored {
+    index: 11,
+    first: b'.',
+    last: b'.',
+    key: *b"v11=\0",
+};
 
-const V16: Stored = Stored(16, b'.', b'.', *b"v16=\0");
+const V16: Stored = Stored {
+    index: 16,
+    first: b'.',
+    last: b'.',
+    key: *b"v16=\0",
+};
 
-const V21: Stored = Stored(21, b'2', b'4', *b"v21=\0");
+const V21: Stored = Stored {
+    index: 21,
+    first: b'2',
+    last: b'4',
+    key: *b"v21=\0",
+};
 
-const V24: Stored = Stored(24, b'2', b'4', *b"v24=\0");
+const V24: Stored = Stored {
+    index: 24,
+    first: b'2',
+    last: b'4',
+    key: *b"v24=\0",
+};
 
-const V34: Stored = Stored(34, b'0', b'1', *b"v34=\0");
+const V34: Stored = Stored {
+    index: 34,
+    first: b'0',
+    last: b'1',
+    key: *b"v34=\0",
+};
 
-const V83: Stored = Stored(83, b'0', b'1', *b"v83=\0");
+const V83: Stored = Stored {
+    index: 83,
+    first: b'0',
+    last: b'1',
+    key: *b"v83=\0",
+};
 
-const V84: Stored = Stored(84, b'0', b'1', *b"v84=\0");
+const V84: Stored = Stored {
+    index: 84,
+    first: b'0',
+    last: b'1',
+    key: *b"v84=\0",
+};
 
-const V85: Stored = Stored(85, b'0', b'1', *b"v85=\0");
+const V85: Stored = Stored {
+    index: 85,
+    first: b'0',
+    last: b'1',
+    key: *b"v85=\0",
+};
 
-const V86: Stored = Stored(86, b'0', b'1', *b"v86=\0");
+const V86: Stored = Stored {
+    index: 86,
+    first: b'0',
+    last: b'1',
+    key: *b"v86=\0",
+};
 
-const V87: Stored = Stored(87, b'0', b'1', *b"v87=\0");
+const V87: Stored = Stored {
+    index: 87,
+    first: b'0',
+    last: b'1',
+    key: *b"v87=\0",
+};
 
-const V88: Stored = Stored(88, b'0', b'1', *b"v88=\0");
+const V88: Stored = Stored {
+    index: 88,
+    first: b'0',
+    last: b'1',
+    key: *b"v88=\0",
+};
 
-// The row at a place; one of noughts past the last.
+// Gives the row at a place; past the last it is a row of noughts.
 pub fn stored_at(place: usize) -> Stored
     ensures { λ r. ⌜ r ≡ storedAt place ⌝ }
 {
@@ -85,18 +145,23 @@ pub fn stored_at(place: usize) -> Stored
         8 => V86,
         9 => V87,
         10 => V88,
-        _ => Stored(0, 0, 0, *b"v0=\0\0"),
+        _ => Stored {
+            index: 0,
+            first: 0,
+            last: 0,
+            key: *b"v0=\0\0",
+        },
     }
 }
 
-// The place of the stored value of that index.
+// Finds the place of the stored value of that index.
 pub fn value_at(index: u16) -> Found
     ensures { λ r. ⌜ r ≡ valuePlace index ⌝ }
 {
     let mut i = 0;
     while i < VALUES {
         let row = stored_at(i);
-        if row.0 == index {
+        if row.index == index {
             return Found::At(i);
         }
         i += 1;
@@ -113,7 +178,7 @@ pub fn is_put(kept: Kept) -> bool
     }
 }
 
-// The word that is to be put there: dots at 3-5, a unit of the place, and otherwise the block rules.
+// Judges the word that is to be put there: dots at 3-5, a unit of the place, and otherwise the block rules.
 pub fn put_judged(place: usize, word: [u8; 16]) -> Judged
     ensures { λ r. ⌜ r ≡ putJudged place word ⌝ }
 {
@@ -128,17 +193,17 @@ pub fn put_judged(place: usize, word: [u8; 16]) -> Judged
     if word[4] != b'.' {
         return Judged::Wrong(info, 4);
     }
-    if word[5] < row.1 {
+    if word[5] < row.first {
         return Judged::Wrong(info, 5);
     }
-    if row.2 < word[5] {
+    if row.last < word[5] {
         return Judged::Wrong(info, 5);
     }
     let one = read_word(&word, Family::Station, false);
     one.answer
 }
 
-// What the word leaves when it is put.
+// Gives what the word leaves when it is put.
 pub fn put_kept(word: [u8; 16]) -> Kept
     ensures { λ r. ⌜ r ≡ putKept word ⌝ }
 {
@@ -164,13 +229,13 @@ fn figure(n: u16) -> u8
     b'0' + (n % 10) as u8
 }
 
-// The word of a value that was put, with that byte at position 5.
+// Makes the word of a value that was put, with that byte at position 5.
 fn value_word(mark: u8, place: usize, unit: u8, minus: u8, d: Eight) -> [u8; 16]
     ensures { λ r. ⌜ r ≡ valueWord mark place unit minus d ⌝ }
 {
     let row = stored_at(place);
-    let tens = figure(row.0 / 10);
-    let ones = figure(row.0);
+    let tens = figure(row.index / 10);
+    let ones = figure(row.index);
     let sign = sign_byte(minus);
     [
         tens,
@@ -192,7 +257,7 @@ fn value_word(mark: u8, place: usize, unit: u8, minus: u8, d: Eight) -> [u8; 16]
     ]
 }
 
-// Whether the characters are digits that count at the index, after that unit and sign.
+// Tells whether the characters are digits that count at the index, after that unit and sign.
 fn number_right(index: u16, unit: u8, minus: u8, digits: [u8; 8]) -> bool
     ensures { λ r. ⌜ r ≡ (every isDigit digits && isCounted (counts.valueAt (stationKind index) index unit minus (Number (numberOf digits)))) ⌝ }
 {
@@ -207,7 +272,7 @@ fn number_right(index: u16, unit: u8, minus: u8, digits: [u8; 8]) -> bool
     }
 }
 
-// Whether the place may hold it: never put, or as a PUT can leave it. An image asks it of each value and entry, so no word is made of the parts.
+// Tells whether the place may hold it: never put, or as a PUT can leave it. An image asks it of each value and entry, so no word is made of the parts.
 pub fn kept_right(place: usize, kept: Kept) -> bool
     ensures { λ r. ⌜ r ≡ keptRight place kept ⌝ }
 {
@@ -218,15 +283,15 @@ pub fn kept_right(place: usize, kept: Kept) -> bool
                 return false;
             }
             let row = stored_at(place);
-            if unit < row.1 {
+            if unit < row.first {
                 return false;
             }
-            if row.2 < unit {
+            if row.last < unit {
                 return false;
             }
             let characters = [d.0, d.1, d.2, d.3, d.4, d.5, d.6, d.7];
-            if row.1 != b'.' {
-                return number_right(row.0, unit, minus, characters);
+            if row.first != b'.' {
+                return number_right(row.index, unit, minus, characters);
             }
             if minus != 0 {
                 return false;
@@ -236,7 +301,7 @@ pub fn kept_right(place: usize, kept: Kept) -> bool
     }
 }
 
-// The word that GET answers; blanks where nothing was ever put.
+// Makes the word that GET answers; it is blanks where nothing was ever put.
 pub fn get_word(place: usize, kept: Kept) -> [u8; 16]
     ensures { λ r. ⌜ r ≡ getWord place kept ⌝ }
 {
@@ -244,7 +309,7 @@ pub fn get_word(place: usize, kept: Kept) -> [u8; 16]
         Kept::Never => [b' '; 16],
         Kept::Put(unit, minus, d) => {
             let row = stored_at(place);
-            if row.1 == b'.' {
+            if row.first == b'.' {
                 return value_word(b'.', place, unit, minus, d);
             }
             value_word(b'1', place, unit, minus, d)
@@ -252,7 +317,7 @@ pub fn get_word(place: usize, kept: Kept) -> [u8; 16]
     }
 }
 
-// The word with eight zeros before its eight characters.
+// Makes the word with eight zeros before its eight characters.
 pub fn widen(w: [u8; 16]) -> [u8; 24]
     ensures { λ r. ⌜ r ≡ widened w ⌝ }
 {

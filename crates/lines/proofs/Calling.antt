@@ -1,39 +1,33 @@
 -- Laws of a call: what a line comes to in a room that it fits or doesn't, by its verdict, and on a lent image.
 use Prim.Native.Nat.{ℕ, _-_, _<_, _≤_}
 use mathlib.Core.Path.{_≡_, refl, sym, ap, subst, _∙_}
-use mathlib.Core.Bool.{Bool, true, false, cond, _&&_, false≢true, and-eq-true-iff}
+use mathlib.Core.Bool.{Bool, true, false, cond, _&&_, and-eq-true-iff}
 use mathlib.Core.List.{List, [], _∷_, _++_}
 use native.Mathlib.Omega.{arith}
-use borrow.Author.Tests.{le-leb, lt-leb, le-ltb, lt-ltb, leb-true}
+use borrow.Author.Tests.{le-leb, lt-leb, le-ltb, lt-ltb}
 use lib.Dec.{eqb, leb}
-use lib.ListN.{length, take, drop}
+use lib.ListN.{length, take}
 use lib.Seq.{length-take-le}
 use Rattle.figures.specs.Bytes.{laid}
-use Rattle.words.specs.Reading.{pos}
-use Rattle.instrument.specs.Settings.{settingPlace}
-use Rattle.instrument.specs.Values.{putKept}
-use Rattle.instrument.specs.declared.settings.Found.{Found}
-use Rattle.instrument.specs.declared.settings.Found.the-variants.{Nothing, At}
-use Rattle.instrument.specs.declared.values.Kept.{Kept}
 use Rattle.state.specs.Entries.{entriesN}
-use Rattle.state.specs.Image.{imageN, imageOf, encodedIn, seriesIn, stateAs, stateIn, isImage, decodeOf}
+use Rattle.state.specs.Image.{imageN, imageOf, encodedIn, seriesIn, stateIn, isImage, decodeOf}
 use Rattle.state.specs.declared.entries.State.{State}
 use Rattle.state.specs.declared.image.Known.the-variants.{Not, Is}
 use Rattle.state.specs.declared.image.Decoded.{Decoded}
-use Rattle.state.proofs.Images.{image-of, decoded-is, decoded-not}
+use Rattle.state.proofs.Steps.{state-parts}
+use Rattle.state.proofs.Images.{image-of, decoded-is, decoded-series, decoded-not}
 use Rattle.commands.specs.Shapes.{fromEnd, endOf, textOf, isPlain, isEnded, orderOf}
-use Rattle.lines.specs.Verdicts.{isAccepted, orderVerdict, placeNamed, lineVerdict}
-use Rattle.lines.specs.Orders.{takenBack, newest, setNamed, putNamed, doneOf}
+use Rattle.lines.specs.Verdicts.{isAccepted, orderVerdict, lineVerdict}
+use Rattle.lines.specs.Orders.{takenBack, newest, setTo, putTo, Deed, asks, changes, undoes, keeps, deedOf, lineDeed, doneOf}
 use Rattle.lines.specs.Replies.{replyEnd, wrong, bodyOf}
 use Rattle.lines.specs.Machine.{Outcome, outcome, run, step, told, Calls}
 use Rattle.lines.specs.Keeping.{ranOf, Ends}
 use Rattle.commands.specs.declared.shapes.Order.{Order}
-use Rattle.commands.specs.declared.shapes.Order.the-variants as order
 use Rattle.lines.specs.declared.verdicts.Verdict.{Verdict}
-use Rattle.lines.specs.declared.verdicts.Verdict.the-variants.{Accepted, Unended, Long, Keyword, Shape, Setting, ReadOnly, Parameter, Index, Word}
-use Rattle.lines.specs.declared.verdicts.Verdict.the-variants.{NeverPut, Full, NoEntry, Room, NoState}
+use Rattle.lines.specs.declared.verdicts.Verdict.the-variants.{Accepted, Unended, Long, Room, NoState}
 use Rattle.lines.specs.declared.machine.Ran.{Ran}
 use Rattle.commands.proofs.Shape.{from-start}
+use Rattle.lines.proofs.Sorts.{accepted-is}
 use Rattle.lines.proofs.Replying.{laid-none}
 
 -- the room
@@ -67,23 +61,6 @@ end-in (x ∷ y ∷ l) = omega (arith, two (eqb (fromEnd 1 (x ∷ y ∷ l)) 13) 
     two false true = omega arith
     two false false = omega arith
 
-pub accepted-is : (v : Verdict) → isAccepted v ≡ true → v ≡ Accepted
-accepted-is Accepted e = refl
-accepted-is Unended e = absurd (false≢true e)
-accepted-is Long e = absurd (false≢true e)
-accepted-is Keyword e = absurd (false≢true e)
-accepted-is Shape e = absurd (false≢true e)
-accepted-is Setting e = absurd (false≢true e)
-accepted-is ReadOnly e = absurd (false≢true e)
-accepted-is Parameter e = absurd (false≢true e)
-accepted-is Index e = absurd (false≢true e)
-accepted-is (Word x at) e = absurd (false≢true e)
-accepted-is NeverPut e = absurd (false≢true e)
-accepted-is Full e = absurd (false≢true e)
-accepted-is NoEntry e = absurd (false≢true e)
-accepted-is Room e = absurd (false≢true e)
-accepted-is NoState e = absurd (false≢true e)
-
 module _ (s : State) (line : List ℕ) where
   run-unended : isEnded line ≡ false → run s line ≡ outcome Unended (wrong ++ replyEnd s) s
   run-unended e = rw e
@@ -96,7 +73,7 @@ module _ (s : State) (line : List ℕ) where
   run-judged e h v q n = rw (e, le-leb (length (textOf line)) 100 h, ← q, n)
 
   run-accepted : isEnded line ≡ true → length (textOf line) ≤ 100 → orderVerdict s (textOf line) (orderOf (textOf line)) ≡ Accepted
-      → run s line ≡ outcome Accepted (bodyOf s (textOf line) (orderOf (textOf line)) ++ replyEnd s) (doneOf s (textOf line) (orderOf (textOf line)))
+      → run s line ≡ outcome Accepted (bodyOf s (textOf line) (orderOf (textOf line)) ++ replyEnd s) (doneOf s (lineDeed (s .series) line))
   run-accepted e h q = rw (e, le-leb (length (textOf line)) 100 h, q)
 
   -- the same as the code finds it: the text before the end, and whether that is plain
@@ -148,32 +125,21 @@ module _ (s : State) (line : List ℕ) where
     pub found-accepts : isAccepted v ≡ true → (orderVerdict s (part e) o ≡ Accepted) × (length (part e) ≤ 100)
     found-accepts a = (sym (j .verdict) ∙ accepted-is v a, omega (arith, ap length (text-is e (j .ends)), is-short))
 
-    pub found-accepted : isAccepted v ≡ true → run s line ≡ outcome Accepted (bodyOf s (part e) o ++ replyEnd s) (doneOf s (part e) o)
+    pub found-accepted : isAccepted v ≡ true → run s line ≡ outcome Accepted (bodyOf s (part e) o ++ replyEnd s) (doneOf s (deedOf (s .series) (part e) o))
     found-accepted a = run-accepted is-ended is-short (sym judged ∙ accepted-is v a) ∙ rw (j .order, text-is e (j .ends))
 
 -- a line leaves the series as it is
-
-set-series : (s : State) (p : ℕ) (f : Found) → setNamed s p f .series ≡ s .series
-set-series s p Nothing = refl
-set-series s p (At i) = refl
-
-put-series : (s : State) (k : Kept) (f : Found) → putNamed s k f .series ≡ s .series
-put-series s k Nothing = refl
-put-series s k (At i) = refl
 
 either-series : (s t u : State) (b : Bool) → s .series ≡ u .series → t .series ≡ u .series → cond b s t .series ≡ u .series
 either-series s t u true p q = p
 either-series s t u false p q = q
 
-done-series : (s : State) (t : List ℕ) (o : Order) → doneOf s t o .series ≡ s .series
-done-series s t order.Not = refl
-done-series s t (order.Set n p) = set-series s p (settingPlace (s .series) n)
-done-series s t (order.Conf n) = refl
-done-series s t order.Put = put-series s (putKept (drop 4 t)) (placeNamed (pos 1 (drop 4 t)) (pos 2 (drop 4 t)))
-done-series s t order.Get = refl
-done-series s t order.Undo = either-series s (takenBack s (newest s)) s (eqb (s .count) 0) refl refl
-done-series s t order.Keep = refl
-done-series s t order.Unknown = refl
+done-series : (s : State) (d : Deed) → doneOf s d .series ≡ s .series
+done-series s asks = refl
+done-series s (changes (setTo i p)) = refl
+done-series s (changes (putTo i k)) = refl
+done-series s undoes = either-series s (takenBack s (newest s)) s (eqb (s .count) 0) refl refl
+done-series s keeps = refl
 
 next-series : (s : State) (o : Outcome) (b : Bool) → o .next .series ≡ s .series → cond b o (outcome Room [] s) .next .series ≡ s .series
 next-series s o true e = e
@@ -181,10 +147,9 @@ next-series s o false e = refl
 
 pub step-series : (s : State) (line : List ℕ) (room : ℕ) → step s line room .next .series ≡ s .series
 step-series s line room =
-    let t = textOf line in
-    let done = doneOf s t (orderOf t) in
+    let deed = lineDeed (s .series) line in
     next-series s (run s line) (leb (length (run s line .reply)) room)
-    (either-series done s s (isAccepted (lineVerdict s line)) (done-series s t (orderOf t)) refl)
+    (either-series (doneOf s deed) s s (isAccepted (lineVerdict s line)) (done-series s deed) refl)
 
 -- the image
 
@@ -192,8 +157,7 @@ module _ (image : List ℕ) (d : Decoded) (e : d ≡ decodeOf image) where
   pub decoded-few : d .answer ≡ Is → d .state .count ≤ entriesN
   decoded-few q =
       let h = decoded-is image d e q in
-      let few = leb-true (stateIn image .count) entriesN (and-eq-true-iff (leb (stateIn image .count) entriesN) _ .0 (image-of image (h .0) .0) .0) in
-      rw (h .1) few
+      rw (h .1) (state-parts entriesN (stateIn image) (image-of image (h .0) .0) .few)
 
   pub call-none : d .answer ≡ Not → (line room : List ℕ) → Calls image line room (told NoState 0) image room
   call-none q line room = rw (decoded-not image d e q) (refl, (refl, refl))
@@ -213,8 +177,9 @@ module _ (image line room : List ℕ) (r : Ran) (room′ : List ℕ) (h : RanOn 
   ran-ends = subst (λ (s : State). Ends s (run s line) room r room′) (decoded-is image (h .decoded) (h .is) (h .known) .1) (h .ends)
 
   ran-series : r .state .series ≡ seriesIn image
-  unfolding stateAs
-  ran-series = ap (λ (x : Ran). x .state .series) (ran-ends .0) ∙ step-series (stateIn image) line (length room)
+  ran-series =
+      let s = h .decoded .state in
+      ap (λ (x : Ran). x .state .series) (h .ends .0) ∙ step-series s line (length room) ∙ decoded-series image (h .decoded) (h .is) (h .known)
 
   -- laid down, as the image is as long as one of its series
   pub laid-down : encodedIn (r .state) image ≡ imageOf (r .state)

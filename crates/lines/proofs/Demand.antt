@@ -1,62 +1,81 @@
--- Demand 3: what stands after any lines is what the unstruck SET and PUT lines leave, and when an UNDO is refused.
+-- Demand 3: what stands after any lines is what the unstruck changes leave, and when an UNDO is refused.
 use Prim.Native.Nat.{ℕ, _≤_}
-use mathlib.Core.Path.{_≡_, refl, sym, ap, _∙_}
+use mathlib.Core.Path.{_≡_, refl, sym, ap, subst, _∙_}
 use mathlib.Core.Bool.{Bool, true, false, cond}
 use mathlib.Core.Logic.{_↔_}
 use mathlib.Core.List.{List, []}
 use native.Mathlib.Omega.{arith}
 use borrow.Author.Tests.{le-leb}
 use lib.ListN.{length}
-use Rattle.instrument.specs.declared.settings.Series.the-variants.{Tps100, Tps300}
-use Rattle.state.specs.Entries.{factoryState}
+use Rattle.instrument.specs.declared.settings.Series.{Series}
+use Rattle.state.specs.Entries.{Contents, contentsOf, factoryState}
 use Rattle.state.specs.declared.entries.State.{State}
 use Rattle.commands.specs.Shapes.{isEnded, textOf, orderOf}
 use Rattle.lines.specs.Verdicts.{verdictNumber, isAccepted, orderVerdict, undoVerdict, lineVerdict}
 use Rattle.lines.specs.Machine.{outcome, run, step}
-use Rattle.lines.specs.Demand.{Start, Call, contentsOf, after, marks, playAll, stands}
+use Rattle.lines.specs.Sessions.{session, Call, stepped, after}
+use Rattle.lines.specs.Demand.{Start, Mark, Followed, follows, standing, playAll, stands}
 use Rattle.commands.specs.declared.shapes.Order.the-variants.{Undo}
 use Rattle.lines.specs.declared.verdicts.Verdict.the-variants.{Accepted, NoEntry, Room}
 use Rattle.lines.proofs.Starts.{factory-start}
 use Rattle.commands.proofs.Shape.{order-undo}
-use Rattle.lines.proofs.Tracks.{Tracks, contents, undo-stands, tracks}
+use Rattle.lines.proofs.Sessions.{alike-calls}
+use Rattle.lines.proofs.Tracks.{Tracks, contents, undo-stands, Follows, tracks}
 
-start-tracks : (s : State) → Start s → (cs : List Call) → Tracks (contentsOf s) (after s cs) (marks s cs [])
-start-tracks s start cs = tracks (contentsOf s) s cs [] (start .state) (start .none, refl)
+-- from a start nothing stands
 
--- settings and stored values are those got by playing the unstruck lines in order
-pub played : (s : State) → Start s → (cs : List Call) → contentsOf (after s cs) ≡ playAll (contentsOf s) (marks s cs [])
-played s start cs = contents (contentsOf s) (after s cs) (marks s cs []) (start-tracks s start cs)
+abbrev pub fresh : State → Followed
+fresh s = record { state = s; standing = [] }
+
+pub start-follows : (s : State) → Start s → (cs : List Call) → Follows (contentsOf s) (session follows (fresh s) cs .left)
+start-follows s start cs = tracks (contentsOf s) (fresh s) cs (start .state, (start .none, refl))
+
+-- the state that is followed is that of the calls
+followed-state : (s : State) (cs : List Call) → session follows (fresh s) cs .left .state ≡ after s cs
+followed-state s cs =
+    alike-calls follows stepped (λ f t. f .state ≡ t) (λ f t c e. (ap (λ (u : State). step u (c .line) (c .room) .next) e, ap (λ (u : State). step u (c .line) (c .room) .reply) e))
+    (fresh s) s cs refl .0
+
+start-tracks : (s : State) → Start s → (cs : List Call) → Tracks (contentsOf s) (after s cs) (standing s cs)
+start-tracks s start cs =
+    subst (λ (t : State). Tracks (contentsOf s) t (standing s cs)) (followed-state s cs) (start-follows s start cs .1)
+
+-- settings and stored values are those got by playing the unstruck changes in order
+pub played : (s : State) → Start s → (cs : List Call) → contentsOf (after s cs) ≡ playAll (contentsOf s) (standing s cs)
+played s start cs = contents (contentsOf s) (after s cs) (standing s cs) (start-tracks s start cs)
+
+-- "demand 3 holds per series" (request 103): from each factory
+pub played-factory : (k : Series) (cs : List Call) → contentsOf (after (factoryState k) cs) ≡ playAll (contentsOf (factoryState k)) (standing (factoryState k) cs)
+played-factory k = played (factoryState k) (factory-start k)
 
 undo-verdict : (s : State) (line : List ℕ) → isEnded line ≡ true → orderOf (textOf line) ≡ Undo → lineVerdict s line ≡ undoVerdict (s .count)
 undo-verdict s line ended undo =
     rw (ended, le-leb (length (textOf line)) 100 (omega (arith, order-undo (textOf line) undo))) (ap (orderVerdict s (textOf line)) undo)
 
--- an UNDO whose reply fits is refused exactly when no unstruck SET or PUT stands after the last accepted KEEP
-module _ (s : State) (start : Start s) (cs : List Call) (line : List ℕ) (room : ℕ) (ended : isEnded line ≡ true) (undo : orderOf (textOf line) ≡ Undo)
-    (fits : length (run (after s cs) line .reply) ≤ room) where
-  undo-told : step (after s cs) line room .verdict ≡ cond (stands (marks s cs [])) Accepted NoEntry
+-- an UNDO whose reply fits, wherever what stands is followed
+module _ (line : List ℕ) (ended : isEnded line ≡ true) (undo : orderOf (textOf line) ≡ Undo) (c : Contents) (s : State) (ms : List Mark) (t : Tracks c s ms)
+    (room : ℕ) (fits : length (run s line .reply) ≤ room) where
+  undo-told : step s line room .verdict ≡ cond (stands ms) Accepted NoEntry
   undo-told =
-      let t = after s cs in
-      ap (λ (b : Bool). cond b (run t line) (outcome Room [] t) .verdict) (le-leb (length (run t line .reply)) room fits)
-      ∙ undo-verdict t line ended undo
-      ∙ undo-stands (contentsOf s) t (marks s cs []) (start-tracks s start cs)
+      ap (λ (b : Bool). cond b (run s line) (outcome Room [] s) .verdict) (le-leb (length (run s line .reply)) room fits)
+      ∙ undo-verdict s line ended undo ∙ undo-stands c s ms t
 
-  pub undo-accepted : isAccepted (step (after s cs) line room .verdict) ≡ stands (marks s cs [])
-  undo-accepted = ap isAccepted undo-told ∙ by (stands (marks s cs []))
+  pub undo-by : isAccepted (step s line room .verdict) ≡ stands ms
+  undo-by = ap isAccepted undo-told ∙ by (stands ms)
     where
       by : (b : Bool) → isAccepted (cond b Accepted NoEntry) ≡ b
       by true = refl
       by false = refl
 
-  pub undo-refused : (isAccepted (step (after s cs) line room .verdict) ≡ false) ↔ (stands (marks s cs []) ≡ false)
+-- it is refused exactly when no unstruck SET or PUT stands after the last accepted KEEP
+module _ (s : State) (start : Start s) (cs : List Call) (line : List ℕ) (room : ℕ) (ended : isEnded line ≡ true) (undo : orderOf (textOf line) ≡ Undo)
+    (fits : length (run (after s cs) line .reply) ≤ room) where
+  pub undo-accepted : isAccepted (step (after s cs) line room .verdict) ≡ stands (standing s cs)
+  undo-accepted = undo-by line ended undo (contentsOf s) (after s cs) (standing s cs) (start-tracks s start cs) room fits
+
+  pub undo-refused : (isAccepted (step (after s cs) line room .verdict) ≡ false) ↔ (stands (standing s cs) ≡ false)
   undo-refused = (λ e. sym undo-accepted ∙ e, λ e. undo-accepted ∙ e)
 
-  pub undo-number : stands (marks s cs []) ≡ false → verdictNumber (step (after s cs) line room .verdict) ≡ 29
-  undo-number e = ap verdictNumber undo-told ∙ rw e
-
--- "demand 3 holds per series" (request 103): from each factory
-pub played-100 : (cs : List Call) → contentsOf (after (factoryState Tps100) cs) ≡ playAll (contentsOf (factoryState Tps100)) (marks (factoryState Tps100) cs [])
-played-100 = played (factoryState Tps100) (factory-start Tps100)
-
-pub played-300 : (cs : List Call) → contentsOf (after (factoryState Tps300) cs) ≡ playAll (contentsOf (factoryState Tps300)) (marks (factoryState Tps300) cs [])
-played-300 = played (factoryState Tps300) (factory-start Tps300)
+  pub undo-number : stands (standing s cs) ≡ false → verdictNumber (step (after s cs) line room .verdict) ≡ 29
+  undo-number e =
+      ap verdictNumber (undo-told line ended undo (contentsOf s) (after s cs) (standing s cs) (start-tracks s start cs) room fits) ∙ rw e

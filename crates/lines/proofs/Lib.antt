@@ -1,8 +1,8 @@
+pub mod Sessions
 pub mod Starts
-pub mod Parts
-pub mod Undone
-pub mod Lasting
+pub mod Deeds
 pub mod Runs
+pub mod Leaves
 pub mod States
 pub mod Tracks
 pub mod Demand
@@ -11,7 +11,7 @@ pub mod Hosted
 pub mod Wrong
 pub mod Lookups
 pub mod Replying
-pub mod Broken
+pub mod Sorts
 pub mod Telling
 pub mod Calling
 pub mod Longest

@@ -1,6 +1,6 @@
 -- The longest reply: the words of a GET of a hundred characters and CR LF. With that much room 30 never comes.
 use Prim.Native.Nat.{ℕ, _+_, _≤_}
-use mathlib.Core.Path.{_≡_, refl, ap, _∙_}
+use mathlib.Core.Path.{_≡_, refl, ap}
 use mathlib.Core.Bool.{Bool, true, false, cond, not}
 use mathlib.Core.List.{List, _++_}
 use native.Mathlib.Omega.{arith}
@@ -14,10 +14,10 @@ use Rattle.instrument.specs.declared.settings.Series.the-variants.{Tps100}
 use Rattle.state.specs.declared.entries.State.{State}
 use Rattle.commands.specs.Shapes.{isEnded, textOf, orderOf}
 use Rattle.lines.specs.Verdicts.{isAccepted, orderVerdict, lineVerdict}
-use Rattle.lines.specs.Replies.{endsLf, isWide, replyEnd, wrong, bodyOf}
+use Rattle.lines.specs.Replies.{endsLf, answersWide, replyEnd, wrong, bodyOf}
 use Rattle.lines.specs.Machine.{run, step}
 use Rattle.lines.proofs.Replying.{end-long, bodyMost, body-most, body-short}
-use Rattle.lines.proofs.Calling.{accepted-is}
+use Rattle.lines.proofs.Sorts.{accepted-is}
 use Rattle.lines.proofs.Runs.{judged}
 
 ended-most : (s : State) (body : List ℕ) (b : Bool) (n : ℕ) → 5 ≤ n → (b ≡ true → length body ≤ n) → length (cond b body wrong ++ replyEnd s) ≤ n + 2
@@ -29,24 +29,24 @@ most-some true = omega arith
 most-some false = omega arith
 
 -- by how the words are
-reply-by : (s : State) (line : List ℕ) → length (run s line .reply) ≤ bodyMost (isWide s) + 2
+reply-by : (s : State) (line : List ℕ) → length (run s line .reply) ≤ bodyMost (answersWide s) + 2
 reply-by s line =
     let t = textOf line in
     let v = lineVerdict s line in
-    ended-most s (bodyOf s t (orderOf t)) (isAccepted v) (bodyMost (isWide s)) (most-some (isWide s))
+    ended-most s (bodyOf s t (orderOf t)) (isAccepted v) (bodyMost (answersWide s)) (most-some (answersWide s))
     (λ e.
     let j = judged (isEnded line) (leb (length t) 100) (orderVerdict s t (orderOf t)) (accepted-is v e) in
     body-short s t (orderOf t) refl (j .1) (leb-true (length t) 100 (j .0)))
 
 pub reply-most : (s : State) (line : List ℕ) → length (run s line .reply) ≤ 459
-reply-most s line = omega (arith, reply-by s line, body-most (isWide s))
+reply-most s line = omega (arith, reply-by s line, body-most (answersWide s))
 
 pub fits-459 : (s : State) (line : List ℕ) → step s line 459 ≡ run s line
 fits-459 s line = rw (le-leb (length (run s line .reply)) 459 (reply-most s line))
 
 -- a TPS100 has no 137, so no wide word
 module _ (s : State) (is : s .series ≡ Tps100) where
-  pub narrow : isWide s ≡ false
+  pub narrow : answersWide s ≡ false
   unfolding seek rows100
   narrow = ap (λ (k : Series). not (eqb (parameterOf k (s .settings) 137) 0)) is
 

@@ -21,18 +21,19 @@ use Rattle.instrument.specs.declared.settings.Found.the-variants.{Nothing, At}
 use Rattle.instrument.specs.declared.values.Kept.{Kept}
 use Rattle.instrument.specs.declared.values.Kept.the-variants.{Never, Put}
 use Rattle.instrument.specs.declared.values.Value.{Value}
+use Rattle.state.specs.Entries.{valueHeld}
 use Rattle.state.specs.declared.entries.State.{State}
-use Rattle.commands.specs.Shapes.{groupsIn, orderOf}
-use Rattle.lines.specs.Verdicts.{confBy, confVerdict, placeNamed, valueHeld, getBy, getVerdict, orderVerdict}
-use Rattle.lines.specs.Replies.{endsLf, isWide, replyEnd, confBody, star, getWords, getBody, bodyOf}
-use Rattle.lines.specs.Keeping.{GetFits, getN}
+use Rattle.commands.specs.Shapes.{groupsRight, groupsIn, orderOf}
+use Rattle.lines.specs.Verdicts.{confBy, confVerdict, placeNamed, getBy, orderVerdict}
+use Rattle.lines.specs.Replies.{endsLf, answersWide, replyEnd, confBody, star, bodyOf}
+use Rattle.lines.specs.Keeping.{groupsVerdict, groupsWords, groupsBody, GetFits, getN}
 use Rattle.figures.specs.Text.{endBytes}
 use Rattle.commands.specs.declared.shapes.Order.{Order}
 use Rattle.commands.specs.declared.shapes.Order.the-variants as order
 use Rattle.lines.specs.declared.verdicts.Verdict.{Verdict}
 use Rattle.lines.specs.declared.verdicts.Verdict.the-variants.{Accepted, NeverPut}
 use Rattle.commands.proofs.Shape.{groups-length, order-get, to-end}
-use Rattle.lines.proofs.Lookups.{place-in}
+use Rattle.lines.proofs.Lookups.{place-in, groups-verdict, groups-words}
 
 pub same-place : (f : Found) (i j : ℕ) → f ≡ At i → f ≡ At j → i ≡ j
 same-place f i j p q = cc
@@ -75,26 +76,26 @@ one-right values (At i) next e = (put (isPut (valueHeld values i .kept)) e, (i, 
     put true e = e
     put false e = let z : _≡_ {A = ℕ} 0 1 = cc in absurd (omega arith)
 
-first-right : (values : List Value) (n : ℕ) (g : List ℕ) → getVerdict values (suc n) g ≡ Accepted
-    → (getVerdict values n (drop 5 g) ≡ Accepted) × Named (placeNamed (getD g 3 0) (getD g 4 0))
-unfolding getVerdict
-first-right values n g e = one-right values (placeNamed (getD g 3 0) (getD g 4 0)) (getVerdict values n (drop 5 g)) e
+first-right : (values : List Value) (n : ℕ) (g : List ℕ) → groupsVerdict values (suc n) g ≡ Accepted
+    → (groupsVerdict values n (drop 5 g) ≡ Accepted) × Named (placeNamed (getD g 3 0) (getD g 4 0))
+unfolding groupsVerdict
+first-right values n g e = one-right values (placeNamed (getD g 3 0) (getD g 4 0)) (groupsVerdict values n (drop 5 g)) e
 
-pub words-long : (wide : Bool) (values : List Value) (n : ℕ) (g : List ℕ) → getVerdict values n g ≡ Accepted
-    → length (getWords wide values n g) ≡ n * wordSize wide
-unfolding getWords
+pub words-long : (wide : Bool) (values : List Value) (n : ℕ) (g : List ℕ) → groupsVerdict values n g ≡ Accepted
+    → length (groupsWords wide values n g) ≡ n * wordSize wide
+unfolding groupsWords
 words-long wide values zero g e = sym (zero-mul (wordSize wide))
 words-long wide values (suc n) g e =
     let r = first-right values n g e in
     let i = r .1 .0 in
     let w = wordIn wide (getWord i (valueHeld values i .kept)) in
     rw (r .1 .1)
-    (length-append w (getWords wide values n (drop 5 g))
+    (length-append w (groupsWords wide values n (drop 5 g))
     ∙ rw (word-long wide i (valueHeld values i .kept), words-long wide values n (drop 5 g) (r .0), suc-mul n (wordSize wide), add-comm (n * wordSize wide) (wordSize wide)))
 
 words-more : (wide : Bool) (values : List Value) (m n : ℕ) (g : List ℕ) (i : ℕ) → m ≡ suc n → placeNamed (getD g 3 0) (getD g 4 0) ≡ At i
-    → getWords wide values m g ≡ wordIn wide (getWord i (valueHeld values i .kept)) ++ getWords wide values n (drop 5 g)
-unfolding getWords
+    → groupsWords wide values m g ≡ wordIn wide (getWord i (valueHeld values i .kept)) ++ groupsWords wide values n (drop 5 g)
+unfolding groupsWords
 words-more wide values m n g i z e = rw (z, e)
 
 -- some words of GET are laid down, and those of the groups from i on are left
@@ -102,12 +103,12 @@ pub record Got (wide : Bool) (values : List Value) (g room₀ room : List ℕ) (
   pub done : List ℕ
   pub left : ℕ
   pub long : length g ≡ i + 5 * left
-  pub accepted : getVerdict values left (drop i g) ≡ Accepted
-  pub whole : getWords wide values (groupsIn g) g ≡ done ++ getWords wide values left (drop i g)
+  pub accepted : groupsVerdict values left (drop i g) ≡ Accepted
+  pub whole : groupsWords wide values (groupsIn g) g ≡ done ++ groupsWords wide values left (drop i g)
   pub here : at ≡ length done
   pub stands : room ≡ done ++ drop (length done) room₀
 
-module _ (wide : Bool) (values : List Value) (g room₀ : List ℕ) (fit : GetFits values g (getWords wide values (groupsIn g) g) room₀) where
+module _ (wide : Bool) (values : List Value) (g room₀ : List ℕ) (fit : GetFits values g (groupsWords wide values (groupsIn g) g) room₀) where
   pub got-none : Got wide values g room₀ room₀ 0 0
   got-none = record {
     done = [];
@@ -122,7 +123,7 @@ module _ (wide : Bool) (values : List Value) (g room₀ : List ℕ) (fit : GetFi
   module _ (room : List ℕ) (i at : ℕ) (h : Got wide values g room₀ room i at) where
     got-fits : (at + h .left * wordSize wide ≤ length room₀) × (length room ≡ length room₀)
     got-fits =
-        let all = ap length (h .whole) ∙ length-append (h .done) (getWords wide values (h .left) (drop i g)) in
+        let all = ap length (h .whole) ∙ length-append (h .done) (groupsWords wide values (h .left) (drop i g)) in
         let rest = words-long wide values (h .left) (drop i g) (h .accepted) in
         let into : at + h .left * wordSize wide ≤ length room₀ = omega (arith, fit .fits, h .here) in
         (into, length-on (h .done) room₀ room (omega (arith, h .here)) (h .stands))
@@ -136,12 +137,12 @@ module _ (wide : Bool) (values : List Value) (g room₀ : List ℕ) (fit : GetFi
         let more : h .left * wordSize wide ≡ (h .left - 1) * wordSize wide + wordSize wide = ap (λ (n : ℕ). n * wordSize wide) z ∙ suc-mul (h .left - 1) (wordSize wide) in
         omega (arith, got-fits .0, more)
 
-    pub got-all : length g ≤ i → room ≡ laid (getWords wide values (groupsIn g) g) room₀
-    unfolding getWords
+    pub got-all : length g ≤ i → room ≡ laid (groupsWords wide values (groupsIn g) g) room₀
+    unfolding groupsWords
     got-all e =
         let z : h .left ≡ 0 = omega (arith, h .long) in
-        let none : getWords wide values (h .left) (drop i g) ≡ [] = rw z in
-        let is : getWords wide values (groupsIn g) g ≡ h .done = h .whole ∙ rw (none, append-nil) in
+        let none : groupsWords wide values (h .left) (drop i g) ≡ [] = rw z in
+        let is : groupsWords wide values (groupsIn g) g ≡ h .done = h .whole ∙ rw (none, append-nil) in
         rw is (h .stands ∙ sym (laid-fits (h .done) room₀ (omega (arith, got-fits .0, h .here))))
 
     -- the next group names a value
@@ -209,26 +210,29 @@ module _ (s : State) (t : List ℕ) (o : Order) (e : o ≡ order.Get) (is : o �
   pub get-length : 5 ≤ length t
   get-length = order-get t (sym is ∙ e) .0
 
-  get-judged : getVerdict (s .values) (groupsIn (drop 5 t)) (drop 5 t) ≡ Accepted
-  get-judged = rw e at v
+  get-groups : groupsRight (groupsIn (drop 5 t)) (drop 5 t) ≡ true
+  get-groups = order-get t (sym is ∙ e) .1
 
-  pub get-body : bodyOf s t o ≡ getBody (isWide s) (s .values) (groupsIn (drop 5 t)) (drop 5 t)
-  get-body = rw e
+  get-judged : groupsVerdict (s .values) (groupsIn (drop 5 t)) (drop 5 t) ≡ Accepted
+  get-judged = groups-verdict (s .values) (groupsIn (drop 5 t)) (drop 5 t) get-groups ∙ (rw e at v)
 
-  pub get-body-long : length (bodyOf s t o) ≡ getN (isWide s) ((length t - 5) / 5)
+  pub get-body : bodyOf s t o ≡ groupsBody (answersWide s) (s .values) (groupsIn (drop 5 t)) (drop 5 t)
+  get-body = rw (e, groups-words (s .values) (answersWide s) (groupsIn (drop 5 t)) (drop 5 t) get-groups)
+
+  pub get-body-long : length (bodyOf s t o) ≡ getN (answersWide s) ((length t - 5) / 5)
   get-body-long =
       let g = drop 5 t in
       let n : groupsIn g ≡ (length t - 5) / 5 = ap (λ (k : ℕ). k / 5) (length-drop 5 t) in
       ap length get-body
-      ∙ length-append (star (isWide s)) (getWords (isWide s) (s .values) (groupsIn g) g)
-      ∙ rw (words-long (isWide s) (s .values) (groupsIn g) g get-judged, n)
+      ∙ length-append (star (answersWide s)) (groupsWords (answersWide s) (s .values) (groupsIn g) g)
+      ∙ rw (words-long (answersWide s) (s .values) (groupsIn g) g get-judged, n)
 
   pub get-fits : (room : List ℕ) → length (bodyOf s t o) + length (replyEnd s) ≤ length room →
       let g = take (length t - 5) (drop 5 t) in
-      GetFits (s .values) g (getBody (isWide s) (s .values) (groupsIn g) g) room
+      GetFits (s .values) g (groupsBody (answersWide s) (s .values) (groupsIn g) g) room
   get-fits room f =
       rw (to-end 5 t)
-      record { groups = order-get t (sym is ∙ e) .1; accepted = get-judged; fits = omega (arith, ap length get-body) }
+      record { groups = get-groups; accepted = get-judged; fits = omega (arith, ap length get-body) }
 
 -- a text is the reply, and a flag says how it ends
 pub reply-fits : (s : State) (t : List ℕ) (o : Order) (w : List ℕ) (lf : Bool) (n : ℕ) → w ≡ bodyOf s t o → lf ≡ endsLf s
@@ -242,7 +246,7 @@ reply-laid s t o w lf room last ew el h = h ∙ rw (ew, el)
 -- the words of a line of at most a hundred characters: nineteen
 
 abbrev pub bodyMost : Bool → ℕ
-bodyMost wide = cond wide 457 304
+bodyMost wide = getN wide 19
 
 pub body-most : (wide : Bool) → bodyMost wide ≤ 457
 body-most true = omega arith
@@ -258,15 +262,15 @@ some-few false n h = omega arith
 
 -- so such a line has a short reply
 pub body-short : (s : State) (t : List ℕ) (o : Order) → o ≡ orderOf t → orderVerdict s t o ≡ Accepted → length t ≤ 100
-    → length (bodyOf s t o) ≤ bodyMost (isWide s)
-body-short s t order.Not is v h = some-few (isWide s) 0 (omega arith)
-body-short s t (order.Set n p) is v h = some-few (isWide s) 1 (omega arith)
-body-short s t (order.Conf n) is v h = some-few (isWide s) _ (omega (arith, conf-body-long s t (order.Conf n) n refl v))
-body-short s t order.Put is v h = some-few (isWide s) 1 (omega arith)
+    → length (bodyOf s t o) ≤ bodyMost (answersWide s)
+body-short s t order.WrongShape is v h = some-few (answersWide s) 0 (omega arith)
+body-short s t (order.Set n p) is v h = some-few (answersWide s) 1 (omega arith)
+body-short s t (order.Conf n) is v h = some-few (answersWide s) _ (omega (arith, conf-body-long s t (order.Conf n) n refl v))
+body-short s t order.Put is v h = some-few (answersWide s) 1 (omega arith)
 body-short s t order.Get is v h =
     let long = get-body-long s t order.Get refl is v in
-    let few = words-few (isWide s) ((length t - 5) / 5) (omega arith) in
+    let few = words-few (answersWide s) ((length t - 5) / 5) (omega arith) in
     omega (arith, long, few)
-body-short s t order.Undo is v h = some-few (isWide s) 1 (omega arith)
-body-short s t order.Keep is v h = some-few (isWide s) 1 (omega arith)
-body-short s t order.Unknown is v h = some-few (isWide s) 0 (omega arith)
+body-short s t order.Undo is v h = some-few (answersWide s) 1 (omega arith)
+body-short s t order.Keep is v h = some-few (answersWide s) 1 (omega arith)
+body-short s t order.NoKeyword is v h = some-few (answersWide s) 0 (omega arith)

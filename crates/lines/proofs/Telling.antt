@@ -1,12 +1,12 @@
 -- What a line's verdict tells beside its number: "26 also tells which of 6 to 10 it was, with the byte in the line" (request 104), and no other tells either.
-use Prim.Native.Nat.{ℕ, zero, suc, _+_, _<_, _≤_}
+use Prim.Native.Nat.{ℕ, _+_, _<_, _≤_}
 use mathlib.Core.Path.{_≡_, refl, sym, _∙_}
 use mathlib.Core.Bool.{Bool, true, false, cond, _&&_}
-use mathlib.Core.List.{List, []}
+use mathlib.Core.List.{List, [], _∷_}
 use native.Mathlib.Omega.{arith}
 use borrow.Author.Tests.{eqb-true, eq-eqb, ne-eqb}
 use lib.Dec.{eqb, leb}
-use lib.ListN.{length, getD, drop, length-drop}
+use lib.ListN.{length, drop, length-drop}
 use Rattle.figures.specs.Bytes.{within}
 use Rattle.figures.proofs.Bytes.{within-bounds, bounds-within}
 use Rattle.figures.proofs.Tests.{both, by-test}
@@ -15,18 +15,17 @@ use Rattle.words.specs.Reading.{faultNumber, pos}
 use Rattle.words.specs.declared.reading.Judged.{Judged}
 use Rattle.words.specs.declared.reading.Judged.the-variants.{Right, Wrong}
 use Rattle.instrument.specs.Settings.{rowAt, settingPlace, isAsked, inRange}
-use Rattle.instrument.specs.Values.{putJudged, isPut}
-use Rattle.instrument.specs.declared.settings.Series.{Series}
+use Rattle.instrument.specs.Values.{valuePlace, putJudged, isPut}
 use Rattle.instrument.specs.declared.settings.Found.{Found}
 use Rattle.instrument.specs.declared.settings.Found.the-variants.{Nothing, At}
 use Rattle.instrument.specs.declared.values.Value.{Value}
 use Rattle.instrument.proofs.Which.{put-which, put-within}
-use Rattle.state.specs.Entries.{entriesN}
+use Rattle.state.specs.Entries.{entriesN, valueHeld}
 use Rattle.state.specs.Image.{stateIn, isImage}
 use Rattle.state.specs.declared.entries.State.{State}
-use Rattle.commands.specs.Shapes.{isEnded, textOf, groupsIn, orderOf}
-use Rattle.lines.specs.Verdicts.{verdictNumber, verdictWhich, verdictByte, fullVerdict, setBy, confBy, placeNamed, valueHeld}
-use Rattle.lines.specs.Verdicts.{afterWord, putBy, putVerdict, getBy, getVerdict, orderVerdict, lineVerdict}
+use Rattle.commands.specs.Shapes.{isEnded, textOf, indexesOf, orderOf}
+use Rattle.lines.specs.Verdicts.{verdictNumber, verdictWhich, verdictByte, fullVerdict, setBy, confBy, placeNamed}
+use Rattle.lines.specs.Verdicts.{wordVerdict, putBy, putVerdict, getBy, getVerdict, orderVerdict, lineVerdict}
 use Rattle.lines.specs.Machine.{outcome, run, step, told, played, call}
 use Rattle.commands.specs.declared.shapes.Order.{Order}
 use Rattle.lines.specs.declared.verdicts.Verdict.{Verdict}
@@ -50,10 +49,11 @@ cond-tells false v w p q = q
 full-tells : (count : ℕ) → Tells (fullVerdict count)
 full-tells count = cond-tells (leb entriesN count) Full Accepted refl refl
 
-set-tells : (k : Series) (count p : ℕ) (f : Found) → Tells (setBy k count p f)
-set-tells k count p Nothing = refl
-set-tells k count p (At i) =
-    cond-tells (isAsked (rowAt k i)) ReadOnly _ refl (cond-tells (inRange (rowAt k i) p) (fullVerdict count) Parameter (full-tells count) refl)
+set-tells : (s : State) (p : ℕ) (f : Found) → Tells (setBy s p f)
+set-tells s p Nothing = refl
+set-tells s p (At i) =
+    let row = rowAt (s .series) i in
+    cond-tells (isAsked row) ReadOnly _ refl (cond-tells (inRange row p) (fullVerdict (s .count)) Parameter (full-tells (s .count)) refl)
 
 conf-tells : (f : Found) → Tells (confBy f)
 conf-tells Nothing = refl
@@ -63,7 +63,7 @@ conf-tells (At i) = refl
 put-tells : (count : ℕ) (word : List ℕ) → length word ≡ 16 → Tells (putVerdict count word)
 put-tells count word long = go (placeNamed (pos 1 word) (pos 2 word)) refl
   where
-    by : (i : ℕ) (j : Judged) → placeNamed (pos 1 word) (pos 2 word) ≡ At i → putJudged i word ≡ j → Tells (afterWord count j)
+    by : (i : ℕ) (j : Judged) → placeNamed (pos 1 word) (pos 2 word) ≡ At i → putJudged i word ≡ j → Tells (wordVerdict count j)
     by i Right f e = full-tells count
     by i (Wrong x at) f e =
         let digits = named (pos 1 word) (pos 2 word) i f in
@@ -75,12 +75,11 @@ put-tells count word long = go (placeNamed (pos 1 word) (pos 2 word)) refl
     go Nothing e = refl
     go (At i) e = by i (putJudged i word) e refl
 
-get-tells : (values : List Value) (n : ℕ) (g : List ℕ) → Tells (getVerdict values n g)
-unfolding getVerdict
-get-tells values zero g = refl
-get-tells values (suc n) g = by (placeNamed (getD g 3 0) (getD g 4 0)) (get-tells values n (drop 5 g))
+get-tells : (values : List Value) (indexes : List ℕ) → Tells (getVerdict values indexes)
+get-tells values [] = refl
+get-tells values (n ∷ ns) = by (valuePlace n) (get-tells values ns)
   where
-    by : (f : Found) → Tells (getVerdict values n (drop 5 g)) → Tells (getBy values f (getVerdict values n (drop 5 g)))
+    by : (f : Found) → Tells (getVerdict values ns) → Tells (getBy values f (getVerdict values ns))
     by Nothing later = refl
     by (At i) later = cond-tells (isPut (valueHeld values i .kept)) _ NeverPut later refl
 
@@ -89,10 +88,10 @@ line-tells s line =
     let t = textOf line in
     let order : Tells (orderVerdict s t (orderOf t)) =
     order-by (λ (o : Order). Tells (orderVerdict s t o)) t refl refl
-    (λ _ n p. set-tells (s .series) (s .count) p (settingPlace (s .series) n))
+    (λ _ n p. set-tells s p (settingPlace (s .series) n))
     (λ n. conf-tells (settingPlace (s .series) n))
     (λ _ long. put-tells (s .count) (drop 4 t) (omega (arith, length-drop 4 t)))
-    (λ _ _. get-tells (s .values) (groupsIn (drop 5 t)) (drop 5 t))
+    (λ _ _. get-tells (s .values) (indexesOf t))
     (λ _. cond-tells (eqb (s .count) 0) NoEntry Accepted refl refl)
     (λ _. refl) in
     cond-tells (isEnded line) _ Unended (cond-tells (leb (length t) 100) _ Long order refl) refl

@@ -1,87 +1,71 @@
--- How a state follows what stands of the calls: the entries taken back, newest first, strike the unstruck lines after the last KEEP, newest first.
+-- How a state follows what stands of the calls: the entries taken back, newest first, strike the unstruck changes after the last KEEP, newest first.
 use Prim.Native.Nat.{ℕ, _<_}
-use mathlib.Core.Path.{_≡_, refl, sym, ap, subst, _∙_}
+use mathlib.Core.Path.{_≡_, refl, sym, ap, subst}
 use mathlib.Core.Bool.{true, cond}
 use mathlib.Core.List.{List, [], _∷_}
 use native.Mathlib.Omega.{arith}
 use borrow.Author.Tests.{eq-eqb, ne-eqb}
-use lib.ListN.{drop}
-use Rattle.instrument.specs.Values.{putKept}
-use Rattle.state.specs.Entries.{isState}
+use Rattle.state.specs.Entries.{Contents, contentsOf, isState}
 use Rattle.state.specs.declared.entries.State.{State}
-use Rattle.commands.specs.Shapes.{textOf, orderOf}
-use Rattle.lines.specs.Verdicts.{isAccepted, undoVerdict, orderVerdict}
-use Rattle.lines.specs.Orders.{setOf, putOf, undoOf, doneOf}
+use Rattle.lines.specs.Verdicts.{isAccepted, undoVerdict}
+use Rattle.lines.specs.Orders.{stores, undoOf, Deed, asks, changes, undoes, keeps, lineDeed, doneOf}
 use Rattle.lines.specs.Machine.{Outcome, step}
-use Rattle.lines.specs.Demand.{Call, Contents, contentsOf, setting, value, stores, play, playAll, after}
-use Rattle.lines.specs.Demand.{Mark, stored, kept, strike, mark, marked, marks, stands}
-use Rattle.commands.specs.declared.shapes.Order.{Order}
-use Rattle.commands.specs.declared.shapes.Order.the-variants.{Not, Set, Conf, Put, Get, Undo, Keep, Unknown}
+use Rattle.lines.specs.Sessions.{session, Call}
+use Rattle.lines.specs.Demand.{Mark, changed, kept, strike, mark, marked, playAll, stands, Followed, follows}
 use Rattle.lines.specs.declared.verdicts.Verdict.the-variants.{Accepted, NoEntry}
-use Rattle.lines.proofs.Parts.{Parts, parts}
-use Rattle.lines.proofs.Undone.{undo-set, undo-put}
-use Rattle.lines.proofs.Runs.{Comes, stays, runs, comes, set-runs, put-runs, undo-some}
+use Rattle.lines.proofs.Deeds.{May, undo-changed}
+use Rattle.lines.proofs.Runs.{Comes, stays, runs, comes}
 use Rattle.lines.proofs.States.{step-state}
+use Rattle.lines.proofs.Sessions.{lasts}
 
 abbrev pub Tracks : Contents → State → List Mark → Type 0
 Tracks c s [] = (s .count ≡ 0) × (contentsOf s ≡ c)
-Tracks c s (stored line ∷ ms) = (0 < s .count) × (contentsOf s ≡ play (playAll c ms) line) × Tracks c (undoOf s) ms
+Tracks c s (changed d ∷ ms) = (0 < s .count) × (contentsOf s ≡ stores (playAll c ms) d) × Tracks c (undoOf s) ms
 Tracks c s (kept ∷ ms) = (s .count ≡ 0) × (contentsOf s ≡ playAll c ms)
 
 module _ (c : Contents) where
   pub contents : (s : State) (ms : List Mark) → Tracks c s ms → contentsOf s ≡ playAll c ms
   unfolding playAll
   contents s [] t = t .1
-  contents s (stored line ∷ ms) t = t .1
+  contents s (changed d ∷ ms) t = t .1
   contents s (kept ∷ ms) t = t .1
 
-  -- an UNDO takes an entry back where a line stands to be struck
+  -- an UNDO takes an entry back where a change stands to be struck
   pub undo-stands : (s : State) (ms : List Mark) → Tracks c s ms → undoVerdict (s .count) ≡ cond (stands ms) Accepted NoEntry
   undo-stands s [] t = rw (eq-eqb (s .count) 0 (t .0))
-  undo-stands s (stored line ∷ ms) t = rw (ne-eqb (s .count) 0 (λ e. omega (arith, t .0)))
+  undo-stands s (changed d ∷ ms) t = rw (ne-eqb (s .count) 0 (λ e. omega (arith, t .0)))
   undo-stands s (kept ∷ ms) t = rw (eq-eqb (s .count) 0 (t .0))
-
-  -- a line more, which its entry takes back
-  stored-more : (s s′ : State) (ms : List Mark) (line : List ℕ) → Tracks c s ms → 0 < s′ .count → undoOf s′ ≡ s → contentsOf s′ ≡ play (contentsOf s) line
-      → Tracks c s′ (stored line ∷ ms)
-  stored-more s s′ ms line t some back same =
-      (some, same ∙ ap (λ (d : Contents). play d line) (contents s ms t), subst (λ (r : State). Tracks c r ms) (sym back) t)
 
   struck : (s : State) (ms : List Mark) → (s .count ≡ 0 → ⊥) → Tracks c s ms → Tracks c (undoOf s) (strike ms)
   unfolding strike
   struck s [] some t = absurd (some (t .0))
-  struck s (stored line ∷ ms) some t = t .2
+  struck s (changed d ∷ ms) some t = t .2
   struck s (kept ∷ ms) some t = absurd (some (t .0))
 
-  done-tracks : (s : State) (ms : List Mark) (line : List ℕ) (o : Order) → orderOf (textOf line) ≡ o → orderVerdict s (textOf line) o ≡ Accepted
-      → Parts s → Tracks c s ms → Tracks c (doneOf s (textOf line) o) (mark ms line o)
-  done-tracks s ms line Not e v p t = t
-  done-tracks s ms line (Set n q) e v p t =
-      let r = set-runs s n q v in
-      let same = sym (ap (stores (contentsOf s) (textOf line)) e ∙ ap (setting (contentsOf s) q) (r .found)) in
-      rw (r .found) (stored-more s (setOf s (r .at) q) ms line t (omega arith) (undo-set s (r .at) q p (r .free)) same)
-  done-tracks s ms line (Conf n) e v p t = t
-  done-tracks s ms line Put e v p t =
-      let word = drop 4 (textOf line) in
-      let k = putKept word in
-      let r = put-runs s word v in
-      let same = sym (ap (stores (contentsOf s) (textOf line)) e ∙ ap (value (contentsOf s) k) (r .found)) in
-      rw (r .found) (stored-more s (putOf s (r .at) k) ms line t (omega arith) (undo-put s (r .at) k p (r .free)) same)
-  done-tracks s ms line Get e v p t = t
-  done-tracks s ms line Undo e v p t = struck s ms (undo-some (s .count) v) t
-  done-tracks s ms line Keep e v p t = (refl, contents s ms t)
-  done-tracks s ms line Unknown e v p t = t
+  -- what is done, whatever line or other call did it
+  pub done-tracks : (s : State) (ms : List Mark) (d : Deed) → isState s ≡ true → May s d → Tracks c s ms → Tracks c (doneOf s d) (mark ms d)
+  done-tracks s ms asks is m t = t
+  done-tracks s ms (changes d) is m t = (
+    omega arith,
+    ap (λ (b : Contents). stores b d) (contents s ms t),
+    subst (λ (r : State). Tracks c r ms) (sym (undo-changed s d is (m .0))) t,
+  )
+  done-tracks s ms undoes is m t = struck s ms m t
+  done-tracks s ms keeps is m t = (refl, contents s ms t)
 
-  next-tracks : (s : State) (ms : List Mark) (line : List ℕ) (o : Outcome) → Comes s line o → Parts s → Tracks c s ms
-      → Tracks c (o .next) (cond (isAccepted (o .verdict)) (mark ms line (orderOf (textOf line))) ms)
-  next-tracks s ms line o (stays v e) p t = rw v (subst (λ (d : State). Tracks c d ms) (sym e) t)
-  next-tracks s ms line o (runs a v e) p t =
-      rw a
-      (subst (λ (d : State). Tracks c d (mark ms line (orderOf (textOf line)))) (sym e) (done-tracks s ms line (orderOf (textOf line)) refl v p t))
+  next-tracks : (s : State) (ms : List Mark) (line : List ℕ) (o : Outcome) → Comes s line o → isState s ≡ true → Tracks c s ms
+      → Tracks c (o .next) (cond (isAccepted (o .verdict)) (mark ms (lineDeed (s .series) line)) ms)
+  next-tracks s ms line o (stays v e) is t = rw v (subst (λ (r : State). Tracks c r ms) (sym e) t)
+  next-tracks s ms line o (runs a m e) is t =
+      let deed = lineDeed (s .series) line in
+      rw a (subst (λ (r : State). Tracks c r (mark ms deed)) (sym e) (done-tracks s ms deed is m t))
 
-  pub tracks : (s : State) (cs : List Call) (ms : List Mark) → isState s ≡ true → Tracks c s ms → Tracks c (after s cs) (marks s cs ms)
-  unfolding after marks
-  tracks s [] ms e t = t
-  tracks s (d ∷ cs) ms e t =
-      let o = step s (d .line) (d .room) in
-      tracks (o .next) cs (marked s d ms) (step-state s (d .line) (d .room) e) (next-tracks s ms (d .line) o (comes s (d .line) (d .room)) (parts s e) t)
+  pub step-tracks : (s : State) (ms : List Mark) (d : Call) → isState s ≡ true → Tracks c s ms → Tracks c (step s (d .line) (d .room) .next) (marked s d ms)
+  step-tracks s ms d is t = next-tracks s ms (d .line) (step s (d .line) (d .room)) (comes s (d .line) (d .room)) is t
+
+  abbrev pub Follows : Followed → Type 0
+  Follows f = (isState (f .state) ≡ true) × Tracks c (f .state) (f .standing)
+
+  pub tracks : (f : Followed) (cs : List Call) → Follows f → Follows (session follows f cs .left)
+  tracks f cs h =
+      lasts follows Follows (λ g d k. (step-state (g .state) (d .line) (d .room) (k .0), step-tracks (g .state) (g .standing) d (k .0) (k .1))) f cs h

@@ -1,118 +1,171 @@
--- Machines that are shut out: those that aren't `step`, and those that fail demand 3 on two lines at most.
-use Prim.Native.Nat.{ℕ, _+_}
-use mathlib.Core.Path.{_≡_, refl, sym, ap, _∙_}
+-- Machines that are shut out, on each series by itself: those that aren't `step`, and those that fail demand 3 on two lines at most.
+use Prim.Native.Nat.{ℕ, _+_, _≤_}
+use mathlib.Core.Path.{_≡_, refl, sym, ap, subst, _∙_}
 use mathlib.Core.Bool.{Bool, true, false, cond, false≢true}
 use mathlib.Core.List.{List, [], _∷_, _++_}
 use borrow.Author.Tests.{eqb-false}
 use lib.Dec.{eqb}
-use lib.ListN.{length, getD}
+use lib.ListN.{length}
+use Rattle.figures.specs.Text.{codes}
 use Rattle.figures.specs.Bytes.{every, startsWith, runOf}
 use Rattle.figures.specs.Decimal.{numberFrom}
 use Rattle.instrument.specs.Rows.{seek}
-use Rattle.instrument.specs.Settings.{rows100}
-use Rattle.instrument.specs.declared.settings.Series.the-variants.{Tps100}
-use Rattle.state.specs.Entries as entries
+use Rattle.instrument.specs.Settings.{rows100, rows300, parameterOf}
+use Rattle.instrument.specs.declared.settings.Series.{Series}
+use Rattle.instrument.specs.declared.settings.Series.the-variants.{Tps100, Tps300}
+use Rattle.state.specs.Entries.{factoryState, Contents, contentsOf, isState}
 use Rattle.state.specs.declared.entries.State.{State}
-use Rattle.commands.specs.Shapes.{textOf, orderOf}
+use Rattle.state.proofs.Images.{factory-is-state}
+use Rattle.commands.specs.Shapes.{isEnded, textOf, orderOf}
 use Rattle.lines.specs.Verdicts.{isAccepted}
+use Rattle.lines.specs.Orders.{Deed, asks, changes, undoes, keeps, lineDeed}
 use Rattle.lines.specs.Replies.{replyEnd, done}
-use Rattle.lines.specs.Machine.{Outcome, outcome, step}
-use Rattle.lines.specs.Demand.{Call, after, Contents, contentsOf, Mark, strike, mark, marked, marks, playAll}
-use Rattle.commands.specs.declared.shapes.Order.{Order}
-use Rattle.commands.specs.declared.shapes.Order.the-variants.{Not, Set, Conf, Put, Get, Undo, Keep, Unknown}
-use Rattle.lines.specs.Demand.{Start}
+use Rattle.lines.specs.Machine.{Outcome, outcome, run, step}
+use Rattle.lines.specs.Sessions.{Exchange, session, Call}
+use Rattle.lines.specs.Demand.{Start, Mark, strike, mark, playAll, stands, Followed, follows}
+use Rattle.commands.specs.declared.shapes.Order.the-variants.{Undo}
+use Rattle.lines.proofs.Sessions.{alike-calls}
+use Rattle.lines.proofs.Calling.{step-series}
+use Rattle.lines.proofs.States.{step-state}
 use Rattle.lines.proofs.Starts.{factory-start}
-use Rattle.lines.proofs.Demand.{played}
+use Rattle.lines.proofs.Tracks.{contents}
+use Rattle.lines.proofs.Demand.{fresh, start-follows, undo-by}
 
 -- what it does with a line and a room, where so many calls came before
 abbrev pub Machine : Type 0
 Machine = ℕ → State → List ℕ → ℕ → Outcome
 
--- it does what `step` says
-abbrev pub Exact : Machine → Type 0
-Exact m = (k : ℕ) (s : State) (line : List ℕ) (room : ℕ) → m k s line room ≡ step s line room
+-- it does what `step` says, on every state of a series
+abbrev pub Exact : Series → Machine → Type 0
+Exact k m = (n : ℕ) (s : State) → isState s ≡ true → s .series ≡ k → (line : List ℕ) (room : ℕ) → m n s line room ≡ step s line room
 
-unfoldable pub afterBy : Machine → ℕ → State → List Call → State
-afterBy m k s [] = s
-afterBy m k s (c ∷ cs) = afterBy m (k + 1) (m k s (c .line) (c .room) .next) cs
+-- how many calls came, the state, and what stands of them
+pub record Counted : Type 0 where
+  pub calls : ℕ
+  pub state : State
+  pub standing : List Mark
 
-abbrev pub markedBy : Outcome → Call → List Mark → List Mark
-markedBy o c ms = cond (isAccepted (o .verdict)) (mark ms (c .line) (orderOf (textOf (c .line)))) ms
+abbrev pub counts : Machine → Counted → Call → Exchange Counted
+counts m f c =
+    let o = m (f .calls) (f .state) (c .line) (c .room) in
+    let ms = cond (isAccepted (o .verdict)) (mark (f .standing) (lineDeed (f .state .series) (c .line))) (f .standing) in
+    record { left = record { calls = f .calls + 1; state = o .next; standing = ms }; reply = o .reply }
 
-unfoldable pub marksBy : Machine → ℕ → State → List Call → List Mark → List Mark
-marksBy m k s [] ms = ms
-marksBy m k s (c ∷ cs) ms = marksBy m (k + 1) (m k s (c .line) (c .room) .next) cs (markedBy (m k s (c .line) (c .room)) c ms)
+abbrev pub leftBy : Machine → State → List Call → Counted
+leftBy m s cs = session (counts m) (record { calls = 0; state = s; standing = [] }) cs .left
 
--- settings and stored values are those got by playing the unstruck lines in order
-abbrev pub Plays : Machine → Type 0
-Plays m = (s : State) → Start s → (cs : List Call) → contentsOf (afterBy m 0 s cs) ≡ playAll (contentsOf s) (marksBy m 0 s cs [])
+-- demand 3, from every start of a series: settings and stored values are those got by playing the unstruck changes in order, and an UNDO whose reply
+-- fits is accepted exactly when one stands after the last KEEP
+pub record Plays (k : Series) (m : Machine) : Type 0 where
+  pub contents : (s : State) → Start s → s .series ≡ k → (cs : List Call) → contentsOf (leftBy m s cs .state) ≡ playAll (contentsOf s) (leftBy m s cs .standing)
+  pub undo : (s : State) → Start s → s .series ≡ k → (cs : List Call) (line : List ℕ) (room : ℕ) → let f = leftBy m s cs in
+      isEnded line ≡ true → orderOf (textOf line) ≡ Undo → length (run (f .state) line .reply) ≤ room
+      → isAccepted (m (f .calls) (f .state) line room .verdict) ≡ stands (f .standing)
 
-module _ (m : Machine) (exact : Exact m) where
-  pub after-is : (k : ℕ) (s : State) (cs : List Call) → afterBy m k s cs ≡ after s cs
-  unfolding afterBy after
-  after-is k s [] = refl
-  after-is k s (c ∷ cs) =
-      ap (λ (o : Outcome). afterBy m (k + 1) (o .next) cs) (exact k s (c .line) (c .room)) ∙ after-is (k + 1) (step s (c .line) (c .room) .next) cs
+module _ (k : Series) (m : Machine) (exact : Exact k m) where
+  -- an exact machine goes as `step` does
+  abbrev Agrees : Counted → Followed → Type 0
+  Agrees f g = (f .state ≡ g .state) × (f .standing ≡ g .standing) × (isState (g .state) ≡ true) × (g .state .series ≡ k)
 
-  pub marks-is : (k : ℕ) (s : State) (cs : List Call) (ms : List Mark) → marksBy m k s cs ms ≡ marks s cs ms
-  unfolding marksBy marks
-  marks-is k s [] ms = refl
-  marks-is k s (c ∷ cs) ms =
-      ap (λ (o : Outcome). marksBy m (k + 1) (o .next) cs (markedBy o c ms)) (exact k s (c .line) (c .room))
-      ∙ marks-is (k + 1) (step s (c .line) (c .room) .next) cs (marked s c ms)
+  agrees : (f : Counted) (g : Followed) (c : Call) → Agrees f g → Agrees (counts m f c .left) (follows g c .left) × (counts m f c .reply ≡ follows g c .reply)
+  agrees f g c h =
+      let s = g .state in
+      let ds = lineDeed (s .series) (c .line) in
+      let is : m (f .calls) (f .state) (c .line) (c .room) ≡ step s (c .line) (c .room) =
+      ap (λ (t : State). m (f .calls) t (c .line) (c .room)) (h .0) ∙ exact (f .calls) s (h .2) (h .3) (c .line) (c .room)
+      in
+      let marks : counts m f c .left .standing ≡ follows g c .left .standing =
+      λ i. cond (isAccepted (is i .verdict)) (mark (h .1 i) (lineDeed (h .0 i .series) (c .line))) (h .1 i)
+      in (
+        (ap (λ (o : Outcome). o .next) is, marks, step-state s (c .line) (c .room) (h .2), step-series s (c .line) (c .room) ∙ h .3),
+        ap (λ (o : Outcome). o .reply) is,
+      )
 
-  pub exact-plays : Plays m
-  exact-plays s start cs = ap contentsOf (after-is 0 s cs) ∙ played s start cs ∙ ap (playAll (contentsOf s)) (sym (marks-is 0 s cs []))
+  agreed : (s : State) → Start s → s .series ≡ k → (cs : List Call) → Agrees (leftBy m s cs) (session follows (fresh s) cs .left)
+  agreed s start e cs = alike-calls (counts m) follows Agrees agrees (record { calls = 0; state = s; standing = [] }) (fresh s) cs (refl, refl, start .state, e) .0
 
-pub step-plays : Plays (λ k. step)
-step-plays = exact-plays (λ k. step) (λ k s line room. refl)
+  pub exact-plays : Plays k m
+  exact-plays =
+      record {
+        contents = λ s start e cs.
+            let g = agreed s start e cs in
+            let f = session follows (fresh s) cs .left in
+            ap contentsOf (g .0) ∙ contents (contentsOf s) (f .state) (f .standing) (start-follows s start cs .1) ∙ ap (playAll (contentsOf s)) (sym (g .1));
+        undo = λ s start e cs line room plain undo fits.
+            let g = agreed s start e cs in
+            let n = leftBy m s cs .calls in
+            let f = session follows (fresh s) cs .left in
+            ap (λ (t : State). isAccepted (m n t line room .verdict)) (g .0)
+            ∙ ap (λ (o : Outcome). isAccepted (o .verdict)) (exact n (f .state) (g .2) (g .3) line room)
+            ∙ undo-by line plain undo (contentsOf s) (f .state) (f .standing) (start-follows s start cs .1) room
+            (subst (λ (t : State). length (run t line .reply) ≤ room) (g .0) fits)
+            ∙ ap stands (sym (g .1));
+      }
 
--- they are tried on a TPS100
-abbrev factoryState : State
-factoryState = entries.factoryState Tps100
+pub step-plays : (k : Series) → Plays k (λ n. step)
+step-plays k = exact-plays k (λ n. step) (λ n s is e line room. refl)
 
--- `SET/30/1`, `SET/32/1` and `UNDO`, each with its CR
+-- lines that both series take
+abbrev set-50 : List ℕ
+set-50 = codes "SET/50/1\r"
 
-set-30 : List ℕ
-set-30 = 83 ∷ 69 ∷ 84 ∷ 47 ∷ 51 ∷ 48 ∷ 47 ∷ 49 ∷ 13 ∷ []
+abbrev set-71 : List ℕ
+set-71 = codes "SET/71/1\r"
 
-set-32 : List ℕ
-set-32 = 83 ∷ 69 ∷ 84 ∷ 47 ∷ 51 ∷ 50 ∷ 47 ∷ 49 ∷ 13 ∷ []
-
-undo-line : List ℕ
-undo-line = 85 ∷ 78 ∷ 68 ∷ 79 ∷ 13 ∷ []
+abbrev undo-line : List ℕ
+undo-line = codes "UNDO\r"
 
 -- what a line computes with
 computing : Unit {0}
-unfolding set-30 set-32 undo-line every startsWith numberFrom runOf seek rows100 afterBy marksBy strike playAll
+unfolding every startsWith numberFrom runOf seek rows100 rows300 session strike playAll
 computing = tt
 
 -- room for the longest reply to one of these
 abbrev enough : ℕ
 enough = 7
 
--- it refuses everything
-pub refuses-all : (m : Machine) → ((k : ℕ) (s : State) (line : List ℕ) (room : ℕ) → isAccepted (m k s line room .verdict) ≡ false) → Exact m → ⊥
+-- what `step` does in a series' factory state
+module _ (k : Series) (m : Machine) (exact : Exact k m) (line : List ℕ) where
+  at-first : m 0 (factoryState k) line enough ≡ step (factoryState k) line enough
+  at-first = exact 0 (factoryState k) (factory-is-state k) refl line enough
+
+set-accepted : (k : Series) → isAccepted (step (factoryState k) set-50 enough .verdict) ≡ true
 unfolding computing
-refuses-all m no-line h =
-    false≢true (sym (no-line 0 factoryState set-30 enough) ∙ ap (λ (o : Outcome). isAccepted (o .verdict)) (h 0 factoryState set-30 enough))
+set-accepted Tps100 = refl
+set-accepted Tps300 = refl
+
+set-alters : (k : Series) → eqb (parameterOf k (factoryState k .settings) 50) (parameterOf k (step (factoryState k) set-50 enough .next .settings) 50) ≡ false
+unfolding computing
+set-alters Tps100 = refl
+set-alters Tps300 = refl
+
+empty-refused : (k : Series) → eqb (length (done ++ replyEnd (factoryState k))) (length (step (factoryState k) [] enough .reply)) ≡ false
+unfolding computing
+empty-refused Tps100 = refl
+empty-refused Tps300 = refl
+
+-- it refuses everything
+pub refuses-all : (k : Series) (m : Machine) → ((n : ℕ) (s : State) (line : List ℕ) (room : ℕ) → isAccepted (m n s line room .verdict) ≡ false) → Exact k m → ⊥
+refuses-all k m none h =
+    false≢true (sym (none 0 (factoryState k) set-50 enough) ∙ ap (λ (o : Outcome). isAccepted (o .verdict)) (at-first k m h set-50) ∙ set-accepted k)
 
 -- it answers `?` to all, in the factory state at least
-pub agrees-to-all : (m : Machine) → ((line : List ℕ) (room : ℕ) → m 0 factoryState line room .reply ≡ done ++ replyEnd factoryState) → Exact m → ⊥
-unfolding rows100 seek
-agrees-to-all m all h =
-    eqb-false 3 7 refl (ap length (sym (all [] enough) ∙ ap (λ (o : Outcome). o .reply) (h 0 factoryState [] enough)))
+pub agrees-to-all : (k : Series) (m : Machine) → ((line : List ℕ) (room : ℕ) → m 0 (factoryState k) line room .reply ≡ done ++ replyEnd (factoryState k))
+    → Exact k m → ⊥
+agrees-to-all k m all h =
+    eqb-false _ _ (empty-refused k) (ap length (sym (all [] enough) ∙ ap (λ (o : Outcome). o .reply) (at-first k m h [])))
 
 -- and so in every state, ended "as setting 73 said before the line"
-pub agrees-everywhere : (m : Machine) → ((k : ℕ) (s : State) (line : List ℕ) (room : ℕ) → m k s line room .reply ≡ done ++ replyEnd s) → Exact m → ⊥
-agrees-everywhere m all = agrees-to-all m (all 0 factoryState)
+pub agrees-everywhere : (k : Series) (m : Machine) → ((n : ℕ) (s : State) (line : List ℕ) (room : ℕ) → m n s line room .reply ≡ done ++ replyEnd s)
+    → Exact k m → ⊥
+agrees-everywhere k m all = agrees-to-all k m (all 0 (factoryState k))
 
 -- it touches nothing
-pub touches-nothing : (m : Machine) → ((k : ℕ) (s : State) (line : List ℕ) (room : ℕ) → m k s line room .next ≡ s) → Exact m → ⊥
-unfolding computing
-touches-nothing m none h =
-    eqb-false 0 1 refl
-    (ap (λ (s : State). getD (s .settings) 0 0) (sym (none 0 factoryState set-30 enough) ∙ ap (λ (o : Outcome). o .next) (h 0 factoryState set-30 enough)))
+pub touches-nothing : (k : Series) (m : Machine) → ((n : ℕ) (s : State) (line : List ℕ) (room : ℕ) → m n s line room .next ≡ s) → Exact k m → ⊥
+touches-nothing k m none h =
+    eqb-false _ _ (set-alters k)
+    (ap (λ (s : State). parameterOf k (s .settings) 50)
+    (sym (none 0 (factoryState k) set-50 enough) ∙ ap (λ (o : Outcome). o .next) (at-first k m h set-50)))
 
 -- the same verdict and reply, and the state as it was
 abbrev replies : State → Outcome → Outcome
@@ -120,64 +173,58 @@ replies s o = outcome (o .verdict) (o .reply) s
 
 -- it touches nothing, though it answers as `step` does
 abbrev pub idle : Machine
-idle k s line room = replies s (step s line room)
+idle n s line room = replies s (step s line room)
 
 -- it runs the first line, and only replies to the others
 abbrev pub once : Machine
-once k s line room = cond (eqb k 0) (step s line room) (replies s (step s line room))
+once n s line room = cond (eqb n 0) (step s line room) (replies s (step s line room))
 
-abbrev isUndo : Order → Bool
-isUndo Not = false
-isUndo (Set n p) = false
-isUndo (Conf n) = false
-isUndo Put = false
-isUndo Get = false
-isUndo Undo = true
-isUndo Keep = false
-isUndo Unknown = false
+abbrev isUndo : Deed → Bool
+isUndo asks = false
+isUndo (changes d) = false
+isUndo undoes = true
+isUndo keeps = false
 
 -- its UNDO only replies
 abbrev pub no-undo : Machine
-no-undo k s line room = cond (isUndo (orderOf (textOf line))) (replies s (step s line room)) (step s line room)
+no-undo n s line room = cond (isUndo (lineDeed (s .series) line)) (replies s (step s line room)) (step s line room)
 
 calls : List (List ℕ) → List Call
 calls [] = []
 calls (line ∷ lines) = record { line = line; room = enough } ∷ calls lines
 
--- a setting on the two sides, by its place: as the lines left it, and as what stands of them, played anew, leaves it
-abbrev came : Machine → List (List ℕ) → ℕ → ℕ
-came m lines i = getD (afterBy m 0 factoryState (calls lines) .settings) i 0
+-- a setting on the two sides, by its number: as the lines left it, and as what stands of them, played anew, leaves it
+module _ (k : Series) (m : Machine) (lines : List (List ℕ)) (n : ℕ) where
+  abbrev came : ℕ
+  came = parameterOf k (leftBy m (factoryState k) (calls lines) .state .settings) n
 
-abbrev wanted : Machine → List (List ℕ) → ℕ → ℕ
-wanted m lines i = getD (playAll (contentsOf factoryState) (marksBy m 0 factoryState (calls lines) []) .settings) i 0
+  abbrev wanted : ℕ
+  wanted = parameterOf k (playAll (contentsOf (factoryState k)) (leftBy m (factoryState k) (calls lines) .standing) .settings) n
 
--- the lines and the place at which they differ
-abbrev Differs : Machine → List (List ℕ) → ℕ → Type 0
-Differs m lines i = eqb (came m lines i) (wanted m lines i) ≡ false
+  fails : eqb came wanted ≡ false → Plays k m → ⊥
+  fails e h = eqb-false came wanted e (ap (λ (c : Contents). parameterOf k (c .settings) n) (h .contents (factoryState k) (factory-start k) refl (calls lines)))
 
-fails : (m : Machine) (lines : List (List ℕ)) (i : ℕ) → Differs m lines i → Plays m → ⊥
-fails m lines i e h =
-    eqb-false (came m lines i) (wanted m lines i) e
-    (ap (λ (c : Contents). getD (c .settings) i 0) (h factoryState (factory-start Tps100) (calls lines)))
-
-pub idle-fails : Plays idle → ⊥
+pub idle-fails : (k : Series) → Plays k idle → ⊥
 unfolding calls computing
-idle-fails = fails idle (set-30 ∷ []) 0 refl
+idle-fails Tps100 = fails Tps100 idle (set-50 ∷ []) 50 refl
+idle-fails Tps300 = fails Tps300 idle (set-50 ∷ []) 50 refl
 
-pub once-fails : Plays once → ⊥
+pub once-fails : (k : Series) → Plays k once → ⊥
 unfolding calls computing
-once-fails = fails once (set-30 ∷ set-32 ∷ []) 1 refl
+once-fails Tps100 = fails Tps100 once (set-50 ∷ set-71 ∷ []) 71 refl
+once-fails Tps300 = fails Tps300 once (set-50 ∷ set-71 ∷ []) 71 refl
 
-pub no-undo-fails : Plays no-undo → ⊥
+pub no-undo-fails : (k : Series) → Plays k no-undo → ⊥
 unfolding calls computing
-no-undo-fails = fails no-undo (set-30 ∷ undo-line ∷ []) 0 refl
+no-undo-fails Tps100 = fails Tps100 no-undo (set-50 ∷ undo-line ∷ []) 50 refl
+no-undo-fails Tps300 = fails Tps300 no-undo (set-50 ∷ undo-line ∷ []) 50 refl
 
 -- what fails demand 3 isn't what `step` says either
-pub inexact : (m : Machine) → (Plays m → ⊥) → Exact m → ⊥
-inexact m fails exact = fails (exact-plays m exact)
+pub inexact : (k : Series) (m : Machine) → (Plays k m → ⊥) → Exact k m → ⊥
+inexact k m fails exact = fails (exact-plays k m exact)
 
-pub once-inexact : Exact once → ⊥
-once-inexact = inexact once once-fails
+pub once-inexact : (k : Series) → Exact k once → ⊥
+once-inexact k = inexact k once (once-fails k)
 
-pub no-undo-inexact : Exact no-undo → ⊥
-no-undo-inexact = inexact no-undo no-undo-fails
+pub no-undo-inexact : (k : Series) → Exact k no-undo → ⊥
+no-undo-inexact k = inexact k no-undo (no-undo-fails k)

@@ -1,24 +1,26 @@
 -- How the code keeps what the other files define: what a line comes to before the image is laid down, and what may be relied on there.
-use Prim.Native.Nat.{ℕ, _+_, _*_, _≤_}
+use Prim.Native.Nat.{ℕ, zero, suc, _+_, _*_, _≤_}
 use mathlib.Core.Path.{_≡_}
-use mathlib.Core.List.{List}
+use mathlib.Core.List.{List, [], _++_}
 use mathlib.Core.Bool.{Bool, true, _||_}
-use lib.ListN.{length}
+use lib.ListN.{length, getD, drop}
 use Rattle.figures.specs.Bytes.{startsWith, laid}
 use Rattle.words.specs.Reading.{wordSize}
+use Rattle.state.specs.Entries.{contentsOf, contentsBack}
 use Rattle.state.specs.declared.entries.Item.{Item}
 use Rattle.state.specs.declared.entries.Former.{Former}
 use Rattle.state.specs.declared.entries.State.{State}
-use Rattle.lines.specs.Orders.{stateOf, settingsBack, valuesBack}
+use Rattle.lines.specs.Orders.{stateWith}
 use Rattle.lines.specs.declared.verdicts.Verdict.{Verdict}
 use Rattle.lines.specs.declared.machine.Ran.{Ran}
 use Rattle.lines.specs.Machine.{Outcome, replyInRoom, told}
+use Rattle.instrument.specs.declared.settings.Series.{Series}
 use Rattle.instrument.specs.declared.values.Value.{Value}
 use Rattle.commands.specs.Shapes.{conf-slash, get-i, groupsRight, groupsIn, orderOf}
-use Rattle.lines.specs.Verdicts.{getVerdict, orderVerdict}
+use Rattle.lines.specs.Verdicts.{setVerdict, placeNamed, getBy, orderVerdict}
 use Rattle.commands.specs.declared.shapes.Order.{Order}
 use Rattle.lines.specs.declared.verdicts.Verdict.the-variants.{Accepted}
-use Rattle.lines.specs.Replies.{star}
+use Rattle.lines.specs.Replies.{wordAt, star}
 
 -- how the code tells an accepted line that alters nothing: by how it starts
 abbrev pub isAsking : List ℕ → Bool
@@ -35,15 +37,35 @@ Ends s o room r room′ =
 -- an item with its former content again, and the list as it stands
 abbrev pub restored : State → Item → Former → State
 restored s item former =
-    stateOf (s .series) (settingsBack (s .settings) item former) (valuesBack (s .values) item former) (s .undo) (s .count)
+    stateWith (contentsBack (contentsOf s) (record { item = item; former = former })) (s .undo) (s .count)
 
--- what the code that runs a line and writes its reply may rely on: the line is accepted, and for GET what it answers fits
+-- what the code that runs a line and writes its reply may rely on: the line is accepted
 abbrev pub Accepts : State → List ℕ → Order → Type 0
 Accepts s t o = (o ≡ orderOf t) × ((orderVerdict s t o ≡ Accepted) × (length t ≤ 100))
 
+-- a SET is judged by the series and the count alone
+abbrev pub bareState : Series → ℕ → State
+bareState k count = record { series = k; settings = []; values = []; undo = []; count = count }
+
+abbrev pub setVerdictBy : Series → ℕ → ℕ → ℕ → Verdict
+setVerdictBy k count n p = setVerdict (bareState k count) n p
+
+-- GET's indexes are walked group by group, `/WI` and two digits each
+unfoldable pub groupsVerdict : List Value → ℕ → List ℕ → Verdict
+groupsVerdict values zero g = Accepted
+groupsVerdict values (suc n) g = getBy values (placeNamed (getD g 3 0) (getD g 4 0)) (groupsVerdict values n (drop 5 g))
+
+unfoldable pub groupsWords : Bool → List Value → ℕ → List ℕ → List ℕ
+groupsWords wide values zero g = []
+groupsWords wide values (suc n) g = wordAt wide values (placeNamed (getD g 3 0) (getD g 4 0)) ++ groupsWords wide values n (drop 5 g)
+
+abbrev pub groupsBody : Bool → List Value → ℕ → List ℕ → List ℕ
+groupsBody wide values n g = star wide ++ groupsWords wide values n g
+
+-- what a GET's words may rely on: they are accepted, and what is answered fits
 pub record GetFits (values : List Value) (g body room : List ℕ) : Type 0 where
   pub groups : groupsRight (groupsIn g) g ≡ true
-  pub accepted : getVerdict values (groupsIn g) g ≡ Accepted
+  pub accepted : groupsVerdict values (groupsIn g) g ≡ Accepted
   pub fits : length body ≤ length room
 
 -- how long the words of so many indexes are

@@ -10,7 +10,7 @@ use Rattle.state.specs.Image.{imageOf, stateIn, isImage}
 use Rattle.state.specs.declared.entries.State.{State}
 use Rattle.commands.specs.Shapes.{textOf, orderOf}
 use Rattle.lines.specs.Verdicts.{isAccepted, lineVerdict}
-use Rattle.lines.specs.Orders.{doneOf}
+use Rattle.lines.specs.Orders.{lineDeed, doneOf}
 use Rattle.lines.specs.Replies.{replyOf}
 use Rattle.lines.specs.declared.verdicts.Verdict.{Verdict}
 use Rattle.lines.specs.declared.verdicts.Verdict.the-variants.{Room, NoState}
@@ -28,7 +28,7 @@ outcome v r s = record { verdict = v; reply = r; next = s }
 abbrev pub run : State → List ℕ → Outcome
 run s line =
     let v = lineVerdict s line in
-    outcome v (replyOf s (textOf line) (orderOf (textOf line)) v) (cond (isAccepted v) (doneOf s (textOf line) (orderOf (textOf line))) s)
+    outcome v (replyOf s (textOf line) (orderOf (textOf line)) v) (cond (isAccepted v) (doneOf s (lineDeed (s .series) line)) s)
 
 -- 30: "reply or sheet, `@W127` included, longer than the room: nothing written or changed"
 abbrev pub replyInRoom : State → ℕ → Outcome → Outcome

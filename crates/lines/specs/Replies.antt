@@ -1,20 +1,21 @@
 -- The reply to a line. "Each reply ends as setting 73 said before the line (0 CR, 1 CR LF). A refused line replies `@W127`".
-use Prim.Native.Nat.{ℕ, zero, suc}
+use Prim.Native.Nat.{ℕ}
 use mathlib.Core.Bool.{Bool, cond, not}
-use mathlib.Core.List.{List, [], _++_}
+use mathlib.Core.List.{List, [], _++_, flatMap}
 use lib.Dec.{eqb}
-use lib.ListN.{getD, drop}
+use lib.ListN.{getD}
 use Rattle.figures.specs.Text.{codes, endBytes}
 use Rattle.figures.specs.Decimal.{digitsOf}
 use Rattle.instrument.specs.Settings.{settingPlace, parameterOf}
-use Rattle.instrument.specs.Values.{getWord, wordIn}
+use Rattle.instrument.specs.Values.{valuePlace, getWord, wordIn}
 use Rattle.instrument.specs.declared.settings.Series.{Series}
 use Rattle.instrument.specs.declared.settings.Found.{Found}
 use Rattle.instrument.specs.declared.settings.Found.the-variants.{Nothing, At}
 use Rattle.instrument.specs.declared.values.Value.{Value}
+use Rattle.state.specs.Entries.{valueHeld}
 use Rattle.state.specs.declared.entries.State.{State}
-use Rattle.commands.specs.Shapes.{groupsIn}
-use Rattle.lines.specs.Verdicts.{placeNamed, valueHeld, isAccepted}
+use Rattle.commands.specs.Shapes.{indexesOf}
+use Rattle.lines.specs.Verdicts.{isAccepted}
 use Rattle.commands.specs.declared.shapes.Order.{Order}
 use Rattle.commands.specs.declared.shapes.Order.the-variants as order
 use Rattle.lines.specs.declared.verdicts.Verdict.{Verdict}
@@ -46,30 +47,29 @@ abbrev pub wordAt : Bool → List Value → Found → List ℕ
 wordAt wide values Nothing = []
 wordAt wide values (At i) = wordIn wide (getWord i (valueHeld values i .kept))
 
-unfoldable pub getWords : Bool → List Value → ℕ → List ℕ → List ℕ
-getWords wide values zero g = []
-getWords wide values (suc n) g = wordAt wide values (placeNamed (getD g 3 0) (getD g 4 0)) ++ getWords wide values n (drop 5 g)
+abbrev pub getWords : Bool → List Value → List ℕ → List ℕ
+getWords wide values = flatMap (λ n. wordAt wide values (valuePlace n))
 
 -- "When 137 is 1, GET answers a `*` and then wide words" (request 103); a series that hasn't 137 never does
-abbrev pub isWide : State → Bool
-isWide s = not (eqb (parameterOf (s .series) (s .settings) 137) 0)
+abbrev pub answersWide : State → Bool
+answersWide s = not (eqb (parameterOf (s .series) (s .settings) 137) 0)
 
 abbrev pub star : Bool → List ℕ
 star wide = cond wide (codes "*") []
 
-abbrev pub getBody : Bool → List Value → ℕ → List ℕ → List ℕ
-getBody wide values n g = star wide ++ getWords wide values n g
+abbrev pub getBody : Bool → List Value → List ℕ → List ℕ
+getBody wide values indexes = star wide ++ getWords wide values indexes
 
 -- the reply to an accepted line, without its end
 abbrev pub bodyOf : State → List ℕ → Order → List ℕ
-bodyOf s t order.Not = []
+bodyOf s t order.WrongShape = []
 bodyOf s t (order.Set n p) = done
 bodyOf s t (order.Conf n) = confBody (s .series) (s .settings) n
 bodyOf s t order.Put = done
-bodyOf s t order.Get = getBody (isWide s) (s .values) (groupsIn (drop 5 t)) (drop 5 t)
+bodyOf s t order.Get = getBody (answersWide s) (s .values) (indexesOf t)
 bodyOf s t order.Undo = done
 bodyOf s t order.Keep = done
-bodyOf s t order.Unknown = []
+bodyOf s t order.NoKeyword = []
 
 -- the reply that would be given
 abbrev pub replyOf : State → List ℕ → Order → Verdict → List ℕ

@@ -6,7 +6,7 @@ ghost use Prim.Native.Nat.{_≤_};
 ghost use lib.ListN.{length};
 ghost use Rattle.state.specs.Entries.{entriesN};
 ghost use Rattle.lines.specs.Verdicts.{isAccepted};
-ghost use Rattle.lines.specs.Orders.{doneOf};
+ghost use Rattle.lines.specs.Orders.{deedOf, doneOf};
 ghost use Rattle.lines.specs.Replies.{wrong, replyEnd, bodyOf};
 ghost use Rattle.lines.specs.Machine.{outcome, run, Calls};
 ghost use Rattle.lines.specs.Keeping.{isAsking, ranOf, Ends, Accepts};
@@ -59,7 +59,7 @@ fn with_state(verdict: Verdict, count: usize, state: State) -> Ran
     }
 }
 
-// A refused line: `@W127` where it fits.
+// Refuses a line: it is answered `@W127` where that fits.
 fn refuse(s: State, verdict: Verdict, room: &mut [u8]) -> Ran
     requires { ⌜ isAccepted verdict ≡ false ⌝ }
     ensures { λ r. ⌜ Ends s (outcome verdict (wrong ++ replyEnd s) s) (now (room .entry)) r (now (room .exit)) ⌝ }
@@ -72,10 +72,10 @@ fn refuse(s: State, verdict: Verdict, room: &mut [u8]) -> Ran
     with_state(verdict, n, s)
 }
 
-// An accepted line: its reply where it fits, and what it does.
+// Accepts a line: where its reply fits, that is laid down and the line is run.
 fn accept(s: State, text: &[u8], order: Order, room: &mut [u8]) -> Ran
     requires { ⌜ (s .count ≤ entriesN) × Accepts s (now text) order ⌝ }
-    ensures { λ r. ⌜ Ends s (outcome Verdict.Accepted (bodyOf s (now (text .entry)) order ++ replyEnd s) (doneOf s (now (text .entry)) order)) (now (room .entry)) r (now (room .exit)) ⌝ }
+    ensures { λ r. ⌜ Ends s (outcome Verdict.Accepted (bodyOf s (now (text .entry)) order ++ replyEnd s) (doneOf s (deedOf (s .series) (now (text .entry)) order))) (now (room .entry)) r (now (room .exit)) ⌝ }
 {
     let n = body_length(s, text, order) + end_length(s);
     if room.len() < n {
@@ -86,7 +86,7 @@ fn accept(s: State, text: &[u8], order: Order, room: &mut [u8]) -> Ran
     with_state(Verdict::Accepted, n, next)
 }
 
-// One line on a state.
+// Runs one line on a state.
 fn run_line(s: State, line: &[u8], room: &mut [u8]) -> Ran
     requires { ⌜ s .count ≤ entriesN ⌝ }
     ensures { λ r. ⌜ Ends s (run s (now (line .entry))) (now (room .entry)) r (now (room .exit)) ⌝ }
@@ -111,7 +111,7 @@ fn run_line(s: State, line: &[u8], room: &mut [u8]) -> Ran
     accept(s, text, order, room)
 }
 
-// Whether an accepted line only asks: CONF and GET alter nothing, so that the image needn't be laid down again.
+// Tells whether an accepted line only asks: CONF and GET alter nothing, so that the image needn't be laid down.
 fn asks(line: &[u8]) -> bool
     ensures { λ r. ⌜ r ≡ isAsking (now (line .entry)) ⌝ }
 {
@@ -121,7 +121,7 @@ fn asks(line: &[u8]) -> bool
     starts(line, b"GET/I")
 }
 
-// One line on a lent image. 31 and 30 leave everything as it was; any other refusal writes its reply and leaves the image.
+// Runs one line on a lent image. 31 and 30 leave everything as it was; any other refusal writes its reply and leaves the image.
 pub fn line(image: &mut [u8], text: &[u8], room: &mut [u8]) -> Told
     ensures { λ r. ⌜ Calls (now (image .entry)) (now (text .entry)) (now (room .entry)) r (now (image .exit)) (now (room .exit)) ⌝ }
 {

@@ -1,11 +1,11 @@
 // What an accepted line does to the state.
 ghost use mathlib.Core.Path.{_≡_};
 ghost use Prim.Native.Nat.{_+_, _<_, _≤_};
-ghost use Rattle.state.specs.Entries.{entriesN, entryOf};
+ghost use Rattle.state.specs.Entries.{entriesN, entryOf, contentsOf};
 ghost use Rattle.instrument.specs.Values.{valuesN};
 ghost use Rattle.instrument.specs.Settings.{settingsMost};
 ghost use Rattle.lines.specs.Verdicts.{setVerdict, putVerdict};
-ghost use Rattle.lines.specs.Orders.{stateOf, pushed, setOf, putOf, undoOf, keepOf, setDone, putDone, doneOf};
+ghost use Rattle.lines.specs.Orders.{stateWith, setTo, putTo, pushed, changedBy, undoOf, keepOf, setDeed, putDeed, deedOf, doneOf};
 ghost use Rattle.lines.specs.Keeping.{restored, Accepts};
 ghost use Rattle.lines.specs.declared.verdicts.Verdict as Verdict;
 use crate::verdicts::place_named;
@@ -34,7 +34,7 @@ fn byte(n: usize) -> u8
     n as u8
 }
 
-// An item and what stood there before.
+// Makes the entry of an item and what stood there before.
 fn entry_of(item: Item, parameter: u8, kept: Kept) -> Entry
     ensures { λ r. ⌜ r ≡ entryOf item parameter kept ⌝ }
 {
@@ -48,10 +48,10 @@ fn entry_of(item: Item, parameter: u8, kept: Kept) -> Entry
     }
 }
 
-// An entry more.
+// Adds an entry.
 fn push(s: State, entry: Entry) -> State
     requires { ⌜ s .count < entriesN ⌝ }
-    ensures { λ r. ⌜ r ≡ stateOf (s .series) (s .settings) (s .values) (pushed s entry) (s .count + 1) ⌝ }
+    ensures { λ r. ⌜ r ≡ stateWith (contentsOf s) (pushed s entry) (s .count + 1) ⌝ }
 {
     let n = s.count;
     let mut t = s;
@@ -60,10 +60,10 @@ fn push(s: State, entry: Entry) -> State
     t
 }
 
-// The parameter stored, and the former one kept in an entry.
+// Stores the parameter, and keeps the former one in an entry.
 pub(crate) fn set(s: State, place: usize, parameter: u8) -> State
     requires { ⌜ (place < settingsMost) × (s .count < entriesN) ⌝ }
-    ensures { λ r. ⌜ r ≡ setOf s place parameter ⌝ }
+    ensures { λ r. ⌜ r ≡ changedBy s (setTo place parameter) ⌝ }
 {
     let item = Item::Setting(byte(place));
     let never = Kept::Never;
@@ -73,10 +73,10 @@ pub(crate) fn set(s: State, place: usize, parameter: u8) -> State
     t
 }
 
-// The value stored, and the former one kept in an entry.
+// Stores the value, and keeps the former one in an entry.
 pub(crate) fn put(s: State, place: usize, kept: Kept) -> State
     requires { ⌜ (place < valuesN) × (s .count < entriesN) ⌝ }
-    ensures { λ r. ⌜ r ≡ putOf s place kept ⌝ }
+    ensures { λ r. ⌜ r ≡ changedBy s (putTo place kept) ⌝ }
 {
     let item = Item::Stored(byte(place));
     let value = s.values[place];
@@ -87,7 +87,7 @@ pub(crate) fn put(s: State, place: usize, kept: Kept) -> State
     t
 }
 
-// An item with its former content again; a place past the end changes nothing.
+// Gives an item its former content again; a place past the end changes nothing.
 fn restore(s: State, item: Item, former: Former) -> State
     ensures { λ r. ⌜ r ≡ restored s item former ⌝ }
 {
@@ -115,7 +115,7 @@ fn restore(s: State, item: Item, former: Former) -> State
     }
 }
 
-// The newest entry taken back.
+// Takes the newest entry back.
 pub(crate) fn undo(s: State) -> State
     requires { ⌜ s .count ≤ entriesN ⌝ }
     ensures { λ r. ⌜ r ≡ undoOf s ⌝ }
@@ -134,7 +134,7 @@ pub(crate) fn undo(s: State) -> State
     restore(t, item, former)
 }
 
-// The list emptied.
+// Empties the list.
 pub(crate) fn keep(s: State) -> State
     ensures { λ r. ⌜ r ≡ keepOf s ⌝ }
 {
@@ -152,8 +152,8 @@ fn small(n: u64) -> u8
 }
 
 fn set_done(s: State, number: u64, parameter: u64) -> State
-    requires { ⌜ setVerdict (s .series) (s .count) number parameter ≡ Verdict.Verdict.Accepted ⌝ }
-    ensures { λ r. ⌜ r ≡ setDone s number parameter ⌝ }
+    requires { ⌜ setVerdict s number parameter ≡ Verdict.Verdict.Accepted ⌝ }
+    ensures { λ r. ⌜ r ≡ doneOf s (setDeed (s .series) number parameter) ⌝ }
 {
     let series = s.series;
     let Found::At(place) = setting_of(series, number) else {
@@ -164,7 +164,7 @@ fn set_done(s: State, number: u64, parameter: u64) -> State
 
 fn put_done(s: State, word: [u8; 16]) -> State
     requires { ⌜ putVerdict (s .count) word ≡ Verdict.Verdict.Accepted ⌝ }
-    ensures { λ r. ⌜ r ≡ putDone s word ⌝ }
+    ensures { λ r. ⌜ r ≡ doneOf s (putDeed word) ⌝ }
 {
     let Found::At(place) = place_named(word[0], word[1]) else {
         return s;
@@ -172,10 +172,10 @@ fn put_done(s: State, word: [u8; 16]) -> State
     put(s, place, put_kept(word))
 }
 
-// The state once an accepted line has run.
+// Gives the state once an accepted line has run.
 pub(crate) fn done(s: State, text: &[u8], order: Order) -> State
     requires { ⌜ (s .count ≤ entriesN) × Accepts s (now text) order ⌝ }
-    ensures { λ r. ⌜ r ≡ doneOf s (now (text .entry)) order ⌝ }
+    ensures { λ r. ⌜ r ≡ doneOf s (deedOf (s .series) (now (text .entry)) order) ⌝ }
 {
     match order {
         Order::Set(number, parameter) => set_done(s, number, parameter),

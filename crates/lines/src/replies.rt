@@ -8,42 +8,48 @@ ghost use Rattle.words.specs.Reading.{wordSize};
 ghost use Rattle.instrument.specs.Values.{wordIn};
 ghost use Rattle.commands.specs.Shapes.{groupsIn};
 ghost use Rattle.lines.specs.Verdicts.{confVerdict};
-ghost use Rattle.lines.specs.Replies.{endsLf, isWide, replyEnd, wrong, confBody, star, getWords, getBody, bodyOf};
-ghost use Rattle.lines.specs.Keeping.{GetFits, getN, Accepts};
+ghost use Rattle.lines.specs.Replies.{endsLf, answersWide, replyEnd, wrong, confBody, star, bodyOf};
+ghost use Rattle.lines.specs.Keeping.{groupsWords, groupsBody, GetFits, getN, Accepts};
 ghost use Rattle.figures.specs.Text.{endBytes};
 ghost use Rattle.lines.specs.declared.verdicts.Verdict as Verdict;
 use crate::verdicts::place_named;
 use crate::verdicts::setting_of;
 use commands::shapes::Order;
 use figures::casts::wide;
+use instrument::settings::END_100;
+use instrument::settings::END_300;
 use instrument::settings::Found;
 use instrument::settings::SETTINGS;
 use instrument::settings::Series;
+use instrument::settings::WIDE_300;
 use instrument::values::VALUES;
 use instrument::values::Value;
 use instrument::values::get_word;
 use instrument::values::widen;
 use state::entries::State;
 
-// Whether a reply ends in CR LF: setting 73, which each reply asks for and so isn't looked up.
+// The longest reply: a `*`, as many wide words as a GET of 100 characters asks for, and CR LF.
+pub const REPLY_MOST: usize = 1 + 19 * 24 + 2;
+
+// Tells whether a reply ends in CR LF: setting 73, which every reply asks for and which is therefore taken by its place.
 pub(crate) fn ends_lf(s: State) -> bool
     ensures { λ r. ⌜ r ≡ endsLf s ⌝ }
 {
     let series = s.series;
     match series {
-        Series::Tps100 => s.settings[10] != 0,
-        Series::Tps300 => s.settings[9] != 0,
+        Series::Tps100 => s.settings[END_100] != 0,
+        Series::Tps300 => s.settings[END_300] != 0,
     }
 }
 
-// Whether GET answers in wide words: setting 137, where the series has it.
+// Tells whether GET answers in wide words: setting 137, where the series has it.
 fn is_wide(s: State) -> bool
-    ensures { λ r. ⌜ r ≡ isWide s ⌝ }
+    ensures { λ r. ⌜ r ≡ answersWide s ⌝ }
 {
     let series = s.series;
     match series {
         Series::Tps100 => false,
-        Series::Tps300 => s.settings[25] != 0,
+        Series::Tps300 => s.settings[WIDE_300] != 0,
     }
 }
 
@@ -94,8 +100,8 @@ fn put_word(wide: bool, word: [u8; 16], room: &mut [u8]) -> usize
 
 // Lays the words that GET answers, each into the part of the room that starts after the words before it.
 fn put_get(wide: bool, values: [Value; VALUES], groups: &[u8], room: &mut [u8])
-    requires { ⌜ GetFits values (now groups) (getWords wide values (groupsIn (now groups)) (now groups)) (now room) ⌝ }
-    ensures { λ _. ⌜ now (room .exit) ≡ laid (getWords wide values (groupsIn (now (groups .entry))) (now (groups .entry))) (now (room .entry)) ⌝ }
+    requires { ⌜ GetFits values (now groups) (groupsWords wide values (groupsIn (now groups)) (now groups)) (now room) ⌝ }
+    ensures { λ _. ⌜ now (room .exit) ≡ laid (groupsWords wide values (groupsIn (now (groups .entry))) (now (groups .entry))) (now (room .entry)) ⌝ }
 {
     let mut i = 0;
     let mut at = 0;
@@ -117,14 +123,14 @@ fn put_get(wide: bool, values: [Value; VALUES], groups: &[u8], room: &mut [u8])
 
 // Lays what GET answers: the words, after a `*` where they are wide.
 fn put_words(wide: bool, values: [Value; VALUES], groups: &[u8], room: &mut [u8])
-    requires { ⌜ GetFits values (now groups) (getBody wide values (groupsIn (now groups)) (now groups)) (now room) ⌝ }
-    ensures { λ _. ⌜ now (room .exit) ≡ laid (getBody wide values (groupsIn (now (groups .entry))) (now (groups .entry))) (now (room .entry)) ⌝ }
+    requires { ⌜ GetFits values (now groups) (groupsBody wide values (groupsIn (now groups)) (now groups)) (now room) ⌝ }
+    ensures { λ _. ⌜ now (room .exit) ≡ laid (groupsBody wide values (groupsIn (now (groups .entry))) (now (groups .entry))) (now (room .entry)) ⌝ }
 {
     let at = put_star(wide, room);
     put_get(wide, values, groups, &mut room[at..]);
 }
 
-// The nine characters that CONF answers.
+// Makes the nine characters that CONF answers.
 fn conf_body(series: Series, settings: [u8; SETTINGS], number: u64) -> [u8; 9]
     requires { ⌜ confVerdict series number ≡ Verdict.Verdict.Accepted ⌝ }
     ensures { λ r. ⌜ r ≡ confBody series settings number ⌝ }
@@ -141,7 +147,7 @@ fn conf_body(series: Series, settings: [u8; SETTINGS], number: u64) -> [u8; 9]
     body
 }
 
-// How long the words of so many indexes are.
+// Tells how long the words of so many indexes are.
 fn get_length(wide: bool, indexes: usize) -> usize
     requires { ⌜ indexes ≤ 100 ⌝ }
     ensures { λ r. ⌜ r ≡ getN wide indexes ⌝ }
@@ -152,20 +158,20 @@ fn get_length(wide: bool, indexes: usize) -> usize
     indexes * 16
 }
 
-// The length of the reply to an accepted line, without its end.
+// Gives the length of the reply to an accepted line, without its end.
 pub(crate) fn body_length(s: State, text: &[u8], order: Order) -> usize
     requires { ⌜ Accepts s (now text) order ⌝ }
     ensures { λ r. ⌜ r ≡ length (bodyOf s (now (text .entry)) order) ⌝ }
 {
     match order {
-        Order::Not => 0,
+        Order::WrongShape => 0,
         Order::Set(_, _) => 1,
         Order::Conf(_) => 9,
         Order::Put => 1,
         Order::Get => get_length(is_wide(s), (text.len() - 5) / 5),
         Order::Undo => 1,
         Order::Keep => 1,
-        Order::Unknown => 0,
+        Order::NoKeyword => 0,
     }
 }
 
@@ -189,8 +195,8 @@ pub(crate) fn put_reply(s: State, text: &[u8], order: Order, room: &mut [u8])
             put_words(wide, values, &text[5..], room);
             put_end(lf, &mut room[n..]);
         }
-        Order::Not => put_end(lf, room),
-        Order::Unknown => put_end(lf, room),
+        Order::WrongShape => put_end(lf, room),
+        Order::NoKeyword => put_end(lf, room),
         _ => put_text(b"?", lf, room),
     }
 }

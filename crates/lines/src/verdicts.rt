@@ -6,7 +6,8 @@ ghost use mathlib.Core.Bool.{true};
 ghost use Rattle.instrument.specs.Settings.{settingPlace};
 ghost use Rattle.commands.specs.Shapes.{groupsRight, groupsIn, orderOf};
 ghost use Rattle.lines.specs.Verdicts.{verdictNumber, verdictWhich, verdictByte, isAccepted};
-ghost use Rattle.lines.specs.Verdicts.{fullVerdict, setVerdict, confVerdict, placeNamed, putVerdict, getVerdict, orderVerdict};
+ghost use Rattle.lines.specs.Verdicts.{fullVerdict, confVerdict, placeNamed, putVerdict, orderVerdict};
+ghost use Rattle.lines.specs.Keeping.{setVerdictBy, groupsVerdict};
 use commands::shapes::Order;
 use instrument::settings::Found;
 use instrument::settings::Series;
@@ -45,7 +46,7 @@ pub enum Verdict {
     NoState,
 }
 
-// The number that the rules have for a verdict.
+// Gives the number that the rules have for a verdict.
 pub fn verdict_number(verdict: Verdict) -> u64
     ensures { λ r. ⌜ r ≡ verdictNumber verdict ⌝ }
 {
@@ -68,7 +69,7 @@ pub fn verdict_number(verdict: Verdict) -> u64
     }
 }
 
-// Which of a word's rules a PUT word breaks, by its number; 0 of every other verdict.
+// Tells which of a word's rules a PUT word breaks, by its number; 0 for every other verdict.
 pub fn verdict_which(verdict: Verdict) -> u64
     ensures { λ r. ⌜ r ≡ verdictWhich verdict ⌝ }
 {
@@ -78,7 +79,7 @@ pub fn verdict_which(verdict: Verdict) -> u64
     }
 }
 
-// The byte of the line that it breaks; 0 of every other verdict.
+// Tells the byte of the line where it breaks it; 0 for every other verdict.
 pub fn verdict_byte(verdict: Verdict) -> usize
     ensures { λ r. ⌜ r ≡ verdictByte verdict ⌝ }
 {
@@ -104,7 +105,7 @@ fn small(n: u64) -> u16
     n as u16
 }
 
-// A place among the series' settings, for a number of any size.
+// Finds the place among the series' settings of a number of any size.
 pub(crate) fn setting_of(series: Series, number: u64) -> Found
     ensures { λ r. ⌜ r ≡ settingPlace series number ⌝ }
 {
@@ -125,13 +126,13 @@ fn full(count: usize) -> Verdict
 }
 
 fn set_verdict(series: Series, count: usize, number: u64, parameter: u64) -> Verdict
-    ensures { λ r. ⌜ r ≡ setVerdict series count number parameter ⌝ }
+    ensures { λ r. ⌜ r ≡ setVerdictBy series count number parameter ⌝ }
 {
     let Found::At(place) = setting_of(series, number) else {
         return Verdict::Setting;
     };
     let row = row_at(series, place);
-    if row.4 {
+    if row.asked {
         return Verdict::ReadOnly;
     }
     if !in_range(row, parameter) {
@@ -149,7 +150,7 @@ fn conf_verdict(series: Series, number: u64) -> Verdict
     Verdict::Accepted
 }
 
-// The place of the stored value that two characters name.
+// Finds the place of the stored value that two characters name.
 pub(crate) fn place_named(tens: u8, ones: u8) -> Found
     ensures { λ r. ⌜ r ≡ placeNamed tens ones ⌝ }
 {
@@ -159,7 +160,7 @@ pub(crate) fn place_named(tens: u8, ones: u8) -> Found
     value_at(index)
 }
 
-// The 16 bytes of PUT's word.
+// Takes the 16 bytes of PUT's word.
 pub(crate) fn word_of(text: &[u8]) -> [u8; 16]
     requires { ⌜ length (now text) ≡ 20 ⌝ }
     ensures { λ r. ⌜ r ≡ drop 4 (now (text .entry)) ⌝ }
@@ -181,10 +182,10 @@ fn put_verdict(count: usize, word: [u8; 16]) -> Verdict
     }
 }
 
-// The indexes of GET, one after the other: 25, then 27.
+// Judges the indexes of GET, one after the other: 25, then 27.
 fn get_verdict(values: [Value; VALUES], groups: &[u8]) -> Verdict
     requires { ⌜ groupsRight (groupsIn (now groups)) (now groups) ≡ true ⌝ }
-    ensures { λ r. ⌜ r ≡ getVerdict values (groupsIn (now (groups .entry))) (now (groups .entry)) ⌝ }
+    ensures { λ r. ⌜ r ≡ groupsVerdict values (groupsIn (now (groups .entry))) (now (groups .entry)) ⌝ }
 {
     let mut at = 0;
     while at < groups.len() {
@@ -204,7 +205,7 @@ fn get_verdict(values: [Value; VALUES], groups: &[u8]) -> Verdict
     Verdict::Accepted
 }
 
-// A line of 22 to 29, 38 or 39, or accepted.
+// Judges a line's order: 22 to 29, 38 or 39, or accepted.
 pub(crate) fn order_verdict(s: State, text: &[u8], order: Order) -> Verdict
     requires { ⌜ order ≡ orderOf (now text) ⌝ }
     ensures { λ r. ⌜ r ≡ orderVerdict s (now (text .entry)) order ⌝ }
@@ -212,7 +213,7 @@ pub(crate) fn order_verdict(s: State, text: &[u8], order: Order) -> Verdict
     let series = s.series;
     let count = s.count;
     match order {
-        Order::Not => Verdict::Shape,
+        Order::WrongShape => Verdict::Shape,
         Order::Set(number, parameter) => set_verdict(series, count, number, parameter),
         Order::Conf(number) => conf_verdict(series, number),
         Order::Put => put_verdict(count, word_of(text)),
@@ -227,6 +228,6 @@ pub(crate) fn order_verdict(s: State, text: &[u8], order: Order) -> Verdict
             Verdict::Accepted
         }
         Order::Keep => Verdict::Accepted,
-        Order::Unknown => Verdict::Keyword,
+        Order::NoKeyword => Verdict::Keyword,
     }
 }

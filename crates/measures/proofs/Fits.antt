@@ -13,6 +13,7 @@ use Rattle.figures.proofs.Places.{places-most}
 use Rattle.units.specs.declared.kinds.Family.{Family}
 use Rattle.words.specs.Records.{width, typedOf}
 use Rattle.words.specs.declared.records.Word.{Word}
+use Rattle.figures.proofs.Tests.{by-test}
 use Rattle.words.proofs.Checks.{width-bounds}
 use Rattle.measures.specs.declared.Step.{Step}
 use Rattle.measures.specs.declared.Step.the-variants.{One, Three, Four, Five, Half}
@@ -74,4 +75,5 @@ value-short f wide w = shown-short wide (w .text) (shownOf (w .index) (typedOf f
 
 pub index-short : (i : ℕ) (info : List ℕ) → length info ≡ 4 → length (indexText i info) ≤ 12
 index-short i info h =
-    either (ltb i 100) _ _ 12 (simp (length-append, digits-length) (omega arith)) (simp (length-append, digits-length) (omega (arith, length-drop 1 info)))
+    by-test (ltb i 100) (λ q. rw q (simp (length-append, digits-length) (omega arith)))
+    (λ q. rw q (simp (length-append, digits-length) (omega (arith, length-drop 1 info))))

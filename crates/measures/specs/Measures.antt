@@ -2,11 +2,11 @@
 use Prim.Native.Nat.{ℕ, _*_, _/_, _%_}
 use mathlib.Core.Bool.{Bool, cond}
 use mathlib.Core.List.{List, [], _∷_, _++_}
-use lib.Dec.{eqb, ltb}
-use lib.ListN.{take, drop}
-use Rattle.figures.specs.Text.{codes}
+use lib.Dec.{eqb}
+use lib.ListN.{take}
+use Rattle.figures.specs.Text.{codes, byte}
 use Rattle.figures.specs.Decimal.{digitsOf, decimalOf}
-use Rattle.units.specs.Information.{signByte}
+use Rattle.units.specs.Information.{signByte, indexBytes, infoBytes}
 use Rattle.units.specs.declared.kinds.Family.{Family}
 use Rattle.units.specs.declared.counts.Count.{Count}
 use Rattle.units.specs.declared.counts.Count.the-variants as count
@@ -21,7 +21,7 @@ use Rattle.measures.specs.declared.Shown.the-variants.{Nothing, Text, Me
 
 -- index and information as positions 1-6 have them: `31 info=..01`, `331 info=106`
 abbrev pub indexText : ℕ → List ℕ → List ℕ
-indexText i info = cond (ltb i 100) (digitsOf 2 i ++ (codes " info=" ++ info)) (digitsOf 3 i ++ (codes " info=" ++ drop 1 info))
+indexText i info = indexBytes i ++ (codes " info=" ++ infoBytes i info)
 
 -- the decimals of a metre or a foot
 abbrev pub decimalsOf : ℕ → Step
@@ -81,13 +81,13 @@ partText mark k n = (mark ∷ []) ++ digitsOf k n
 abbrev pub measureText : ℕ → ℕ → Step → Unit → List ℕ
 measureText m n step u =
     startText m n ++ (decimalOf (powerOf step) ++ (unitText u ++ (readsText m (n / powerOf step)
-    ++ (partText 46 (placesOf step) (lastOf step n) ++ unitText u))))
+    ++ (partText (byte ".") (placesOf step) (lastOf step n) ++ unitText u))))
 
 -- degrees, minutes and seconds as D-MM-SS.T: ` count=+10075730 step=1/10s reads=279-52-53.0`
 abbrev pub tenthText : ℕ → ℕ → List ℕ
 tenthText m n =
     startText m n ++ (codes "10s" ++ (readsText m (n / 36000)
-    ++ (partText 45 2 (n / 600 % 60) ++ (partText 45 2 (n / 10 % 60) ++ partText 46 1 (n % 10)))))
+    ++ (partText (byte "-") 2 (n / 600 % 60) ++ (partText (byte "-") 2 (n / 10 % 60) ++ partText (byte ".") 1 (n % 10)))))
 
 -- ` ppm=+9 mm=+0`
 abbrev pub pairText : ℕ → ℕ → ℕ → ℕ → List ℕ
@@ -97,7 +97,7 @@ pairText m ppm m′ mm = (codes " ppm=" ++ signedOf m ppm) ++ (codes " mm=" ++ s
 abbrev pub keyedText : Bool → List ℕ → List ℕ
 keyedText wide text = codes " text=" ++ take (width wide) text
 
--- by what is counted; 58 counts 1/10 mm
+-- what is shown of a count, by what is counted; 58 counts 1/10 mm
 abbrev pub shownOf : ℕ → Count → Shown
 shownOf i count.Nothing = Nothing
 shownOf i count.Text = Text
@@ -122,6 +122,6 @@ shownText wide text (Pair m ppm m′ mm) = pairText m ppm m′ mm
 abbrev pub countText : Bool → Word → Count → List ℕ
 countText wide w k = shownText wide (w .text) (shownOf (w .index) k)
 
--- of a record that no word of the family gives nothing is shown
+-- nothing is shown of a record that no word of the family gives
 abbrev pub valueText : Family → Bool → Word → List ℕ
 valueText f wide w = countText wide w (typedOf f w)

@@ -58,7 +58,7 @@ struct Parts {
 // Where in the units' names one begins and ends.
 struct Span(usize, usize);
 
-// The last k digits of n.
+// Puts the last k digits of n.
 fn put_digits(room: &mut [u8], at: usize, n: u64, k: usize) -> usize
     requires { ⌜ k ≤ 20 ⌝ }
     ensures { λ r. ⌜ Puts (now (room .entry)) at (digitsOf k n) r (now (room .exit)) ⌝ }
@@ -68,14 +68,14 @@ fn put_digits(room: &mut [u8], at: usize, n: u64, k: usize) -> usize
     put(room, at, &bytes[0..k])
 }
 
-// How many digits an index has.
+// Tells how many digits an index has.
 fn index_digits(index: u16) -> usize
     ensures { λ r. ⌜ r ≡ indexDigits index ⌝ }
 {
     if index < 100 { 2 } else { 3 }
 }
 
-// Index and information as positions 1-6 have them.
+// Puts index and information as positions 1-6 have them.
 pub fn put_index(room: &mut [u8], at: usize, index: u16, info: [u8; 4]) -> usize
     ensures { λ r. ⌜ Puts (now (room .entry)) at (indexText index info) r (now (room .exit)) ⌝ }
 {
@@ -86,7 +86,7 @@ pub fn put_index(room: &mut [u8], at: usize, index: u16, info: [u8; 4]) -> usize
     put(room, after_key, &info[from..4])
 }
 
-// The decimals of a metre or a foot.
+// Gives the step of a metre or a foot with so many decimals.
 fn decimals_of(n: u8) -> Step
     ensures { λ r. ⌜ r ≡ decimalsOf n ⌝ }
 {
@@ -97,7 +97,7 @@ fn decimals_of(n: u8) -> Step
     }
 }
 
-// Of a count n.
+// Gives the parts of a count n.
 fn parts_of(step: Step, n: u64) -> Parts
     ensures { λ r. ⌜ (r .power ≡ powerOf step) × (r .places ≡ placesOf step) × (r .last ≡ lastOf step n) × (0 < r .power) × (r .places ≤ 20) ⌝ }
 {
@@ -145,7 +145,7 @@ fn span_of(unit: Unit) -> Span
     }
 }
 
-// The names stand in one text, so that the checker goes through one byte string and not eight.
+// Puts a unit's name. The names stand in one text, so that the checker goes through one byte string and not eight.
 fn put_unit(room: &mut [u8], at: usize, unit: Unit) -> usize
     ensures { λ r. ⌜ Puts (now (room .entry)) at (unitText unit) r (now (room .exit)) ⌝ }
 {
@@ -156,7 +156,7 @@ fn put_unit(room: &mut [u8], at: usize, unit: Unit) -> usize
     put(room, at, &names[from..to])
 }
 
-// A key, and a whole number with its sign.
+// Puts a key, and a whole number with its sign.
 fn put_whole(room: &mut [u8], at: usize, key: &[u8], minus: u8, n: u64) -> usize
     ensures { λ r. ⌜ Puts (now (room .entry)) at (now (key .entry) ++ signedOf minus n) r (now (room .exit)) ⌝ }
 {
@@ -166,7 +166,7 @@ fn put_whole(room: &mut [u8], at: usize, key: &[u8], minus: u8, n: u64) -> usize
     put_decimal(room, after_sign, n)
 }
 
-// A count, up to the number of its step.
+// Puts a count, up to the number of its step.
 fn put_count(room: &mut [u8], at: usize, minus: u8, n: u64) -> usize
     ensures { λ r. ⌜ Puts (now (room .entry)) at (startText minus n) r (now (room .exit)) ⌝ }
 {
@@ -174,14 +174,14 @@ fn put_count(room: &mut [u8], at: usize, minus: u8, n: u64) -> usize
     put(room, after_count, b" step=1/")
 }
 
-// How long the key of a value is, with a minus where there is one.
+// Tells how long the key of a value is, with a minus where there is one.
 fn reads_size(minus: u8) -> usize
     ensures { λ r. ⌜ r ≡ readsSize minus ⌝ }
 {
     if minus == 0 { 7 } else { 8 }
 }
 
-// The value up to its decimals.
+// Puts the value up to its decimals.
 fn put_reads(room: &mut [u8], at: usize, minus: u8, n: u64) -> usize
     ensures { λ r. ⌜ Puts (now (room .entry)) at (readsText minus n) r (now (room .exit)) ⌝ }
 {
@@ -191,7 +191,7 @@ fn put_reads(room: &mut [u8], at: usize, minus: u8, n: u64) -> usize
     put_decimal(room, after_key, n)
 }
 
-// A mark, and the last k digits of n.
+// Puts a mark, and the last k digits of n.
 fn put_part(room: &mut [u8], at: usize, mark: u8, n: u64, k: usize) -> usize
     requires { ⌜ k ≤ 20 ⌝ }
     ensures { λ r. ⌜ Puts (now (room .entry)) at (partText mark k n) r (now (room .exit)) ⌝ }
@@ -201,7 +201,7 @@ fn put_part(room: &mut [u8], at: usize, mark: u8, n: u64, k: usize) -> usize
     put_digits(room, next, n, k)
 }
 
-// A count of a unit's steps.
+// Puts a count of a unit's steps.
 fn put_measure(room: &mut [u8], at: usize, minus: u8, n: u64, step: Step, unit: Unit) -> usize
     ensures { λ r. ⌜ Puts (now (room .entry)) at (measureText minus n step unit) r (now (room .exit)) ⌝ }
 {
@@ -214,7 +214,7 @@ fn put_measure(room: &mut [u8], at: usize, minus: u8, n: u64, step: Step, unit: 
     put_unit(room, after_decimals, unit)
 }
 
-// A count of tenths of a second, as degrees, minutes, seconds and tenths.
+// Puts a count of tenths of a second, as degrees, minutes, seconds and tenths.
 fn put_tenths(room: &mut [u8], at: usize, minus: u8, n: u64) -> usize
     ensures { λ r. ⌜ Puts (now (room .entry)) at (tenthText minus n) r (now (room .exit)) ⌝ }
 {
@@ -233,7 +233,7 @@ fn put_pair(room: &mut [u8], at: usize, minus: u8, ppm: u64, other: u8, mm: u64)
     put_whole(room, after_ppm, b" mm=", other, mm)
 }
 
-// Text, 8 or 16 characters.
+// Puts text, 8 or 16 characters.
 fn put_text(room: &mut [u8], at: usize, text: [u8; 16], wide: bool) -> usize
     ensures { λ r. ⌜ Puts (now (room .entry)) at (keyedText wide text) r (now (room .exit)) ⌝ }
 {
@@ -242,7 +242,7 @@ fn put_text(room: &mut [u8], at: usize, text: [u8; 16], wide: bool) -> usize
     put(room, next, &text[0..n])
 }
 
-// By what is counted; 58 counts 1/10 mm.
+// Gives what is shown of a count; 58 counts 1/10 mm.
 fn shown_of(counted: Count, index: u16) -> Shown
     ensures { λ r. ⌜ r ≡ shownOf index counted ⌝ }
 {
@@ -278,7 +278,7 @@ fn put_shown(room: &mut [u8], at: usize, shown: Shown, text: [u8; 16], wide: boo
     }
 }
 
-// What a record of a right word of the family counts; nothing for any other record.
+// Puts what a record of a right word of the family counts, and nothing for any other record.
 pub fn put_value(room: &mut [u8], at: usize, w: Word, family: Family, wide: bool) -> usize
     ensures { λ r. ⌜ Puts (now (room .entry)) at (valueText family wide w) r (now (room .exit)) ⌝ }
 {

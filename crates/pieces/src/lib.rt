@@ -11,7 +11,7 @@ pub enum Mark {
     Whole,
 }
 
-// The length of the first piece: up to a CR, with an LF that follows it, or all.
+// Gives the length of the first piece, which goes up to a CR, with an LF that follows it, or takes all.
 pub fn cut(s: &[u8]) -> usize
     ensures { λ r. ⌜ (r ≡ cutOf (now (s .entry))) × (r ≤ length (now (s .entry))) ⌝ }
 {
@@ -31,7 +31,7 @@ pub fn cut(s: &[u8]) -> usize
     i
 }
 
-// Whether the next byte still belongs to the piece.
+// Tells whether the next byte still belongs to the piece.
 pub fn joins(mark: Mark, b: u8) -> bool
     ensures { λ r. ⌜ r ≡ isJoined mark b ⌝ }
 {
@@ -42,7 +42,7 @@ pub fn joins(mark: Mark, b: u8) -> bool
     }
 }
 
-// How far it has got with that byte.
+// Tells how far the piece has got with that byte.
 pub fn after(mark: Mark, b: u8) -> Mark
     ensures { λ r. ⌜ r ≡ markAfter mark b ⌝ }
 {

@@ -16,9 +16,9 @@ use Rattle.lines.specs.Machine.{Outcome, outcome, run, replyInRoom, told, Calle
 use Rattle.lines.specs.declared.verdicts.Verdict.the-variants.{Unended, Long, NoState}
 
 -- two texts that are judged alike: the same, or both over 100 characters and both plain or neither
-pub data Alike (k l : List ℕ) : Type 0 where
-  same : k ≡ l → Alike k l
-  over : 100 < length k → 100 < length l → isPlain k ≡ isPlain l → Alike k l
+pub data JudgedAlike (k l : List ℕ) : Type 0 where
+  same : k ≡ l → JudgedAlike k l
+  over : 100 < length k → 100 < length l → isPlain k ≡ isPlain l → JudgedAlike k l
 
 -- a text with a CR
 
@@ -44,11 +44,11 @@ module _ (l : List ℕ) where
   run-over s true e h = rw (ended-is ∙ e, text-is, lt-leb (length l) 100 h)
   run-over s false e h = rw (ended-is ∙ e)
 
-run-alike : (k l : List ℕ) → Alike k l → (s : State) → run s (k ++ (13 ∷ [])) ≡ run s (l ++ (13 ∷ []))
+run-alike : (k l : List ℕ) → JudgedAlike k l → (s : State) → run s (k ++ (13 ∷ [])) ≡ run s (l ++ (13 ∷ []))
 run-alike k l (same e) s = rw e
 run-alike k l (over hk hl e) s = run-over k s (isPlain k) refl hk ∙ sym (run-over l s (isPlain k) (sym e) hl)
 
-pub call-alike : (image k l room : List ℕ) → Alike k l → call image (k ++ (13 ∷ [])) room ≡ call image (l ++ (13 ∷ [])) room
+pub call-alike : (image k l room : List ℕ) → JudgedAlike k l → call image (k ++ (13 ∷ [])) room ≡ call image (l ++ (13 ∷ [])) room
 call-alike image k l room a =
     let s = stateIn image in
     let none : Called = record { answer = told NoState 0; image = image; room = room } in

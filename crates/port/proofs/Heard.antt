@@ -2,7 +2,7 @@
 use Prim.Native.Nat.{ℕ, _+_, _≤_, _<_}
 use mathlib.Core.Path.{_≡_, refl, sym, ap, _∙_}
 use mathlib.Core.Bool.{Bool, true, false, cond, not, _&&_, _||_, and-false, and-true, and-eq-true-iff}
-use mathlib.Core.List.{List, [], _∷_, _++_}
+use mathlib.Core.List.{List, [], _∷_, _++_, flatten}
 use native.Mathlib.Numerals.{add-one}
 use native.Mathlib.Omega.{arith}
 use borrow.Author.Tests.{eqb-true, eqb-false, ltb-true, ltb-false}
@@ -13,17 +13,18 @@ use Rattle.figures.specs.Bytes.{every}
 use Rattle.figures.proofs.Bytes.{every-append}
 use Rattle.commands.specs.Shapes.{isPlain}
 use Rattle.lines.specs.Machine.{Called, call}
-use Rattle.port.specs.Port.{isEnd, quietPort, keptBy, Heard, waits, runs, heard, linesFrom, linesOf, Spoken, spokenBy, calledBy}
+use Rattle.lines.specs.Sessions.{session}
+use Rattle.port.specs.Port.{isEnd, quietPort, keptBy, Heard, waits, runs, heard, linesFrom, linesOf, Spoken, spokenBy, spokenFor}
 use Rattle.port.specs.declared.Port.{Port}
 use Rattle.port.proofs.Hearing.{heard-cr, heard-lf, heard-kept}
-use Rattle.port.proofs.Alike.{Alike, same, over, call-alike}
+use Rattle.port.proofs.Alike.{JudgedAlike, same, over, call-alike}
 
 -- what a port holds of a line that isn't ended yet
 record Holds (p : Port) (line : List ℕ) (after : Bool) : Type 0 where
   pub flag : p .after ≡ after
   pub size : length (p .bytes) ≡ 101
   pub few : p .n ≤ 101
-  pub kept : Alike (take (p .n) (p .bytes)) line
+  pub kept : JudgedAlike (take (p .n) (p .bytes)) line
 
 holds-none : (after : Bool) → Holds (quietPort after) [] after
 holds-none after = record { flag = refl; size = refl; few = omega arith; kept = same refl }
@@ -47,11 +48,11 @@ plain-past bytes b long true e =
     let last : set bytes 100 b ≡ take 100 bytes ++ (b ∷ []) = set-split bytes 100 b (omega arith) ∙ rw (drop-of-length-le bytes {i = 101} (omega arith)) in
     ap isPlain last ∙ plain-more (take 100 bytes) b ∙ rw e (and-false (isPlain (take 100 bytes)) ∙ sym (and-false (isPlain bytes)))
 
-alike-more : (k l : List ℕ) (b : ℕ) → length k < 101 → Alike k l → Alike (k ++ (b ∷ [])) (l ++ (b ∷ []))
+alike-more : (k l : List ℕ) (b : ℕ) → length k < 101 → JudgedAlike k l → JudgedAlike (k ++ (b ∷ [])) (l ++ (b ∷ []))
 alike-more k l b h (same e) = same (rw e)
 alike-more k l b h (over hk hl e) = absurd (omega arith)
 
-alike-over : (k l : List ℕ) → 100 < length k → Alike k l → (100 < length l) × (isPlain k ≡ isPlain l)
+alike-over : (k l : List ℕ) → 100 < length k → JudgedAlike k l → (100 < length l) × (isPlain k ≡ isPlain l)
 alike-over k l h (same e) = (omega (arith, ap length e), ap isPlain e)
 alike-over k l h (over hk hl e) = (hl, e)
 
@@ -107,19 +108,19 @@ saidOf room s h =
 abbrev thenOf : Called → Spoken → Spoken
 thenOf c later = record { image = later .image; out = take (c .answer .count) (c .room) ++ later .out }
 
-abbrev Says : List ℕ → List ℕ → Type 0
-Says room s =
-    (image : List ℕ) (p : Port) (line : List ℕ) (after : Bool) → Holds p line after → spokenBy room p image s ≡ calledBy room image (linesFrom line after s)
+abbrev Spoke : List ℕ → List ℕ → Type 0
+Spoke room s =
+    (image : List ℕ) (p : Port) (line : List ℕ) (after : Bool) → Holds p line after → spokenBy room p image s ≡ spokenFor room image (linesFrom line after s)
 
-module _ (room : List ℕ) (b : ℕ) (s : List ℕ) (later : Says room s) (image : List ℕ) (p : Port) (line : List ℕ) (after : Bool) (h : Holds p line after) where
+module _ (room : List ℕ) (b : ℕ) (s : List ℕ) (later : Spoke room s) (image : List ℕ) (p : Port) (line : List ℕ) (after : Bool) (h : Holds p line after) where
   -- what comes of the byte, and of the lines that it ends or goes on
   so : (next : Heard) (lines : List (List ℕ)) → heard image p b room ≡ next → linesFrom line after (b ∷ s) ≡ lines
-      → saidOf room s next ≡ calledBy room image lines → spokenBy room p image (b ∷ s) ≡ calledBy room image (linesFrom line after (b ∷ s))
-  unfolding spokenBy
-  so next lines eh el e = ap (saidOf room s) eh ∙ e ∙ sym (ap (calledBy room image) el)
+      → saidOf room s next ≡ spokenFor room image lines → spokenBy room p image (b ∷ s) ≡ spokenFor room image (linesFrom line after (b ∷ s))
+  unfolding session flatten
+  so next lines eh el e = ap (saidOf room s) eh ∙ e ∙ sym (ap (spokenFor room image) el)
 
-  by-byte : (cr lf : Bool) → eqb b 13 ≡ cr → eqb b 10 && after ≡ lf → spokenBy room p image (b ∷ s) ≡ calledBy room image (linesFrom line after (b ∷ s))
-  unfolding calledBy linesFrom
+  by-byte : (cr lf : Bool) → eqb b 13 ≡ cr → eqb b 10 && after ≡ lf → spokenBy room p image (b ∷ s) ≡ spokenFor room image (linesFrom line after (b ∷ s))
+  unfolding session flatten linesFrom
   by-byte true lf ex ey =
       let c = call image (line ++ (13 ∷ [])) room in
       so (runs c) ((line ++ (13 ∷ [])) ∷ linesFrom [] true s)
@@ -134,10 +135,10 @@ module _ (room : List ℕ) (b : ℕ) (s : List ℕ) (later : Says room s) (image
       so (waits (keptBy p b) image room) (linesFrom (line ++ (b ∷ [])) false s) (heard-kept image p b room (eqb-false b 13 ex) (rw (h .flag) ey)) (rw (ex, ey))
       (later image (keptBy p b) (line ++ (b ∷ [])) false (holds-more p line after b h))
 
-says : (room s : List ℕ) → Says room s
-unfolding spokenBy calledBy linesFrom
-says room [] image p line after h = refl
-says room (b ∷ s) image p line after h = by-byte room b s (says room s) image p line after h (eqb b 13) (eqb b 10 && after) refl refl
+spoke : (room s : List ℕ) → Spoke room s
+unfolding session flatten linesFrom
+spoke room [] image p line after h = refl
+spoke room (b ∷ s) image p line after h = by-byte room b s (spoke room s) image p line after h (eqb b 13) (eqb b 10 && after) refl refl
 
-pub heard-lines : (room image s : List ℕ) → spokenBy room (quietPort false) image s ≡ calledBy room image (linesOf s)
-heard-lines room image s = says room s image (quietPort false) [] false (holds-none false)
+pub heard-lines : (room image s : List ℕ) → spokenBy room (quietPort false) image s ≡ spokenFor room image (linesOf s)
+heard-lines room image s = spoke room s image (quietPort false) [] false (holds-none false)

@@ -1,6 +1,6 @@
 -- What is said of a refused line fits 231 bytes: 54 of its number and the refusal's, 53 of which rule and byte, 101 of the line, 21 of the caret, and two LF.
 use Prim.Native.Nat.{ℕ, _≤_, _<_}
-use mathlib.Core.Path.{_≡_}
+use mathlib.Core.Path.{_≡_, ap, subst}
 use mathlib.Core.Bool.{Bool, true, false, cond}
 use mathlib.Core.List.{List, [], _++_, map}
 use native.Mathlib.Omega.{arith}
@@ -13,28 +13,14 @@ use Rattle.words.specs.Reading.{faultNumber}
 use Rattle.words.specs.declared.reading.Fault.{Fault}
 use Rattle.lines.specs.Verdicts.{verdictNumber, verdictByte, ofWord, isAccepted}
 use Rattle.lines.specs.declared.verdicts.Verdict.{Verdict}
-use Rattle.lines.specs.declared.verdicts.Verdict.the-variants.{Accepted, Unended, Long, Keyword, Shape, Setting, ReadOnly, Parameter, Index, Word}
-use Rattle.lines.specs.declared.verdicts.Verdict.the-variants.{NeverPut, Full, NoEntry, Room, NoState}
+use Rattle.lines.proofs.Sorts.{of-word}
 use Rattle.lines.proofs.Telling.{tells, tells-small}
 use Rattle.port.specs.Why.{numberText, ruleText, underText, whyText, whyOf}
 
 -- what 26 puts is so long at most, if it is where its byte is told
 of-most : (most : ℕ) (of : Fault → ℕ → List ℕ) (v : Verdict) → ((x : Fault) → length (of x (verdictByte v)) ≤ most) → length (ofWord of [] v) ≤ most
-of-most most of Accepted h = omega arith
-of-most most of Unended h = omega arith
-of-most most of Long h = omega arith
-of-most most of Keyword h = omega arith
-of-most most of Shape h = omega arith
-of-most most of Setting h = omega arith
-of-most most of ReadOnly h = omega arith
-of-most most of Parameter h = omega arith
-of-most most of Index h = omega arith
-of-most most of (Word x at) h = h x
-of-most most of NeverPut h = omega arith
-of-most most of Full h = omega arith
-of-most most of NoEntry h = omega arith
-of-most most of Room h = omega arith
-of-most most of NoState h = omega arith
+of-most most of v h =
+    of-word of [] (λ l. length l ≤ most) v (λ x at e. subst (λ b. length (of x b) ≤ most) (ap verdictByte e) (h x)) (omega arith)
 
 number-short : (n : ℕ) (v : Verdict) → length (numberText n v) ≤ 54
 number-short n v = simp (length-append, digits-length) (omega (arith, places-most n, places-most (verdictNumber v)))

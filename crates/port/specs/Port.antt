@@ -2,11 +2,12 @@
 use Prim.Native.Nat.{ℕ, _+_}
 use mathlib.Core.Path.{_≡_}
 use mathlib.Core.Bool.{Bool, true, false, cond, _&&_, _||_}
-use mathlib.Core.List.{List, [], _∷_, _++_}
+use mathlib.Core.List.{List, [], _∷_, _++_, map, flatten}
 use lib.Dec.{eqb, ltb}
 use lib.ListN.{take, set, replicate}
 use Rattle.figures.specs.Text.{codes}
 use Rattle.lines.specs.Machine.{told, Called, call, Calls}
+use Rattle.lines.specs.Sessions.{Exchange, session, called}
 use Rattle.lines.specs.declared.machine.Told.{Told}
 use Rattle.lines.specs.declared.verdicts.Verdict.the-variants.{Accepted}
 use Rattle.port.specs.declared.Port.{Port}
@@ -34,7 +35,7 @@ lineOf p = take (p .n) (p .bytes) ++ codes "\r"
 abbrev pub Answers : List ℕ → Port → List ℕ → Told → List ℕ → List ℕ → Type 0
 Answers image p room r image′ room′ = Calls image (lineOf p) room r image′ room′
 
--- one byte; where it ends no line nothing is told
+-- what comes of one byte; where it ends no line, nothing is told
 pub record Heard : Type 0 where
   pub turn : Turn
   pub image : List ℕ
@@ -67,23 +68,28 @@ linesFrom line after (b ∷ s) =
 abbrev pub linesOf : List ℕ → List (List ℕ)
 linesOf = linesFrom [] false
 
--- what goes out for bytes that come in, each with a room of its own, and the image then
+-- what goes out in all, and the image then
 pub record Spoken : Type 0 where
   pub image : List ℕ
   pub out : List ℕ
 
--- each byte at the port
-unfoldable pub spokenBy : List ℕ → Port → List ℕ → List ℕ → Spoken
-spokenBy room p image [] = record { image = image; out = [] }
-spokenBy room p image (b ∷ s) =
-    let h = heard image p b room in
-    let later = spokenBy room (h .turn .port) (h .image) s in
-    record { image = later .image; out = take (h .turn .told .count) (h .room) ++ later .out }
+-- each byte at the port, with a room of its own
+pub record Listening : Type 0 where
+  pub port : Port
+  pub image : List ℕ
+
+abbrev pub hears : List ℕ → Listening → ℕ → Exchange Listening
+hears room l b =
+    let h = heard (l .image) (l .port) b room in
+    record { left = record { port = h .turn .port; image = h .image }; reply = take (h .turn .told .count) (h .room) }
+
+abbrev pub spokenBy : List ℕ → Port → List ℕ → List ℕ → Spoken
+spokenBy room p image s =
+    let e = session (hears room) (record { port = p; image = image }) s in
+    record { image = e .left .image; out = flatten (e .replies) }
 
 -- each line by itself
-unfoldable pub calledBy : List ℕ → List ℕ → List (List ℕ) → Spoken
-calledBy room image [] = record { image = image; out = [] }
-calledBy room image (l ∷ ls) =
-    let c = call image l room in
-    let later = calledBy room (c .image) ls in
-    record { image = later .image; out = take (c .answer .count) (c .room) ++ later .out }
+abbrev pub spokenFor : List ℕ → List ℕ → List (List ℕ) → Spoken
+spokenFor room image ls =
+    let e = session called image (map (λ l. record { line = l; room = room }) ls) in
+    record { image = e .left; out = flatten (e .replies) }

@@ -23,11 +23,11 @@ ruleText v = ofWord (λ fault byte. codes " which=" ++ (decimalOf (faultNumber f
 abbrev pub underText : Verdict → List ℕ
 underText v = ofWord (λ fault byte. caretText byte) [] v
 
--- the so manyth line
+-- the line's number among the lines, the verdict, and the line
 abbrev pub whyText : ℕ → Verdict → List ℕ → List ℕ
 whyText n v line = numberText n v ++ (ruleText v ++ (codes "\n" ++ (map shown line ++ (codes "\n" ++ underText v))))
 
--- of a line that is accepted nothing
+-- nothing is said of a line that is accepted
 abbrev pub whyOf : ℕ → Verdict → List ℕ → List ℕ
 whyOf n v line = cond (isAccepted v) [] (whyText n v line)
 

@@ -10,7 +10,7 @@ use lines::machine::Told;
 use lines::machine::line;
 use lines::verdicts::Verdict;
 
-// Of a longer line this much is kept: enough to be judged as the whole line is.
+// The most that is kept of a line: enough for it to be judged as the whole line is.
 pub const MOST: usize = 101;
 
 // What came in of the line that isn't ended yet, and whether the byte before was a CR.
@@ -26,7 +26,7 @@ pub struct Turn {
     pub told: Told,
 }
 
-// A port at which nothing came in.
+// Gives a port at which nothing came in.
 pub fn quiet() -> Port
     ensures { λ r. ⌜ r ≡ quietPort false ⌝ }
 {
@@ -37,7 +37,7 @@ pub fn quiet() -> Port
     }
 }
 
-// A byte of a line. Past the most that is kept a CR or LF still shows, in the last place.
+// Keeps a byte of a line. Past the most that is kept a CR or LF still shows, in the last place.
 fn keep(port: Port, b: u8) -> Port
     ensures { λ r. ⌜ r ≡ keptBy port b ⌝ }
 {
@@ -61,7 +61,7 @@ fn keep(port: Port, b: u8) -> Port
     }
 }
 
-// How many bytes of the line are kept.
+// Tells how many bytes of the line are kept.
 pub(crate) fn held(port: Port) -> usize
     ensures { λ r. ⌜ r ≡ min (port .n) keptMost ⌝ }
 {
@@ -80,7 +80,7 @@ fn answer(image: &mut [u8], port: Port, room: &mut [u8]) -> Told
     line(image, &text[0..n + 1], room)
 }
 
-// What is told of a byte that ends no line.
+// Gives what is told of a byte that ends no line.
 fn nothing() -> Told
     ensures { λ r. ⌜ r ≡ told Verdict.Accepted 0 ⌝ }
 {
@@ -91,7 +91,7 @@ fn nothing() -> Told
     }
 }
 
-// One byte at the port, with the state lent as an image and room for a reply.
+// Takes one byte at the port, with the state lent as an image and room for a reply.
 pub fn hear(image: &mut [u8], port: Port, b: u8, room: &mut [u8]) -> Turn
     ensures { λ r. ⌜ Turns (now (image .entry)) port b (now (room .entry)) r (now (image .exit)) (now (room .exit)) ⌝ }
 {

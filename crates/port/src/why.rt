@@ -48,7 +48,7 @@ fn put_under(room: &mut [u8], at: usize, verdict: Verdict) -> usize
     }
 }
 
-// Why the so manyth line, which the port had kept, was refused; nothing where it was accepted.
+// Puts why the line that the port had kept was refused, with its number among the lines; nothing where it was accepted.
 pub fn put_why(room: &mut [u8], number: u64, port: Port, verdict: Verdict) -> usize
     ensures { λ r. ⌜ Puts (now (room .entry)) 0 (whyOf number verdict (keptIn port)) r (now (room .exit)) ⌝ }
 {

@@ -10,7 +10,7 @@ use Rattle.reports.specs.Piece.{reportOf, tallyText}
 use Rattle.reading.specs.Turns.{isTaken, lastLine, finished, finishedText, Standing, fedAt, next, afterBytes, begun}
 use Rattle.units.specs.declared.kinds.Family.{Family}
 
--- the report of each piece, of which the first is number k + 1 and starts there, when of the k before it so many were accepted and refused
+-- the report of each piece, and then the counts: the first piece is number k + 1 and starts at that place; of the k before it some were accepted, some refused
 unfoldable pub reportsFrom : Family → ℕ → ℕ → ℕ → ℕ → List (List ℕ) → List ℕ
 reportsFrom f k at accepted refused [] = tallyText k accepted refused
 reportsFrom f k at accepted refused (p ∷ ps) =
@@ -20,7 +20,7 @@ reportsFrom f k at accepted refused (p ∷ ps) =
 abbrev pub printedOf : Family → List ℕ → List ℕ
 printedOf f s = reportsFrom f 0 0 0 0 (pieces s)
 
--- the same as the program does it: what a byte hands over to be written, and what the file's end does
+-- the same in the program's own steps: what a byte hands over to be written, and what the file's end does
 
 abbrev pub handed : Family → Standing → ℕ → List ℕ
 handed f s b = let t = fedAt f s b in take (t .turn .count) (t .text)

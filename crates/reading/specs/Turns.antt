@@ -15,7 +15,7 @@ use Rattle.reading.specs.declared.turns.Progress.{Progress}
 use Rattle.reading.specs.declared.turns.Turn.{Turn}
 use Rattle.reading.specs.declared.Next.{Next}
 
--- the largest count; no file is so long that it stands in for a larger
+-- the largest count, at which counting stops; no file is that long
 abbrev pub largest : ℕ
 largest = 18446744073709551615
 
@@ -28,7 +28,7 @@ isTaken f piece = isRead (judged f piece 32 .answer)
 abbrev pub started : Progress
 started = record { mark = Open; kept = 0; place = 0; next = 0; blocks = 0; accepted = 0; refused = 0 }
 
--- the piece's next byte, of which a place is kept where there is one
+-- the piece's next byte comes in, and is kept where there is a place for it
 abbrev pub joined : ℕ → Progress → ℕ → Progress
 joined size g b = record {
   mark = markAfter (g .mark) b;
@@ -131,11 +131,11 @@ begun = record { progress = started; room = replicate 800 0; text = replicate 53
 abbrev pub Reached : Family → List ℕ → Progress → List ℕ → Type 0
 Reached f room g text = (file : List ℕ) × (afterBytes f begun file ≡ record { progress = g; room = room; text = text })
 
--- all of these bytes were taken, where it goes on
+-- where the reading goes on, all of these bytes were taken
 abbrev pub Goes : Family → List ℕ → Progress → List ℕ → List ℕ → Next → List ℕ → List ℕ → Type 0
 Goes f room g bytes text r room′ text′ =
     r .on ≡ true → afterBytes f (record { progress = g; room = room; text = text }) bytes ≡ record { progress = r .progress; room = room′; text = text′ }
 
--- these bytes are those of a read, of which no contract can say more
+-- the bytes are those of one read, and no contract can say more of them
 abbrev pub GoesOn : Family → List ℕ → Progress → List ℕ → Next → List ℕ → List ℕ → Type 0
 GoesOn f room g text r room′ text′ = (bytes : List ℕ) × Goes f room g bytes text r room′ text′

@@ -9,7 +9,7 @@ pub enum Asked {
     File(Family),
 }
 
-// By the number of arguments, the program's own name counted, and the first of the others.
+// Tells what is asked by the number of arguments, the program's own name counted, and the first of the others.
 pub(crate) fn asked_by(count: usize, word: &[u8]) -> Asked
     ensures { λ r. ⌜ r ≡ askedBy count (now (word .entry)) ⌝ }
 {

@@ -1,5 +1,5 @@
-// The program reading: reads a GSI file from standard input, and prints what stands in each of its blocks. A total station's; a level's where
-// its argument is `level`.
+// The program reading: reads a GSI file from standard input, and prints what stands in each of its blocks. The file is a total station's, or a
+// level's where the argument is `level`.
 mod asked;
 mod turns;
 
@@ -26,7 +26,7 @@ struct Next {
     on: bool,
 }
 
-// The text's first n bytes, the only ones that are written: what the next byte of a file of the family, or its end, puts out.
+// Writes the text's first n bytes and no others: they are what the next byte of a file of the family, or its end, puts out.
 fn print(family: Family, text: &[u8], n: usize) -> bool
     requires { ⌜ n ≤ length (now text) ⌝ }
     requires { ⌜ Due family (now text) n ⌝ }
@@ -34,7 +34,7 @@ fn print(family: Family, text: &[u8], n: usize) -> bool
     io::write_all(STDOUT_FILENO, &text[..n])
 }
 
-// The bytes of one read.
+// Takes the bytes of one read.
 fn feed_all(
     family: Family,
     bytes: &[u8],
@@ -85,7 +85,7 @@ fn turn(family: Family, room: &mut [u8], progress: Progress, text: &mut [u8]) ->
     }
 }
 
-// Reads the file to its end. A proved loop has to end, so that this one counts its turns down, from a number that no run uses up.
+// Reads the file to its end. A proved loop has to end, so this one counts its turns down from a number that no run uses up.
 fn run(family: Family) {
     let mut room = [0; KEPT];
     let mut text = [0; TEXT];
@@ -101,7 +101,7 @@ fn run(family: Family) {
     }
 }
 
-// The first argument; more than `level` has bytes is no answer that counts.
+// Reads the first argument; one with more bytes than `level` asks for nothing that there is.
 fn ask() -> Asked {
     let n = os::arg_count();
     let mut word = [0; 8];
@@ -118,7 +118,10 @@ fn ask() -> Asked {
 fn main() {
     match ask() {
         Asked::Usage => {
-            io::write_all(STDERR_FILENO, b"usage: reading [level] < FILE\n");
+            io::write_all(
+                STDERR_FILENO,
+                b"usage: reading [level] < FILE\ndocs/REFUSALS.md says what the number of each refusal means.\n",
+            );
         }
         Asked::File(family) => run(family),
     }

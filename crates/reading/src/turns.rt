@@ -14,8 +14,8 @@ use reports::piece::report;
 use reports::piece::tally;
 use units::kinds::Family;
 
-// Of a piece so many bytes are kept. A block is at most 771 bytes long, and no more of a text is shown, so that the piece is reported as if all of
-// it were.
+// How many bytes of a piece are kept. A block is at most 771 bytes long, and no more of a text is shown, so the piece is reported as if all of it
+// were kept.
 pub const KEPT: usize = 800;
 
 // Room for the longest report, and for the last line, of at most 87 bytes.
@@ -53,7 +53,7 @@ pub(crate) fn start() -> Progress
     }
 }
 
-// One more, up to the largest count.
+// Adds one, up to the largest count.
 fn more(n: u64) -> u64
     ensures { λ r. ⌜ r ≡ moreOf n ⌝ }
 {
@@ -63,7 +63,7 @@ fn more(n: u64) -> u64
     n
 }
 
-// The piece's next byte.
+// Takes the piece's next byte.
 fn join(room: &mut [u8], progress: Progress, b: u8) -> Progress
     ensures { λ r. ⌜ (r ≡ joined (length (now (room .entry))) progress b) × (now (room .exit) ≡ putAt (now (room .entry)) (progress .kept) (b ∷ [])) ⌝ }
 {
@@ -81,7 +81,7 @@ fn join(room: &mut [u8], progress: Progress, b: u8) -> Progress
     }
 }
 
-// The report of the piece, which has ended.
+// Puts the report of the piece, which has ended.
 fn tell(family: Family, room: &[u8], progress: Progress, text: &mut [u8]) -> Turn
     requires { ⌜ progress .kept ≤ length (now room) ⌝ }
     ensures { λ r. ⌜ (r ≡ reported family (now (room .entry)) progress (length (now (text .entry)))) × (now (text .exit) ≡ toldText family (now (room .entry)) progress (now (text .entry))) ⌝ }
@@ -110,7 +110,7 @@ fn tell(family: Family, room: &[u8], progress: Progress, text: &mut [u8]) -> Tur
     }
 }
 
-// The next byte of the file. Where it starts a piece, the report of the one before is put.
+// Takes the next byte of the file. Where it starts a piece, the report of the one before is put.
 pub(crate) fn feed(
     family: Family,
     room: &mut [u8],
@@ -138,7 +138,7 @@ pub(crate) fn feed(
     }
 }
 
-// The end of the file. Where it ends a piece, the report of that is put.
+// Comes to the end of the file. Where that ends a piece, the report of the piece is put.
 fn finish(family: Family, room: &[u8], progress: Progress, text: &mut [u8]) -> Turn
     requires { ⌜ progress .kept ≤ length (now room) ⌝ }
     ensures { λ r. ⌜ (r ≡ finished family (now (room .entry)) progress (length (now (text .entry)))) × (now (text .exit) ≡ finishedText family (now (room .entry)) progress (now (text .entry))) ⌝ }
@@ -152,7 +152,7 @@ fn finish(family: Family, room: &[u8], progress: Progress, text: &mut [u8]) -> T
     tell(family, room, progress, text)
 }
 
-// The end of the file: the report of a last piece without CR and, after it, the last line.
+// Closes the file: puts the report of a last piece without CR and, after it, the last line.
 pub(crate) fn close(family: Family, room: &[u8], progress: Progress, text: &mut [u8]) -> usize
     requires { ⌜ progress .kept ≤ length (now room) ⌝ }
     ensures { λ r. ⌜ Closes family (now (room .entry)) progress (now (text .entry)) r (now (text .exit)) ⌝ }

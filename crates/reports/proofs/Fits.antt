@@ -3,7 +3,7 @@
 use Prim.Native.Nat.{ℕ, suc, _*_, _≤_}
 use mathlib.Core.Path.{_≡_, refl, subst}
 use mathlib.Core.Bool.{Bool, true, false, _&&_, and-eq-true-iff}
-use mathlib.Core.List.{List, [], _∷_}
+use mathlib.Core.List.{List, [], _∷_, _++_}
 use native.Mathlib.Omega.{arith}
 use borrow.Author.Tests.{eqb-true}
 use lib.Dec.{eqb}
@@ -12,6 +12,8 @@ use lib.Seq.{take-at}
 use Rattle.figures.proofs.Bytes.{laid-fits}
 use Rattle.figures.specs.Decimal.{placesBy, places}
 use Rattle.figures.proofs.Decimal.{digits-length}
+use Rattle.figures.specs.Text.{codes}
+use Rattle.units.specs.Information.{indexBytes, infoBytes}
 use Rattle.units.specs.declared.kinds.Family.{Family}
 use Rattle.words.specs.Records.{isRight, width}
 use Rattle.words.specs.declared.records.Word.{Word}
@@ -31,7 +33,8 @@ use Rattle.figures.proofs.Places.{places-most}
 
 word-short : (f : Family) (k : ℕ) (wide : Bool) (w : Word) → length (w .info) ≡ 4 → length (wordText f k wide w) ≤ 160
 word-short f k wide w h =
-    simp (length-append, digits-length) (omega (arith, places-most k, index-short (w .index) (w .info) h, value-short f wide w))
+    let index = length-append (indexBytes (w .index)) (codes " info=" ++ infoBytes (w .index) (w .info)) in
+    simp (length-append, digits-length) (omega (arith, places-most k, index, index-short (w .index) (w .info) h, value-short f wide w))
 
 info-four : (f : Family) (wide : Bool) (w : Word) → isRight f wide w ≡ true → length (w .info) ≡ 4
 info-four f wide w e =

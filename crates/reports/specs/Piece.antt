@@ -26,7 +26,7 @@ use Rattle.reports.specs.declared.piece.Reported.{Reported}
 abbrev pub fieldText : List ℕ → ℕ → List ℕ
 fieldText key n = key ++ decimalOf n
 
--- two of them, and LF
+-- two such fields, and LF
 abbrev pub lineText : List ℕ → ℕ → List ℕ → ℕ → List ℕ
 lineText key n other m = fieldText key n ++ (fieldText other m ++ codes "\n")
 
@@ -78,7 +78,7 @@ abbrev pub answerText : Family → List ℕ → Answer → List Word → List �
 answerText f piece (Refused r) ws = refusalText r ++ whereText piece (refusalTells r)
 answerText f piece (Read r) ws = readingText r ++ wordsText f 1 (r .wide) ws
 
--- a piece that is the so manyth of the family's file and starts there, read into a list of 32 places
+-- the report of a piece of the family's file, by its number, its start in the file and its bytes, which are read into a list of 32 places
 abbrev pub reportOf : Family → ℕ → ℕ → List ℕ → List ℕ
 reportOf f number at piece = headText number at ++ answerText f piece (judged f piece 32 .answer) (judged f piece 32 .words)
 

@@ -27,7 +27,7 @@ use words::records::Word;
 // Room enough for the report of any piece.
 pub const ENOUGH: usize = 5_280;
 
-// Of a refused piece no more is shown: the bytes that the longest block has before its CR, and the one in the CR's place.
+// The most that is shown of a refused piece: the bytes that the longest block has before its CR, and the one in the CR's place.
 const TEXT_MOST: usize = 770;
 
 // How many bytes of a report were put, and whether the block was accepted.
@@ -36,7 +36,7 @@ pub struct Reported {
     pub accepted: bool,
 }
 
-// A key, and a number in its fewest digits.
+// Puts a key, and a number in its fewest digits.
 fn put_field(room: &mut [u8], at: usize, key: &[u8], n: u64) -> usize
     ensures { λ r. ⌜ Puts (now (room .entry)) at (fieldText (now (key .entry)) n) r (now (room .exit)) ⌝ }
 {
@@ -44,7 +44,7 @@ fn put_field(room: &mut [u8], at: usize, key: &[u8], n: u64) -> usize
     put_decimal(room, next, n)
 }
 
-// Two fields, and the line's end.
+// Puts two fields, and the line's end.
 fn put_line(room: &mut [u8], at: usize, key: &[u8], n: u64, other: &[u8], m: u64) -> usize
     ensures { λ r. ⌜ Puts (now (room .entry)) at (lineText (now (key .entry)) n (now (other .entry)) m) r (now (room .exit)) ⌝ }
 {
@@ -53,7 +53,7 @@ fn put_line(room: &mut [u8], at: usize, key: &[u8], n: u64, other: &[u8], m: u64
     put(room, last, b"\n")
 }
 
-// The start of a word's line, up to its value.
+// Puts the start of a word's line, up to its value.
 fn put_name(room: &mut [u8], at: usize, number: usize, index: u16, info: [u8; 4]) -> usize
     ensures { λ r. ⌜ Puts (now (room .entry)) at (nameText number index info) r (now (room .exit)) ⌝ }
 {
@@ -62,7 +62,7 @@ fn put_name(room: &mut [u8], at: usize, number: usize, index: u16, info: [u8; 4]
     put_index(room, after_key, index, info)
 }
 
-// One word's line.
+// Puts one word's line.
 fn put_word(room: &mut [u8], at: usize, number: usize, w: Word, family: Family, wide: bool) -> usize
     ensures { λ r. ⌜ Puts (now (room .entry)) at (wordText family number wide w) r (now (room .exit)) ⌝ }
 {
@@ -72,7 +72,7 @@ fn put_word(room: &mut [u8], at: usize, number: usize, w: Word, family: Family, 
     put(room, after_value, b"\n")
 }
 
-// The lines of the first n words.
+// Puts the lines of the first n words.
 fn put_words(
     room: &mut [u8],
     at: usize,
@@ -100,14 +100,14 @@ fn put_head(room: &mut [u8], number: u64, place: u64) -> usize
     put_field(room, after_number, b" at=", place)
 }
 
-// How long the name of a block's end is with its key.
+// Tells how long the name of a block's end is with its key.
 fn end_size(crlf: bool) -> usize
     ensures { λ r. ⌜ r ≡ endSize crlf ⌝ }
 {
     if crlf { 9 } else { 7 }
 }
 
-// The form of a block: its width and its end.
+// Puts the form of a block: its width and its end.
 fn put_form(room: &mut [u8], at: usize, wide: bool, crlf: bool) -> usize
     ensures { λ r. ⌜ Puts (now (room .entry)) at (formText wide crlf) r (now (room .exit)) ⌝ }
 {
@@ -146,7 +146,7 @@ fn put_refusal(room: &mut [u8], at: usize, refusal: Refusal) -> usize
     )
 }
 
-// The text of a refused piece, and under it the byte.
+// Puts the text of a refused piece, and a caret under the byte.
 fn put_where(room: &mut [u8], at: usize, piece: &[u8], place: usize) -> usize
     ensures { λ r. ⌜ Puts (now (room .entry)) at (whereText (now (piece .entry)) place) r (now (room .exit)) ⌝ }
 {
@@ -161,7 +161,7 @@ fn put_where(room: &mut [u8], at: usize, piece: &[u8], place: usize) -> usize
     put_caret(room, after_line, place)
 }
 
-// The report of a piece that is the so manyth of the family's file and starts at that place in it.
+// Puts the report of a piece of the family's file: its number among the pieces, counted from 1, and the byte of the file where it starts are given.
 pub fn report(family: Family, number: u64, place: u64, piece: &[u8], room: &mut [u8]) -> Reported
     ensures { λ r. ⌜ Reports family number place (now (piece .entry)) (now (room .entry)) r (now (room .exit)) ⌝ }
 {
@@ -190,7 +190,7 @@ pub fn report(family: Family, number: u64, place: u64, piece: &[u8], room: &mut 
     }
 }
 
-// The last line: how many blocks there were, and how many of them were accepted and refused.
+// Puts the last line: how many blocks there were, and how many of them were accepted and refused.
 pub fn tally(blocks: u64, accepted: u64, refused: u64, room: &mut [u8]) -> usize
     ensures { λ r. ⌜ Puts (now (room .entry)) 0 (tallyText blocks accepted refused) r (now (room .exit)) ⌝ }
 {

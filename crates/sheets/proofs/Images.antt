@@ -1,7 +1,7 @@
 -- Sheets and images: a sheet written from one image and loaded into another carries settings and values over, and a loaded sheet is written again.
 use Prim.Native.Nat.{ℕ, _≤_}
 use mathlib.Core.Path.{_≡_, refl, sym, ap, _∙_}
-use mathlib.Core.Bool.{Bool, true, cond}
+use mathlib.Core.Bool.{Bool, true, false, cond}
 use mathlib.Core.List.{List}
 use native.Mathlib.Omega.{arith}
 use borrow.Author.Tests.{le-leb}
@@ -12,7 +12,8 @@ use Rattle.figures.proofs.Bytes.{laid-fits}
 use Rattle.state.specs.Entries.{noEntries, isState}
 use Rattle.instrument.specs.Settings.{held, padded}
 use Rattle.instrument.specs.declared.settings.Series.{Series}
-use Rattle.state.specs.Image.{imageOf, seriesIn, stateIn}
+use Rattle.state.specs.Image.{imageOf, seriesIn, stateIn, isImage}
+use Rattle.instrument.specs.declared.values.Value.{Value}
 use Rattle.state.specs.declared.entries.State.{State}
 use Rattle.state.proofs.Images.{shaped, image-is, image-back, image-series}
 use Rattle.sheets.specs.Answers.{sheetTells}
@@ -46,7 +47,23 @@ written s room r room′ e h w =
       ap (take (length (sheetOf s))) (w .1 ∙ ap (λ (o : Sheet·room). o .room) is) ∙ laid-start (sheetOf s) room h,
     )
 
--- what loading into an image comes to
+-- what loading into any lent bytes comes to
+pub data LoadsAs (image sheet : List ℕ) (o : Loaded·image) : Type 0 where
+  lent-none : isImage image ≡ false → o ≡ record { answer = NoState; image = image } → LoadsAs image sheet o
+  lent-wrong : (at : ℕ) → loadingOf (seriesIn image) sheet ≡ wrong at → o ≡ record { answer = Wrong at; image = image } → LoadsAs image sheet o
+  lent-right : (settings : List ℕ) (values : List Value) → loadingOf (seriesIn image) sheet ≡ right settings values
+      → o ≡ record { answer = Loaded; image = imageOf (noEntries (seriesIn image) (padded settings) values) } → LoadsAs image sheet o
+
+pub loads-as : (image sheet : List ℕ) → LoadsAs image sheet (loaded image sheet)
+loads-as image sheet = by (isImage image) (loadingOf (seriesIn image) sheet) refl refl
+  where
+    by : (b : Bool) (l : Loading) → isImage image ≡ b → loadingOf (seriesIn image) sheet ≡ l
+        → LoadsAs image sheet (cond b (loadedBy (seriesIn image) image l) (record { answer = NoState; image = image }))
+    by false l i q = lent-none i refl
+    by true (wrong at) i q = lent-wrong at q refl
+    by true (right settings values) i q = lent-right settings values q refl
+
+-- and into an image
 pub image-loads : (t : State) (sheet : List ℕ) → isState t ≡ true → loaded (imageOf t) sheet ≡ loadedBy (t .series) (imageOf t) (loadingOf (t .series) sheet)
 image-loads t sheet e =
     let i = imageOf t in

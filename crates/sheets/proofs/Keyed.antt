@@ -1,8 +1,8 @@
 -- Laws of the keys that the rows of the tables hold, by one computed test of every row.
-use Prim.Native.Nat.{ℕ, zero, suc, _-_, _≤_}
+use Prim.Native.Nat.{ℕ, _-_, _≤_}
 use mathlib.Core.Path.{_≡_, refl, sym, ap}
 use mathlib.Core.Bool.{Bool, true, false, cond, _&&_, and-eq-true-iff}
-use mathlib.Core.List.{List, [], _∷_}
+use mathlib.Core.List.{List, []}
 use native.Mathlib.Nat.{sub-zero}
 use native.Mathlib.Omega.{arith}
 use borrow.Author.Tests.{eqb-true, leb-true}
@@ -17,24 +17,13 @@ use Rattle.figures.proofs.Putting.{puts-as}
 use Rattle.instrument.specs.Settings.{settingNumber, noRow, rows100, rows300, rowsOf, rowAt}
 use Rattle.instrument.specs.Values.{noStored, stored, storedAt, indexNumber}
 use Rattle.instrument.specs.Rows.{keyOf, keyBytes}
+use Rattle.instrument.proofs.Seek.{eachRow, row-tested}
 use Rattle.instrument.specs.declared.settings.Series.{Series}
 use Rattle.instrument.specs.declared.settings.Series.the-variants.{Tps100, Tps300}
 use Rattle.instrument.specs.declared.settings.Row.{Row}
 use Rattle.instrument.specs.declared.values.Stored.{Stored}
 use Rattle.sheets.specs.Sheet.{settingKey, valueKey}
 use Rattle.sheets.specs.Keeping.{keyLength}
-
--- a test of every row of a table, whatever a row is
-unfoldable pub eachRow : {A : Type 0} → (A → Bool) → List A → Bool
-eachRow test [] = true
-eachRow test (r ∷ rs) = test r && eachRow test rs
-
--- so it holds of the row at a place, past the last too
-pub row-tested : {A : Type 0} (test : A → Bool) (rs : List A) (d : A) → test d ≡ true → eachRow test rs ≡ true → (i : ℕ) → test (getD rs i d) ≡ true
-unfolding eachRow
-row-tested test [] d h e i = h
-row-tested test (r ∷ rs) d h e zero = and-eq-true-iff (test r) (eachRow test rs) .0 e .0
-row-tested test (r ∷ rs) d h e (suc i) = row-tested test rs d h (and-eq-true-iff (test r) (eachRow test rs) .0 e .1) i
 
 -- a key of so many bytes at most, as a row holds it
 pub record Keyed (held key : List ℕ) (most : ℕ) : Type 0 where
@@ -95,15 +84,15 @@ setting-key-put k i n key room at e en p = key-put (setting-keyed k i) room at e
 -- the values' rows
 
 abbrev valueKeyed : Stored → Bool
-valueKeyed r = isKeyed (r .3) (keyOf "v" (indexNumber r)) 4
+valueKeyed r = isKeyed (r .key) (keyOf "v" (indexNumber r)) 4
 
 values-keyed : (valueKeyed noStored ≡ true) × (eachRow valueKeyed stored ≡ true)
 unfolding eachRow stored digitsOf placesBy startsWith
 values-keyed = (refl, refl)
 
-pub value-keyed : (i : ℕ) → Keyed (storedAt i .3) (valueKey i) 4
-value-keyed i = keyed (storedAt i .3) (valueKey i) 4 (row-tested valueKeyed stored noStored (values-keyed .0) (values-keyed .1) i)
+pub value-keyed : (i : ℕ) → Keyed (storedAt i .key) (valueKey i) 4
+value-keyed i = keyed (storedAt i .key) (valueKey i) 4 (row-tested valueKeyed stored noStored (values-keyed .0) (values-keyed .1) i)
 
-pub value-key-put : (i n : ℕ) (r : Stored) (room : List ℕ) (at : ℕ) {one : List ℕ} {m : ℕ} → r ≡ storedAt i → n ≡ keyLength (r .3)
-    → Puts room at (midOf 0 (n - 0) (r .3)) m one → Puts room at (valueKey i) m one
-value-key-put i n r room at e en p = key-put (value-keyed i) room at (ap (λ (x : Stored). x .3) e) en p
+pub value-key-put : (i n : ℕ) (r : Stored) (room : List ℕ) (at : ℕ) {one : List ℕ} {m : ℕ} → r ≡ storedAt i → n ≡ keyLength (r .key)
+    → Puts room at (midOf 0 (n - 0) (r .key)) m one → Puts room at (valueKey i) m one
+value-key-put i n r room at e en p = key-put (value-keyed i) room at (ap (λ (x : Stored). x .key) e) en p

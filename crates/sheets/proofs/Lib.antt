@@ -2,13 +2,17 @@ pub mod Keyed
 pub mod Linewise
 pub mod Partwise
 pub mod Says
+pub mod Ended
 pub mod Sheets
 pub mod Sizes
 pub mod Images
 pub mod Starts
+pub mod Acts
 pub mod Determined
 pub mod Turns
 pub mod Reached
 pub mod Played
 pub mod Writes
 pub mod Loads
+pub mod FirstWrong
+pub mod Told

@@ -6,27 +6,28 @@ use mathlib.Core.List.{List, _++_, append-nil}
 use native.Mathlib.Omega.{arith}
 use borrow.Author.Tests.{eq-eqb, ne-eqb}
 use lib.Dec.{eqb}
-use lib.ListN.{length, take, drop, replicate, drop-of-length-le, length-append, length-replicate, take-append-drop}
+use lib.ListN.{length, take, drop, replicate, drop-of-length-le, length-replicate, take-append-drop}
 use lib.Seq.{length-take-le}
-use Rattle.figures.proofs.Bytes.{laid-fits}
+use Rattle.figures.specs.Bytes.{startsWith}
+use Rattle.figures.proofs.Bytes.{laid-fits, starts-length}
+use Rattle.figures.proofs.Tests.{by-test}
 use Rattle.state.specs.Entries.{valueOf, noEntries}
 use Rattle.instrument.specs.Values.{valuesN}
-use Rattle.instrument.specs.Settings.{settingsMost, padded}
+use Rattle.instrument.specs.Settings.{settingsN, settingsMost, padded}
 use Rattle.instrument.specs.declared.settings.Series.{Series}
 use Rattle.state.specs.Image.{imageN, imageOf, seriesIn, isImage, encodedIn}
 use Rattle.instrument.specs.declared.values.Kept.the-variants.{Never}
 use Rattle.instrument.specs.declared.values.Value.{Value}
-use Rattle.sheets.specs.Sheet.{seriesLine}
+use Rattle.sheets.specs.Sheet.{seriesLine, settingLines, valueLines}
 use Rattle.sheets.specs.Loading.{settingsIn, valuesFrom}
 use Rattle.sheets.specs.Loading.{Loading, wrong, right, afterValues, afterSettings, loadingOf, Loaded·image, loadedBy, loaded, Loads}
 use Rattle.sheets.specs.Keeping.{settingsAs, valuesAs}
 use Rattle.sheets.specs.declared.loading.Came.{Came}
 use Rattle.sheets.specs.declared.loading.Came.the-variants.{Wrong, To}
-use Rattle.sheets.specs.declared.loading.Settings.{Settings}
 use Rattle.sheets.specs.declared.loading.Values.{Values}
 use Rattle.sheets.specs.declared.answers.Sheeted.the-variants as answer
-use Rattle.sheets.proofs.Partwise.{came, taken-within}
-use Rattle.sheets.proofs.Sheets.{settings-taken, values-taken}
+use Rattle.sheets.proofs.Partwise.{came, wrong-came, taken-within, part-taken}
+use Rattle.sheets.proofs.Says.{setting-said, value-said}
 
 -- what the code keeps of a part that came to its end
 
@@ -49,21 +50,22 @@ values-kept at got h =
     let all : got ++ drop (length got) nevers ≡ got = rw (drop-of-length-le nevers {i = length got} (omega arith)) (append-nil got) in
     λ j. record { came = To at; values = all j }
 
-module _ (k : Series) (sheet : List ℕ) (at : ℕ) (came : settingsIn k sheet .came ≡ To at) where
-  settings-all : settingsIn k sheet ≡ record { came = To at; got = settingsIn k sheet .got }
-  settings-all = λ j. record { came = came j; got = settingsIn k sheet .got }
+within-by : (k : Series) (sheet : List ℕ) (at : ℕ) (settings : List ℕ) → settingsIn k sheet ≡ came at settings → at ≤ length sheet
+within-by k sheet at settings q =
+    let head = seriesLine k in
+    by-test (startsWith head sheet)
+    (λ e. taken-within (part-taken (settingLines k) (settingsN k) (length head) sheet at settings (setting-said k) (rw e at q)) (starts-length head sheet e))
+    (λ e. absurd (wrong-came (rw e at q)))
 
-  pub settings-within : at ≤ length sheet
-  settings-within =
-      let t = settings-taken k sheet at (settingsIn k sheet .got) settings-all in
-      taken-within (t .1) (omega (arith, ap length (t .0), length-append (seriesLine k) (drop (length (seriesLine k)) sheet)))
+pub settings-within : (k : Series) (sheet : List ℕ) (at : ℕ) → settingsIn k sheet .came ≡ To at → at ≤ length sheet
+settings-within k sheet at e = within-by k sheet at (settingsIn k sheet .got) (λ j. record { came = e j; got = settingsIn k sheet .got })
 
 pub values-got : (sheet : List ℕ) (start end : ℕ) → valuesFrom sheet start .came ≡ To end
     → valuesAs (valuesFrom sheet start) .values ≡ valuesFrom sheet start .got
 values-got sheet start end e =
     let got = valuesFrom sheet start .got in
     let all : valuesFrom sheet start ≡ came end got = λ j. record { came = e j; got = got } in
-    ap (λ (s : Values). s .values) (ap valuesAs all ∙ values-kept end got (values-taken sheet start end got all .long))
+    ap (λ (s : Values). s .values) (ap valuesAs all ∙ values-kept end got (part-taken valueLines valuesN start sheet end got value-said all .long))
 
 -- what the sheet is loaded as
 

@@ -1,29 +1,33 @@
 -- A part of a sheet, whatever its lines hold: a turn of the loop that takes them, what is written taken back, and what is taken, which is what
 -- would be written.
 use Prim.Native.Nat.{ℕ, zero, suc, _+_, _-_, _≤_, _<_}
-use mathlib.Core.Path.{_≡_, refl, sym, ap, _∙_}
-use mathlib.Core.Bool.{Bool, true, false, cond, _&&_}
+use mathlib.Core.Path.{_≡_, refl, sym, ap, subst, _∙_}
+use mathlib.Core.Bool.{Bool, true, false, cond, _&&_, false≢true}
 use mathlib.Core.List.{List, [], _∷_, _++_, append-assoc, append-nil}
 use native.Mathlib.Nat.{add-zero}
 use native.Mathlib.Numerals.{add-one}
 use native.Mathlib.Omega.{arith}
 use borrow.Rule.Slice.PartMut.{midOf}
-use lib.ListN.{length, set, take, drop, length-append, length-take, length-drop, take-append-drop}
+use lib.ListN.{length, set, take, drop, length-append, length-drop, take-append-drop}
 use lib.Seq.{append-snoc, take-all, take-suc-set, drop-drop, drop-append-seam}
 use Rattle.figures.specs.Bytes.{startsWith}
-use Rattle.figures.proofs.Bytes.{starts-append, starts-true}
+use Rattle.figures.proofs.Bytes.{starts-append, starts-true, starts-length}
 use Rattle.figures.proofs.Tests.{both, by-test}
 use Rattle.commands.proofs.Shape.{to-end}
-use Rattle.sheets.specs.Lines.{linesBy, Part, wrongAt, partBy}
-use Rattle.sheets.specs.Keeping.{lineAs}
+use Rattle.sheets.specs.Lines.{LinesOf, linesBy, Part, wrongAt, partBy}
+use Rattle.sheets.specs.Keeping.{lineMost, lineAs}
 use Rattle.sheets.specs.declared.writing.Line.{Line}
 use Rattle.sheets.specs.declared.loading.Came.the-variants.{To}
 use Rattle.sheets.proofs.Linewise.{line-cut, line-long}
 
--- what is held at the places from i on may all be held
-unfoldable pub rightBy : {A : Type 0} → (ℕ → A → Bool) → ℕ → List A → Bool
-rightBy right i [] = true
-rightBy right i (x ∷ xs) = right i x && rightBy right (i + 1) xs
+-- what is held at the places from i on, after what the lines before them hold, may all be held in its turn
+unfoldable pub rightBy : {A : Type 0} → LinesOf A → List A → ℕ → List A → Bool
+rightBy l got i [] = true
+rightBy l got i (x ∷ xs) = l .may got i x && rightBy l (got ++ (x ∷ [])) (i + 1) xs
+
+-- a line says what it holds, whatever stands after it
+abbrev pub Said : {A : Type 0} → LinesOf A → Type 0
+Said l = (got : List _) (i : ℕ) (x : _) (rest : List ℕ) → l .may got i x ≡ true → l .says i (l .write i x ++ rest) ≡ x
 
 -- a part that came to a place
 abbrev pub came : {A : Type 0} → ℕ → List A → Part A
@@ -35,124 +39,162 @@ wrong-came e =
     let z : _≡_ {A = ℕ} 0 1 = cc in
     omega arith
 
-pub starts-long : (w s : List ℕ) → startsWith w s ≡ true → length w ≤ length s
-starts-long w s e = omega (arith, ap length (starts-true w s e), length-take (length w) s)
-
 pub starts-parted : (w s : List ℕ) → startsWith w s ≡ true → s ≡ w ++ drop (length w) s
 starts-parted w s e = sym (take-append-drop (length w) s) ∙ ap (λ (l : List ℕ). l ++ drop (length w) s) (starts-true w s e)
 
--- n lines that stand in the sheet from one place to another, and what they hold
-pub record Taken {A : Type 0} (line : ℕ → A → List ℕ) (right : ℕ → A → Bool) (n i : ℕ) (sheet : List ℕ) (at to : ℕ) (all : List A) : Type 0 where
+-- n lines that stand in the sheet from one place to another, after those that held got, and what they hold
+pub record TakenLines {A : Type 0} (l : LinesOf A) (n : ℕ) (got : List A) (i : ℕ) (sheet : List ℕ) (at to : ℕ) (all : List A) : Type 0 where
   pub long : length all ≡ n
-  pub judged : rightBy right i all ≡ true
-  pub to-is : to ≡ at + length (linesBy line i all)
-  pub after : drop at sheet ≡ linesBy line i all ++ drop to sheet
+  pub judged : rightBy l got i all ≡ true
+  pub to-is : to ≡ at + length (linesBy l i all)
+  pub after : drop at sheet ≡ linesBy l i all ++ drop to sheet
 
 -- so they end within it
-pub taken-within : {A : Type 0} {line : ℕ → A → List ℕ} {right : ℕ → A → Bool} {n i : ℕ} {sheet : List ℕ} {at to : ℕ} {all : List A}
-    → Taken line right n i sheet at to all → at ≤ length sheet → to ≤ length sheet
-taken-within {line = line} {i = i} {sheet = sheet} {at = at} {to = to} {all = all} t h =
-    omega (arith, t .to-is, ap length (t .after), length-append (linesBy line i all) (drop to sheet), length-drop at sheet, length-drop to sheet)
+pub taken-within : {A : Type 0} {l : LinesOf A} {n : ℕ} {got : List A} {i : ℕ} {sheet : List ℕ} {at to : ℕ} {all : List A}
+    → TakenLines l n got i sheet at to all → at ≤ length sheet → to ≤ length sheet
+taken-within {l = l} {i = i} {sheet = sheet} {at = at} {to = to} {all = all} t h =
+    omega (arith, t .to-is, ap length (t .after), length-append (linesBy l i all) (drop to sheet), length-drop at sheet, length-drop to sheet)
 
 -- what is left of a part at a place, once the first i of n are got
-abbrev pub leftOf : {A : Type 0} → (ℕ → A → List ℕ) → (ℕ → A → Bool) → (ℕ → List ℕ → A) → ℕ → ℕ → ℕ → List ℕ → List A → Part A
-leftOf line right says n i at sheet got = partBy line right says (n - i) i at (drop at sheet) (take i got)
+abbrev pub leftOf : {A : Type 0} → LinesOf A → ℕ → ℕ → ℕ → List ℕ → List A → Part A
+leftOf l n i at sheet got = partBy l (n - i) i at (drop at sheet) (take i got)
 
 -- a turn that got x and judged that its line of m bytes stands there, or not
-pub record Turned {A : Type 0} (line : ℕ → A → List ℕ) (right : ℕ → A → Bool) (says : ℕ → List ℕ → A) (n i at : ℕ) (sheet : List ℕ) (got : List A)
-    (x : A) (m : ℕ) (stands : Bool) : Type 0 where
-  pub astray : stands ≡ false → leftOf line right says n i at sheet got ≡ wrongAt at
+pub record Turned {A : Type 0} (l : LinesOf A) (n i at : ℕ) (sheet : List ℕ) (got : List A) (x : A) (m : ℕ) (stands : Bool) : Type 0 where
+  pub astray : stands ≡ false → leftOf l n i at sheet got ≡ wrongAt at
   pub within : stands ≡ true → at + m ≤ length sheet
-  pub more : stands ≡ true → leftOf line right says n i at sheet got ≡ leftOf line right says n (i + 1) (at + m) sheet (set got i x)
+  pub more : stands ≡ true → leftOf l n i at sheet got ≡ leftOf l n (i + 1) (at + m) sheet (set got i x)
 
-module _ {A : Type 0} (line : ℕ → A → List ℕ) (right : ℕ → A → Bool) (says : ℕ → List ℕ → A) where
+-- no line that may stand at a place stands there
+abbrev pub NoLine : {A : Type 0} → LinesOf A → List A → ℕ → List ℕ → Type 0
+NoLine l got i rest = (x : _) → l .may got i x ≡ true → startsWith (l .write i x) rest ≡ false
+
+-- how far a part came: to its end, or to a line at whose place no line that may stand there stands
+pub data Went {A : Type 0} (l : LinesOf A) (n : ℕ) (got : List A) (i : ℕ) (sheet : List ℕ) (at : ℕ) (p : Part A) : Type 0 where
+  finished : (to : ℕ) (held : List A) → p ≡ came to (got ++ held) → TakenLines l n got i sheet at to held → Went l n got i sheet at p
+  stopped : (to : ℕ) (held : List A) → p ≡ wrongAt to → TakenLines l (length held) got i sheet at to held → length held < n
+      → NoLine l (got ++ held) (i + length held) (drop to sheet)
+      → Went l n got i sheet at p
+
+module _ {A : Type 0} (l : LinesOf A) where
   -- a turn of the loop, by what the calls in it answer
 
   abbrev next : ℕ → ℕ → ℕ → List ℕ → List A → A → Part A
-  next n i at rest got x = partBy line right says n (i + 1) (at + length (line i x)) (drop (length (line i x)) rest) (got ++ (x ∷ []))
+  next n i at rest got x = partBy l n (i + 1) (at + length (l .write i x)) (drop (length (l .write i x)) rest) (got ++ (x ∷ []))
 
-  turn : (n i at : ℕ) (rest : List ℕ) (got : List A) (x : A) → i < n → x ≡ says i rest
-      → partBy line right says (n - i) i at rest got ≡ cond (right i x && startsWith (line i x) rest) (next (n - (i + 1)) i at rest got x) (wrongAt at)
+  turn : (n i at : ℕ) (rest : List ℕ) (got : List A) (x : A) → i < n → x ≡ l .says i rest
+      → partBy l (n - i) i at rest got ≡ cond (l .may got i x && startsWith (l .write i x) rest) (next (n - (i + 1)) i at rest got x) (wrongAt at)
   unfolding partBy
   turn n i at rest got x h e =
       let left : n - i ≡ suc (n - (i + 1)) = omega arith in
       rw (left, e)
 
-  module _ (n i at : ℕ) (sheet : List ℕ) (got : List A) (x : A) (h : i < n) (said : x ≡ says i (midOf at (length sheet - at) sheet)) where
-    says-so : x ≡ says i (drop at sheet)
-    says-so = said ∙ ap (says i) (to-end at sheet)
+  module _ (n i at : ℕ) (sheet : List ℕ) (got : List A) (x : A) (h : i < n) (said : x ≡ l .says i (midOf at (length sheet - at) sheet)) where
+    says-so : x ≡ l .says i (drop at sheet)
+    says-so = said ∙ ap (l .says i) (to-end at sheet)
 
-    pub part-unright : right i x ≡ false → leftOf line right says n i at sheet got ≡ wrongAt at
+    pub part-unright : l .may (take i got) i x ≡ false → leftOf l n i at sheet got ≡ wrongAt at
     part-unright r = turn n i at (drop at sheet) (take i got) x h says-so ∙ rw r
 
-    pub part-turned : right i x ≡ true → at ≤ length sheet → i < length got → (kept : Line) → kept ≡ lineAs (line i x) → length (line i x) ≤ 20
-        → {b : Bool} → b ≡ startsWith (midOf 0 (kept .n - 0) (kept .bytes)) (midOf at (length sheet - at) sheet)
-        → Turned line right says n i at sheet got x (kept .n) b
+    pub part-turned : l .may (take i got) i x ≡ true → at ≤ length sheet → i < length got → (kept : Line) → kept ≡ lineAs (l .write i x)
+        → length (l .write i x) ≤ lineMost → {b : Bool} → b ≡ startsWith (midOf 0 (kept .n - 0) (kept .bytes)) (midOf at (length sheet - at) sheet)
+        → Turned l n i at sheet got x (kept .n) b
     part-turned r ha hg kept is few {b} eb =
-        let w = line i x in
+        let w = l .write i x in
         let stands : b ≡ startsWith w (drop at sheet) = eb ∙ (λ j. startsWith (line-cut w kept few is j) (to-end at sheet j)) in
         let long = line-long w kept few is in
         let whole = turn n i at (drop at sheet) (take i got) x h says-so in
         record {
           astray = λ e. whole ∙ rw (r, ← stands, e);
-          within = λ e. omega (arith, starts-long w (drop at sheet) (sym stands ∙ e), length-drop at sheet);
+          within = λ e. omega (arith, starts-length w (drop at sheet) (sym stands ∙ e), length-drop at sheet);
           more = λ e. whole ∙ rw (r, ← stands, e, long, drop-drop (length w) at sheet, add-one i, take-suc-set got i x hg);
         }
 
-  pub part-ended : (n i at : ℕ) (sheet : List ℕ) (got : List A) → i ≡ n → leftOf line right says n i at sheet got ≡ came at (take i got)
+  pub part-ended : (n i at : ℕ) (sheet : List ℕ) (got : List A) → i ≡ n → leftOf l n i at sheet got ≡ came at (take i got)
   unfolding partBy
   part-ended n i at sheet got e = let none : n - i ≡ 0 = omega arith in rw none
 
-  pub part-done : (n i at : ℕ) (sheet : List ℕ) (got : List A) → i ≡ n → length got ≡ n → leftOf line right says n i at sheet got ≡ came at got
-  part-done n i at sheet got e h = part-ended n i at sheet got e ∙ ap (λ (l : List A). came at l) (take-all i got (omega arith))
+  pub part-done : (n i at : ℕ) (sheet : List ℕ) (got : List A) → i ≡ n → length got ≡ n → leftOf l n i at sheet got ≡ came at got
+  part-done n i at sheet got e h = part-ended n i at sheet got e ∙ ap (λ (g : List A). came at g) (take-all i got (omega arith))
 
-  -- what is written is taken back, where a line says what it holds
+  module _ (said : Said l) where
+    -- what is written is taken back
 
-  module _ (said : (i : ℕ) (x : A) (rest : List ℕ) → right i x ≡ true → says i (line i x ++ rest) ≡ x) where
-    pub part-load : (xs : List A) (i at : ℕ) (rest : List ℕ) (got : List A) → rightBy right i xs ≡ true
-        → partBy line right says (length xs) i at (linesBy line i xs ++ rest) got ≡ came (at + length (linesBy line i xs)) (got ++ xs)
+    pub part-load : (xs : List A) (i at : ℕ) (rest : List ℕ) (got : List A) → rightBy l got i xs ≡ true
+        → partBy l (length xs) i at (linesBy l i xs ++ rest) got ≡ came (at + length (linesBy l i xs)) (got ++ xs)
     unfolding partBy linesBy rightBy
     part-load [] i at rest got e = rw (add-zero, append-nil)
     part-load (x ∷ xs) i at rest got e =
-        let more = linesBy line (i + 1) xs in
-        let parts = both (right i x) (rightBy right (i + 1) xs) e in
-        let to : at + length (line i x) + length more ≡ at + length (line i x ++ more) = omega (arith, length-append (line i x) more) in
-        rw (append-assoc (line i x) more rest, said i x (more ++ rest) (parts .0), parts .0)
-        (rw (starts-append (line i x) (more ++ rest), drop-append-seam (line i x) (more ++ rest))
-        (part-load xs (i + 1) (at + length (line i x)) rest (got ++ (x ∷ [])) (parts .1) ∙ (λ j. came (to j) (append-snoc got x xs j))))
+        let more = linesBy l (i + 1) xs in
+        let w = l .write i x in
+        let parts = both (l .may got i x) (rightBy l (got ++ (x ∷ [])) (i + 1) xs) e in
+        let to : at + length w + length more ≡ at + length (w ++ more) = omega (arith, length-append w more) in
+        rw (append-assoc w more rest, said got i x (more ++ rest) (parts .0), parts .0)
+        (rw (starts-append w (more ++ rest), drop-append-seam w (more ++ rest))
+        (part-load xs (i + 1) (at + length w) rest (got ++ (x ∷ [])) (parts .1) ∙ (λ j. came (to j) (append-snoc got x xs j))))
 
-  -- and what is taken is what would be written
+    -- and what is taken is what would be written, as far as it goes
 
-  taken : (n i at : ℕ) (sheet : List ℕ) (got : List A) (to : ℕ) (all : List A) → partBy line right says n i at (drop at sheet) got ≡ came to all
-      → (held : List A) × (all ≡ got ++ held) × Taken line right n i sheet at to held
-  unfolding partBy linesBy rightBy
-  taken zero i at sheet got to all e =
-      let place = ap (λ (p : Part A). p .came) e in
-      let same : at ≡ to = cc in
-      ([], sym (ap (λ (p : Part A). p .got) e) ∙ sym (append-nil got), record { long = refl; judged = refl; to-is = omega arith; after = rw same })
-  taken (suc n) i at sheet got to all e =
-      let x = says i (drop at sheet) in
-      let w = line i x in
-      let past : drop (length w) (drop at sheet) ≡ drop (at + length w) sheet = drop-drop (length w) at sheet in
-      let again = taken n (i + 1) (at + length w) sheet (got ++ (x ∷ [])) to all in
-      by-test (right i x && startsWith w (drop at sheet))
-      (λ s.
-      let parts = both (right i x) (startsWith w (drop at sheet)) s in
-      let t = again (rw (s, past) at e) in
-      let more = linesBy line (i + 1) (t .0) in (
-        x ∷ t .0,
-        t .1 ∙ append-snoc got x (t .0),
+    -- a line that may stand there and stands is the line of what it says
+    only : (got : List A) (i : ℕ) (rest : List ℕ) (x : A) → l .may got i x ≡ true → startsWith (l .write i x) rest ≡ true → l .says i rest ≡ x
+    only got i rest x m e = let w = l .write i x in ap (l .says i) (starts-parted w rest e) ∙ said got i x (drop (length w) rest) m
+
+    none-here : (got : List A) (i : ℕ) (rest : List ℕ) → l .may got i (l .says i rest) && startsWith (l .write i (l .says i rest)) rest ≡ false
+        → NoLine l got i rest
+    none-here got i rest s x m =
+        by-test (startsWith (l .write i x) rest) (λ e. absurd (false≢true (sym (rw (only got i rest x m e, m, e) at s)))) (λ e. e)
+
+    -- one line more before those that were taken
+    took : {n i at : ℕ} {sheet : List ℕ} {got : List A} {to : ℕ} {held : List A} (x : A) → l .may got i x ≡ true
+        → startsWith (l .write i x) (drop at sheet) ≡ true → TakenLines l n (got ++ (x ∷ [])) (i + 1) sheet (at + length (l .write i x)) to held
+        → TakenLines l (suc n) got i sheet at to (x ∷ held)
+    unfolding linesBy rightBy
+    took {i = i} {at = at} {sheet = sheet} {to = to} {held = held} x m s t =
+        let w = l .write i x in
+        let more = linesBy l (i + 1) held in
+        let past : drop (length w) (drop at sheet) ≡ drop (at + length w) sheet = drop-drop (length w) at sheet in
         record {
-          long = ap suc (t .2 .long);
-          judged = rw (parts .0) (t .2 .judged);
-          to-is = omega (arith, t .2 .to-is, length-append w more);
-          after = starts-parted w (drop at sheet) (parts .1) ∙ ap (λ (l : List ℕ). w ++ l) (past ∙ t .2 .after) ∙ sym (append-assoc w more (drop to sheet));
-        },
-      ))
-      (λ s. absurd (wrong-came (rw s at e)))
+          long = ap suc (t .long);
+          judged = rw m (t .judged);
+          to-is = omega (arith, t .to-is, length-append w more);
+          after = starts-parted w (drop at sheet) s ∙ ap (λ (r : List ℕ). w ++ r) (past ∙ t .after) ∙ sym (append-assoc w more (drop to sheet));
+        }
 
-  pub part-taken : (n i at : ℕ) (sheet : List ℕ) (to : ℕ) (all : List A) → partBy line right says n i at (drop at sheet) [] ≡ came to all
-      → Taken line right n i sheet at to all
-  part-taken n i at sheet to all e =
-      let t = taken n i at sheet [] to all e in
-      rw (t .1) (t .2)
+    more-went : {n i at : ℕ} {sheet : List ℕ} {got : List A} {p : Part A} (x : A) → l .may got i x ≡ true
+        → startsWith (l .write i x) (drop at sheet) ≡ true → Went l n (got ++ (x ∷ [])) (i + 1) sheet (at + length (l .write i x)) p
+        → Went l (suc n) got i sheet at p
+    more-went {got = got} x m s (finished to held e t) = finished to (x ∷ held) (e ∙ ap (λ (g : List A). came to g) (append-snoc got x held)) (took x m s t)
+    more-went {i = i} {sheet = sheet} {got = got} x m s (stopped to held e t few none) =
+        let place : i + 1 + length held ≡ i + suc (length held) = omega arith in
+        stopped to (x ∷ held) e (took x m s t) (omega arith)
+        (subst (λ (g : List A). NoLine l g (i + suc (length held)) (drop to sheet)) (append-snoc got x held)
+        (subst (λ (j : ℕ). NoLine l ((got ++ (x ∷ [])) ++ held) j (drop to sheet)) place none))
+
+    pub part-went : (n i at : ℕ) (sheet : List ℕ) (got : List A) → Went l n got i sheet at (partBy l n i at (drop at sheet) got)
+    unfolding partBy linesBy rightBy
+    part-went zero i at sheet got =
+        finished at [] (ap (λ (g : List A). came at g) (sym (append-nil got))) (record { long = refl; judged = refl; to-is = omega arith; after = refl })
+    part-went (suc n) i at sheet got =
+        let rest = drop at sheet in
+        let x = l .says i rest in
+        let w = l .write i x in
+        let past : drop (length w) rest ≡ drop (at + length w) sheet = drop-drop (length w) at sheet in
+        let stands = l .may got i x && startsWith w rest in
+        by-test stands
+        (λ s.
+        let parts = both (l .may got i x) (startsWith w rest) s in
+        rw (s, past) (more-went x (parts .0) (parts .1) (part-went n (i + 1) (at + length w) sheet (got ++ (x ∷ [])))))
+        (λ s. stopped at [] (rw s) (record { long = refl; judged = refl; to-is = omega arith; after = refl }) (omega arith)
+        (rw (append-nil, add-zero) (none-here got i rest s)))
+
+  pub part-taken : (n at : ℕ) (sheet : List ℕ) (to : ℕ) (all : List A) → Said l → partBy l n 0 at (drop at sheet) [] ≡ came to all
+      → TakenLines l n [] 0 sheet at to all
+  part-taken n at sheet to all said e = by (part-went said n 0 at sheet [])
+    where
+      by : Went l n [] 0 sheet at (partBy l n 0 at (drop at sheet) []) → TakenLines l n [] 0 sheet at to all
+      by (finished b held q t) =
+          let same = sym q ∙ e in
+          let place = ap (λ (p : Part A). p .came) same in
+          let there : b ≡ to = cc in
+          rw (← there, ← ap (λ (p : Part A). p .got) same) t
+      by (stopped b held q t few none) = absurd (wrong-came (sym q ∙ e))

@@ -1,17 +1,17 @@
 -- What the program prints, by demand 3: the sheet of what playing the unstruck lines in order gives, from the factory state.
 use Prim.Native.Nat.{ℕ, _≤_}
 use mathlib.Core.Path.{_≡_, ap, _∙_}
-use mathlib.Core.List.{List, [], map}
+use mathlib.Core.List.{List, map}
 use lib.ListN.{length}
-use Rattle.state.specs.Entries.{noEntries}
+use Rattle.state.specs.Entries.{noEntries, Contents, contentsOf}
 use Rattle.instrument.specs.declared.settings.Series.the-variants.{Tps100}
 use Rattle.state.specs.declared.entries.State.{State}
-use Rattle.lines.specs.Demand.{Contents, contentsOf, marks, playAll}
+use Rattle.lines.specs.Demand.{standing, playAll}
 use Rattle.lines.proofs.Starts.{factory-start}
 use Rattle.lines.proofs.Demand.{played}
 use Rattle.sheets.specs.Sheet.{sheetOf}
 use Rattle.pieces.specs.Pieces.{pieces}
-use Rattle.sheets.specs.Playing.{callOf, printed}
+use Rattle.sheets.specs.Playing.{callOf, inputMost, printed}
 use Rattle.sheets.proofs.Sheets.{sheet-contents}
 use Rattle.sheets.proofs.Reached.{factoryState, reached, printed-sheet}
 
@@ -19,8 +19,8 @@ use Rattle.sheets.proofs.Reached.{factoryState, reached, printed-sheet}
 abbrev pub startWith : Contents → State
 startWith c = noEntries (c .series) (c .settings) (c .values)
 
-pub printed-played : (input : List ℕ) → length input ≤ 65536
-    → printed input ≡ sheetOf (startWith (playAll (contentsOf factoryState) (marks factoryState (map callOf (pieces input)) [])))
+pub printed-played : (input : List ℕ) → length input ≤ inputMost
+    → printed input ≡ sheetOf (startWith (playAll (contentsOf factoryState) (standing factoryState (map callOf (pieces input)))))
 printed-played input h =
     printed-sheet input h ∙ sheet-contents (reached input)
     ∙ ap (λ (c : Contents). sheetOf (startWith c)) (played factoryState (factory-start Tps100) (map callOf (pieces input)))

@@ -2,10 +2,10 @@
 use Prim.Native.Nat.{ℕ, _<_, _≤_}
 use mathlib.Core.Path.{_≡_, refl, sym, ap, _∙_}
 use mathlib.Core.Bool.{Bool, true, false, cond}
-use mathlib.Core.List.{List, [], _∷_, map}
+use mathlib.Core.List.{List, map, map-map}
 use borrow.Author.Tests.{le-leb, lt-leb}
 use lib.Dec.{leb}
-use lib.ListN.{length, replicate}
+use lib.ListN.{length}
 use Rattle.figures.specs.Bytes.{laid}
 use Rattle.instrument.specs.declared.settings.Series.the-variants.{Tps100}
 use Rattle.state.specs.Entries as entries
@@ -13,14 +13,13 @@ use Rattle.state.specs.Entries.{isState}
 use Rattle.state.specs.Image.{imageOf}
 use Rattle.state.specs.declared.entries.State.{State}
 use Rattle.state.proofs.Images.{factory-is-state}
-use Rattle.lines.specs.Machine.{step, Called}
-use Rattle.lines.specs.Demand.{after}
-use Rattle.lines.proofs.States.{step-state, after-state}
-use Rattle.lines.proofs.Hosted.{call-is}
+use Rattle.lines.specs.Sessions.{Call, after, inRoom}
+use Rattle.lines.proofs.States.{after-state}
+use Rattle.lines.proofs.Hosted.{hosted}
 use Rattle.sheets.specs.Sheet.{sheetOf, Sheet·room, sheetInRoom, writtenSheet, WritesSheet}
 use Rattle.pieces.specs.Pieces.{pieces}
-use Rattle.sheets.specs.Playing.{callOf, refusedInput, printed, Plays}
-use Rattle.sheets.specs.Keeping.{runBy}
+use Rattle.sheets.specs.Playing.{callOf, refusedInput, inputMost, printed, Plays}
+use Rattle.sheets.specs.Keeping.{lentOf, runBy}
 use Rattle.sheets.specs.declared.answers.Sheeted.{Sheeted}
 use Rattle.sheets.specs.declared.answers.Sheeted.the-variants.{NoState, Room, Wrong, Written, Loaded}
 use Rattle.sheets.proofs.Images.{image-writes}
@@ -30,10 +29,8 @@ abbrev pub factoryState : State
 factoryState = entries.factoryState Tps100
 
 pub run-after : (ls : List (List ℕ)) (s : State) → isState s ≡ true → runBy ls (imageOf s) ≡ imageOf (after s (map callOf ls))
-unfolding runBy after
-run-after [] s e = refl
-run-after (l ∷ ls) s e =
-    ap (λ (o : Called). runBy ls (o .image)) (call-is s l (replicate 306 0) e) ∙ run-after ls (step s l 306 .next) (step-state s l 306 e)
+run-after ls s e =
+    hosted s e (map lentOf ls) .0 .0 ∙ ap (λ (cs : List Call). imageOf (after s cs)) (map-map inRoom lentOf ls)
 
 -- the state that an input is played to
 abbrev pub reached : List ℕ → State
@@ -42,14 +39,14 @@ reached input = after factoryState (map callOf (pieces input))
 pub reached-state : (input : List ℕ) → isState (reached input) ≡ true
 reached-state input = after-state factoryState (map callOf (pieces input)) (factory-is-state Tps100)
 
-pub printed-sheet : (input : List ℕ) → length input ≤ 65536 → printed input ≡ sheetOf (reached input)
-printed-sheet input h = rw (le-leb (length input) 65536 h)
+pub printed-sheet : (input : List ℕ) → length input ≤ inputMost → printed input ≡ sheetOf (reached input)
+printed-sheet input h = rw (le-leb (length input) inputMost h)
 
-pub printed-refused : (input : List ℕ) → 65536 < length input → printed input ≡ refusedInput
-printed-refused input h = rw (lt-leb (length input) 65536 h)
+pub printed-refused : (input : List ℕ) → inputMost < length input → printed input ≡ refusedInput
+printed-refused input h = rw (lt-leb (length input) inputMost h)
 
 -- what the write of the image that the pieces are run to comes to
-pub write-printed : (input image room room′ : List ℕ) (answer : Sheeted) → length input ≤ 65536 → image ≡ runBy (pieces input) (imageOf factoryState)
+pub write-printed : (input image room room′ : List ℕ) (answer : Sheeted) → length input ≤ inputMost → image ≡ runBy (pieces input) (imageOf factoryState)
     → WritesSheet image room answer room′ → (answer ≡ sheetInRoom (printed input) room .answer) × (room′ ≡ sheetInRoom (printed input) room .room)
 write-printed input image room room′ answer h ei w =
     let is : image ≡ imageOf (reached input) = ei ∙ run-after (pieces input) factoryState (factory-is-state Tps100) in
@@ -81,7 +78,7 @@ fitted-tells sheet room = by (leb (length sheet) (length room))
     by true = (refl, refl)
     by false = (refl, refl)
 
-pub plays-printed : (input image room room′ : List ℕ) (answer : Sheeted) (r : ℕ) → length input ≤ 65536 → image ≡ runBy (pieces input) (imageOf factoryState)
+pub plays-printed : (input image room room′ : List ℕ) (answer : Sheeted) (r : ℕ) → length input ≤ inputMost → image ≡ runBy (pieces input) (imageOf factoryState)
     → WritesSheet image room answer room′ → r ≡ writtenN answer → Plays input room r room′
 plays-printed input image room room′ answer r h ei w er =
     let p = write-printed input image room room′ answer h ei w in
@@ -90,8 +87,8 @@ plays-printed input image room room′ answer r h ei w er =
 
 -- a longer input is refused
 
-pub plays-short : (input room : List ℕ) → 65536 < length input → length room < 14 → Plays input room 0 room
+pub plays-short : (input room : List ℕ) → inputMost < length input → length room < 14 → Plays input room 0 room
 plays-short input room h k = rw (printed-refused input h, lt-leb 14 (length room) k) (refl, refl)
 
-pub plays-refused : (input room room′ : List ℕ) → 65536 < length input → 14 ≤ length room → room′ ≡ laid refusedInput room → Plays input room 14 room′
+pub plays-refused : (input room room′ : List ℕ) → inputMost < length input → 14 ≤ length room → room′ ≡ laid refusedInput room → Plays input room 14 room′
 plays-refused input room room′ h k e = rw (printed-refused input h, le-leb 14 (length room) k) (refl, e)

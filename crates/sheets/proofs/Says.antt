@@ -17,24 +17,20 @@ use Rattle.figures.proofs.Bytes.{starts-append}
 use Rattle.figures.proofs.Decimal.{digits-length, digits-are, number-digits}
 use Rattle.figures.proofs.Tests.{both}
 use Rattle.units.specs.Information.{signByte, signOf}
-use Rattle.instrument.specs.Settings.{noRow, rows100, rows300, rowsOf, rowAt, held, inRanges, settingsN}
-use Rattle.instrument.specs.Values.{storedAt, putRight, putKept, keptRight, valueWord}
+use Rattle.instrument.specs.Settings.{noRow, rowsOf, rowAt, held, inRanges, settingsN}
+use Rattle.instrument.specs.Values.{valuesN, storedAt, putRight, putKept, keptRight, valueWord}
 use Rattle.state.specs.Entries.{valueOf, valuesRight, isState}
 use Rattle.instrument.specs.declared.settings.Series.{Series}
-use Rattle.instrument.specs.declared.settings.Series.the-variants.{Tps100, Tps300}
-use Rattle.instrument.specs.declared.settings.Row.{Row}
 use Rattle.instrument.specs.declared.values.Kept.{Kept}
 use Rattle.instrument.specs.declared.values.Kept.the-variants.{Never, Put}
 use Rattle.instrument.specs.declared.values.Value.{Value}
 use Rattle.state.specs.declared.entries.State.{State}
 use Rattle.state.proofs.Images.{held-right, held-long}
-use Rattle.instrument.proofs.Ranges.{rows-long, range-high}
-use Rattle.lines.proofs.Parts.{parts}
-use Rattle.sheets.specs.Sheet.{settingKey, settingLine, charactersOf, valueKey, keptLine, valueLine}
-use Rattle.sheets.specs.Loading.{saidBy, settingSays, settingRight, keptSaid, valueSays, valueRight}
-use Rattle.sheets.proofs.Keyed.{eachRow, row-tested}
+use Rattle.lines.proofs.Deeds.{state-right}
+use Rattle.instrument.proofs.Ranges.{range-byte}
+use Rattle.sheets.specs.Sheet.{settingKey, saidBy, settingLines, charactersOf, valueKey, keptLine, keptSaid, valueLines}
 use Rattle.sheets.proofs.Linewise.{few-places}
-use Rattle.sheets.proofs.Partwise.{rightBy}
+use Rattle.sheets.proofs.Partwise.{rightBy, Said}
 
 -- a turn of the loop that reads digits
 
@@ -82,25 +78,12 @@ said-decimal p rest h =
 
 -- settings
 
--- no highest parameter is more than a byte
-each-byte : (k : Series) → eachRow (λ (r : Row). leb (r .2) 255) (rowsOf k) ≡ true
-unfolding eachRow rows100 rows300
-each-byte Tps100 = refl
-each-byte Tps300 = refl
-
-pub right-high : (k : Series) (i : ℕ) → rowAt k i .2 ≤ 255
-right-high k i = leb-true (rowAt k i .2) 255 (row-tested (λ (r : Row). leb (r .2) 255) (rowsOf k) noRow refl (each-byte k) i)
-
-pub right-small : (k : Series) (i p : ℕ) → settingRight (rowsOf k) i p ≡ true → p ≤ 255
-right-small k i p e = omega (arith, range-high (rowAt k i) p e, right-high k i)
-
-pub setting-said : (k : Series) (i p : ℕ) (rest : List ℕ) → settingRight (rowsOf k) i p ≡ true
-    → settingSays (rowsOf k) i (settingLine (rowsOf k) i p ++ rest) ≡ p
-setting-said k i p rest e =
+pub setting-said : (k : Series) → Said (settingLines k)
+setting-said k got i p rest e =
     let key = settingKey (rowAt k i) in
-    let line : settingLine (rowsOf k) i p ++ rest ≡ key ++ (decimalOf p ++ (10 ∷ rest)) =
+    let line : settingLines k .write i p ++ rest ≡ key ++ (decimalOf p ++ (10 ∷ rest)) =
     append-assoc key (decimalOf p ++ (10 ∷ [])) rest ∙ ap (λ (l : List ℕ). key ++ l) (append-assoc (decimalOf p) (10 ∷ []) rest) in
-    let small : p < 1000 = omega (arith, right-small k i p e) in
+    let small : p < 1000 = omega (arith, range-byte k i p e) in
     ap (λ (l : List ℕ). saidBy 3 0 (drop (length key) l)) line
     ∙ ap (saidBy 3 0) (drop-append-seam key (decimalOf p ++ (10 ∷ rest)))
     ∙ said-decimal p rest small
@@ -125,39 +108,50 @@ kept-said place (Put u m d) rest e =
     let c = charactersOf place (Put u m d) in
     let line : keptLine place (Put u m d) ++ rest ≡ k ++ (c ++ (10 ∷ rest)) = append-assoc k (c ++ (10 ∷ [])) rest in
     let put : startsWith (keptLine place Never) (k ++ (c ++ (10 ∷ rest))) ≡ false =
-    not-never k (48 + storedAt place .0 / 10 % 10) (drop 1 c ++ (10 ∷ rest)) (omega arith) in
+    not-never k (48 + storedAt place .index / 10 % 10) (drop 1 c ++ (10 ∷ rest)) (omega arith) in
     let small : m ≤ 1 = leb-true m 1 (both (leb m 1) (putRight place (valueWord 46 place u m d)) e .0) in
     ap (keptSaid place) line
     ∙ ap (λ (b : Bool). cond b Never (putKept (drop (length k) (k ++ (c ++ (10 ∷ rest)))))) put
     ∙ ap putKept (drop-append-seam k (c ++ (10 ∷ rest)))
     ∙ ap (λ (s : ℕ). Put u s d) (sign-back m small)
 
-pub value-said : (place : ℕ) (v : Value) (rest : List ℕ) → valueRight place v ≡ true → valueSays place (valueLine place v ++ rest) ≡ v
-value-said place v rest e = ap valueOf (kept-said place (v .kept) rest e)
+pub value-said : Said valueLines
+value-said got place v rest e = ap valueOf (kept-said place (v .kept) rest e)
 
 -- what may be held at its place, as a state has it
 
-ranges-from : (rs : List Row) (ps : List ℕ) (i : ℕ) → length rs ≡ i + length ps → inRanges (drop i rs) ps ≡ rightBy (settingRight rs) i ps
+ranges-from : (k : Series) (ps got : List ℕ) (i : ℕ) → settingsN k ≡ i + length ps → inRanges (drop i (rowsOf k)) ps ≡ rightBy (settingLines k) got i ps
 unfolding inRanges rightBy
-ranges-from rs [] i h = rw (drop-of-length-le rs {i = i} (omega arith))
-ranges-from rs (p ∷ ps) i h = rw (drop-cons rs i noRow (omega arith), add-one i, ranges-from rs ps (suc i) (omega arith))
+ranges-from k [] got i h = rw (drop-of-length-le (rowsOf k) {i = i} (omega arith))
+ranges-from k (p ∷ ps) got i h =
+    rw (drop-cons (rowsOf k) i noRow (omega arith), add-one i, ranges-from k ps (got ++ (p ∷ [])) (suc i) (omega arith))
 
-pub ranges-right : (k : Series) (settings : List ℕ) → length settings ≡ settingsN k
-    → inRanges (rowsOf k) settings ≡ rightBy (settingRight (rowsOf k)) 0 settings
-ranges-right k settings h = ranges-from (rowsOf k) settings 0 (omega (arith, rows-long k))
+pub ranges-right : (k : Series) (settings : List ℕ) → length settings ≡ settingsN k → inRanges (rowsOf k) settings ≡ rightBy (settingLines k) [] 0 settings
+ranges-right k settings h = ranges-from k settings [] 0 (omega arith)
 
-pub values-right : (i : ℕ) (vs : List Value) → valuesRight i vs ≡ rightBy valueRight i vs
+pub values-right : (got : List Value) (i : ℕ) (vs : List Value) → valuesRight i vs ≡ rightBy valueLines got i vs
 unfolding valuesRight rightBy
-values-right i [] = refl
-values-right i (v ∷ vs) = ap (λ (t : Bool). keptRight i (v .kept) && t) (values-right (i + 1) vs)
+values-right got i [] = refl
+values-right got i (v ∷ vs) = ap (λ (t : Bool). keptRight i (v .kept) && t) (values-right (got ++ (v ∷ [])) (i + 1) vs)
 
-pub state-right : (s : State) → isState s ≡ true → let k = s .series in
-    (rightBy (settingRight (rowsOf k)) 0 (held k (s .settings)) ≡ true) × (rightBy valueRight 0 (s .values) ≡ true)
-state-right s e =
+-- settings and values that a state of the series may hold
+pub record Named (k : Series) (settings : List ℕ) (values : List Value) : Type 0 where
+  pub settings-long : length settings ≡ settingsN k
+  pub settings-right : rightBy (settingLines k) [] 0 settings ≡ true
+  pub values-long : length values ≡ valuesN
+  pub values-right : rightBy valueLines [] 0 values ≡ true
+
+pub state-named : (s : State) → isState s ≡ true → Named (s .series) (held (s .series) (s .settings)) (s .values)
+state-named s e =
     let k = s .series in
-    let p = parts s e in
-    let ranges = held-right k (s .settings) (p .ranges) in
-    (sym (ranges-right k (held k (s .settings)) (held-long k (s .settings) (p .ranges))) ∙ ranges, sym (values-right 0 (s .values)) ∙ p .values-right)
+    let r = state-right s e in
+    let many = held-long k (s .settings) (r .ranges) in
+    record {
+      settings-long = many;
+      settings-right = sym (ranges-right k (held k (s .settings)) many) ∙ held-right k (s .settings) (r .ranges);
+      values-long = r .values-long;
+      values-right = sym (values-right [] 0 (s .values)) ∙ r .values-right;
+    }
 
 -- what `kept_in` answers: never put, or what the word that it lays down holds
 

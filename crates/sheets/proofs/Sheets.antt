@@ -1,8 +1,8 @@
 -- A sheet and what it loads to: a state's sheet loads to its settings and values, and what loads writes back to the same bytes.
-use Prim.Native.Nat.{ℕ, _+_}
+use Prim.Native.Nat.{ℕ, _+_, _<_}
 use mathlib.Core.Path.{_≡_, refl, sym, ap, _∙_}
-use mathlib.Core.Bool.{Bool, true, false, cond}
-use mathlib.Core.List.{List, [], _++_, append-nil}
+use mathlib.Core.Bool.{true, false, cond}
+use mathlib.Core.List.{List, [], _++_, append-assoc, append-nil}
 use native.Mathlib.Omega.{arith}
 use borrow.Author.Tests.{eq-eqb, eqb-true, eqb-false}
 use lib.Dec.{eqb}
@@ -11,23 +11,21 @@ use lib.Seq.{drop-append-add, drop-append-seam}
 use Rattle.figures.specs.Bytes.{startsWith}
 use Rattle.figures.proofs.Bytes.{starts-append}
 use Rattle.figures.proofs.Tests.{by-test}
-use Rattle.instrument.specs.Settings.{rowsOf, held, padded, places, inRanges, settingsN}
-use Rattle.state.specs.Entries.{valuesRight, noEntries, entriesRight, sound, isState}
+use Rattle.instrument.specs.Settings.{held, padded, settingsN}
+use Rattle.state.specs.Entries.{noEntries, isState}
 use Rattle.instrument.specs.Values.{valuesN}
 use Rattle.instrument.specs.declared.settings.Series.{Series}
 use Rattle.instrument.specs.declared.settings.Series.the-variants.{Tps100, Tps300}
 use Rattle.instrument.specs.declared.values.Value.{Value}
 use Rattle.state.specs.declared.entries.State.{State}
-use Rattle.state.proofs.Images.{shaped, held-long, padded-held, padded-right}
-use Rattle.lines.proofs.Parts.{Parts, parts, whole}
+use Rattle.state.proofs.Images.{shaped, padded-held, padded-right}
+use Rattle.state.proofs.Steps.{all-of, none-state}
 use Rattle.sheets.specs.Lines.{linesBy, Part, partBy}
-use Rattle.sheets.specs.Sheet.{seriesLine, settingLine, valueLine, sheetOf}
-use Rattle.sheets.specs.Loading.{settingSays, settingRight, valueSays, valueRight, settingsIn, valuesFrom}
-use Rattle.sheets.specs.Loading.{wrong, right, afterSettings, afterValues, loadingOf}
-use Rattle.sheets.specs.declared.loading.Came.{Came}
-use Rattle.sheets.specs.declared.loading.Came.the-variants.{Wrong, To}
-use Rattle.sheets.proofs.Partwise.{rightBy, came, wrong-came, starts-parted, Taken, part-load, part-taken}
-use Rattle.sheets.proofs.Says.{setting-said, ranges-right, value-said, values-right, state-right}
+use Rattle.sheets.specs.Sheet.{seriesLine, settingLines, valueLines, sheetOf}
+use Rattle.sheets.specs.Loading.{settingsFrom, settingsIn, valuesFrom}
+use Rattle.sheets.specs.Loading.{Loading, wrong, right, afterSettings, afterValues, loadingOf}
+use Rattle.sheets.proofs.Partwise.{rightBy, came, starts-parted, TakenLines, NoLine, Went, finished, stopped, part-load, part-went}
+use Rattle.sheets.proofs.Says.{setting-said, ranges-right, value-said, values-right, Named, state-named}
 
 -- a sheet depends on settings and values alone
 pub sheet-contents : (s : State) → sheetOf s ≡ sheetOf (noEntries (s .series) (s .settings) (s .values))
@@ -43,36 +41,31 @@ loads-by k sheet settings values a b first second size =
     ∙ ap (λ (p : Part Value). afterValues sheet settings (p .got) (p .came)) second
     ∙ rw (eq-eqb b (length sheet) size)
 
--- the lines of settings and values, of a series
-abbrev sheetBy : Series → List ℕ → List Value → List ℕ
-sheetBy k settings values = seriesLine k ++ (linesBy (settingLine (rowsOf k)) 0 settings ++ linesBy valueLine 0 values)
+-- the sheet of settings and values
+abbrev pub sheetBy : Series → List ℕ → List Value → List ℕ
+sheetBy k settings values = seriesLine k ++ (linesBy (settingLines k) 0 settings ++ linesBy valueLines 0 values)
 
-contents-load : (k : Series) (settings : List ℕ) (values : List Value) → rightBy (settingRight (rowsOf k)) 0 settings ≡ true
-    → rightBy valueRight 0 values ≡ true → length settings ≡ settingsN k → length values ≡ valuesN
+contents-load : (k : Series) (settings : List ℕ) (values : List Value) → Named k settings values
     → loadingOf k (sheetBy k settings values) ≡ right settings values
-contents-load k settings values ranges judged ns nv =
+contents-load k settings values n =
     let head = seriesLine k in
-    let g = linesBy (settingLine (rowsOf k)) 0 settings in
-    let v = linesBy valueLine 0 values in
+    let g = linesBy (settingLines k) 0 settings in
+    let v = linesBy valueLines 0 values in
     let sheet = head ++ (g ++ v) in
     let a = length head + length g in
     let seam : drop (length head) sheet ≡ g ++ v = drop-append-seam head (g ++ v) in
     let first : settingsIn k sheet ≡ came a settings =
-    rw (starts-append head (g ++ v), seam, ← ns)
-    (part-load (settingLine (rowsOf k)) (settingRight (rowsOf k)) (settingSays (rowsOf k)) (setting-said k) settings 0 (length head) v [] ranges) in
+    rw (starts-append head (g ++ v), seam, ← n .settings-long)
+    (part-load (settingLines k) (setting-said k) settings 0 (length head) v [] (n .settings-right)) in
     let past : drop a sheet ≡ v ++ [] = drop-append-add head (g ++ v) (length g) ∙ drop-append-seam g v ∙ sym (append-nil v) in
     let second : valuesFrom sheet a ≡ came (a + length v) values =
-    ap (λ (l : List ℕ). partBy valueLine valueRight valueSays valuesN 0 a l []) past
-    ∙ rw (← nv) (part-load valueLine valueRight valueSays value-said values 0 a [] [] judged) in
+    ap (λ (l : List ℕ). partBy valueLines valuesN 0 a l []) past
+    ∙ rw (← n .values-long) (part-load valueLines value-said values 0 a [] [] (n .values-right)) in
     loads-by k sheet settings values a (a + length v) first second (omega (arith, length-append head (g ++ v), length-append g v))
 
 pub sheet-loads : (s : State) → isState s ≡ true → loadingOf (s .series) (sheetOf s) ≡ right (held (s .series) (s .settings)) (s .values)
 unfolding sheetOf
-sheet-loads s e =
-    let k = s .series in
-    let h = shaped s e in
-    let judged = state-right s e in
-    contents-load k (held k (s .settings)) (s .values) (judged .0) (judged .1) (held-long k (s .settings) (parts s e .ranges)) (h .values-long)
+sheet-loads s e = contents-load (s .series) (held (s .series) (s .settings)) (s .values) (state-named s e)
 
 -- a sheet names its series
 pub series-apart : (k t : Series) (l m : List ℕ) → seriesLine k ++ l ≡ seriesLine t ++ m → k ≡ t
@@ -108,86 +101,99 @@ other-wrong k t l apart = rw (other-starts k t l apart)
 
 -- what loads is what would be written
 
--- where the two parts of a sheet that loads come to
-record Through (k : Series) (sheet settings : List ℕ) (values : List Value) : Type 0 where
-  past : ℕ
-  end : ℕ
-  first : settingsIn k sheet ≡ came past settings
-  second : valuesFrom sheet past ≡ came end values
-  size : end ≡ length sheet
+pub named-state : (k : Series) (settings : List ℕ) (values : List Value) → Named k settings values →
+    let s = noEntries k (padded settings) values in
+    (isState s ≡ true) × (sheetOf s ≡ sheetBy k settings values)
+unfolding sheetOf
+named-state k settings values n =
+    let ranges = ranges-right k settings (n .settings-long) ∙ n .settings-right in
+    let judged = values-right [] 0 values ∙ n .values-right in (
+      none-state k (padded settings) values
+          (all-of (padded-right k settings ranges) (all-of (eq-eqb (length values) valuesN (n .values-long)) judged)),
+      ap (λ (l : List ℕ). sheetBy k l values) (padded-held k settings (n .settings-long)),
+    )
 
-wrong-right : (at : ℕ) (settings : List ℕ) (values : List Value) → wrong at ≡ right settings values → ⊥
+-- how far the lines of a sheet are right, and what loading it comes to by that
+pub data Ways (k : Series) (sheet : List ℕ) (l : Loading) : Type 0 where
+  other : l ≡ wrong 0 → startsWith (seriesLine k) sheet ≡ false → Ways k sheet l
+  setting : (at : ℕ) (settings : List ℕ) → l ≡ wrong at → sheet ≡ seriesLine k ++ (linesBy (settingLines k) 0 settings ++ drop at sheet)
+      → at ≡ length (seriesLine k ++ linesBy (settingLines k) 0 settings) → rightBy (settingLines k) [] 0 settings ≡ true
+      → length settings < settingsN k → NoLine (settingLines k) settings (0 + length settings) (drop at sheet) → Ways k sheet l
+  value : (at : ℕ) (settings : List ℕ) (values : List Value) → l ≡ wrong at → sheet ≡ sheetBy k settings values ++ drop at sheet
+      → at ≡ length (sheetBy k settings values) → length settings ≡ settingsN k → rightBy (settingLines k) [] 0 settings ≡ true
+      → rightBy valueLines [] 0 values ≡ true → length values < valuesN → NoLine valueLines values (0 + length values) (drop at sheet) → Ways k sheet l
+  through : (at : ℕ) (settings : List ℕ) (values : List Value) → l ≡ cond (eqb at (length sheet)) (right settings values) (wrong at)
+      → sheet ≡ sheetBy k settings values ++ drop at sheet → at ≡ length (sheetBy k settings values) → Named k settings values → Ways k sheet l
+
+module _ (k : Series) (sheet : List ℕ) where
+  abbrev head : List ℕ
+  head = seriesLine k
+
+  module _ (is : startsWith head sheet ≡ true) where
+    -- the sheet from its start on, once its settings are taken
+    settings-off : {n a : ℕ} {settings : List ℕ} → TakenLines (settingLines k) n [] 0 sheet (length head) a settings →
+        let g = linesBy (settingLines k) 0 settings in
+        (sheet ≡ head ++ (g ++ drop a sheet)) × (a ≡ length (head ++ g))
+    settings-off {settings = settings} t =
+        (starts-parted head sheet is ∙ ap (λ (l : List ℕ). head ++ l) (t .after), t .to-is ∙ sym (length-append head (linesBy (settingLines k) 0 settings)))
+
+    -- and its values
+    values-off : {n a m b : ℕ} {settings : List ℕ} {values : List Value} → TakenLines (settingLines k) n [] 0 sheet (length head) a settings
+        → TakenLines valueLines m [] 0 sheet a b values → (sheet ≡ sheetBy k settings values ++ drop b sheet) × (b ≡ length (sheetBy k settings values))
+    values-off {a = a} {b = b} {settings = settings} {values = values} t u =
+        let first = settings-off t in
+        let g = linesBy (settingLines k) 0 settings in
+        let v = linesBy valueLines 0 values in (
+          first .0 ∙ ap (λ (l : List ℕ). head ++ (g ++ l)) (u .after) ∙ simp append-assoc,
+          omega (arith, u .to-is, first .1, length-append head g, length-append head (g ++ v), length-append g v),
+        )
+
+    values-went : (a : ℕ) (settings : List ℕ) → TakenLines (settingLines k) (settingsN k) [] 0 sheet (length head) a settings
+        → (p : Part Value) → Went valueLines valuesN [] 0 sheet a p → Ways k sheet (afterValues sheet settings (p .got) (p .came))
+    values-went a settings t p (finished b values q u) =
+        let all = values-off t u in
+        through b settings values (ap (λ (r : Part Value). afterValues sheet settings (r .got) (r .came)) q) (all .0) (all .1)
+        (record { settings-long = t .long; settings-right = t .judged; values-long = u .long; values-right = u .judged })
+    values-went a settings t p (stopped b values q u few none) =
+        let all = values-off t u in
+        value b settings values (ap (λ (r : Part Value). afterValues sheet settings (r .got) (r .came)) q) (all .0) (all .1) (t .long) (t .judged) (u .judged)
+        few none
+
+    settings-went : (p : Part ℕ) → Went (settingLines k) (settingsN k) [] 0 sheet (length head) p → Ways k sheet (afterSettings sheet (p .got) (p .came))
+    settings-went p (finished a settings q t) =
+        rw q (values-went a settings t (valuesFrom sheet a) (part-went valueLines value-said valuesN 0 a sheet []))
+    settings-went p (stopped a settings q t few none) =
+        let all = settings-off t in
+        setting a settings (ap (λ (r : Part ℕ). afterSettings sheet (r .got) (r .came)) q) (all .0) (all .1) (t .judged) few none
+
+  pub ways : Ways k sheet (loadingOf k sheet)
+  ways =
+      by-test (startsWith head sheet)
+      (λ e. rw e (settings-went e (settingsFrom k sheet (length head)) (part-went (settingLines k) (setting-said k) (settingsN k) 0 (length head) sheet [])))
+      (λ e. other (rw e) e)
+
+pub wrong-right : (at : ℕ) (settings : List ℕ) (values : List Value) → wrong at ≡ right settings values → ⊥
 wrong-right at settings values e = let z : _≡_ {A = ℕ} 0 1 = cc in omega arith
-
-through : (k : Series) (sheet settings : List ℕ) (values : List Value) → loadingOf k sheet ≡ right settings values → Through k sheet settings values
-through k sheet settings values e = by (settingsIn k sheet .came) (settingsIn k sheet .got) refl e
-  where
-    last : (a b : ℕ) (g : List ℕ) (v : List Value) (t : Bool) → settingsIn k sheet ≡ came a g → valuesFrom sheet a ≡ came b v → eqb b (length sheet) ≡ t
-        → cond t (right g v) (wrong b) ≡ right settings values → Through k sheet settings values
-    last a b g v true p q r h =
-        let gs : g ≡ settings = cc in
-        let vs : v ≡ values = cc in
-        record {
-          past = a;
-          end = b;
-          first = p ∙ ap (λ (l : List ℕ). came a l) gs;
-          second = q ∙ ap (λ (l : List Value). came b l) vs;
-          size = eqb-true b (length sheet) r;
-        }
-    last a b g v false p q r h = absurd (wrong-right b settings values h)
-
-    next : (a : ℕ) (g : List ℕ) (c : Came) (v : List Value) → settingsIn k sheet ≡ came a g → valuesFrom sheet a ≡ record { came = c; got = v }
-        → afterValues sheet g v c ≡ right settings values → Through k sheet settings values
-    next a g (Wrong at) v p q h = absurd (wrong-right at settings values h)
-    next a g (To b) v p q h = last a b g v (eqb b (length sheet)) p q refl h
-
-    by : (c : Came) (g : List ℕ) → settingsIn k sheet ≡ record { came = c; got = g } → afterSettings sheet g c ≡ right settings values
-        → Through k sheet settings values
-    by (Wrong at) g p h = absurd (wrong-right at settings values h)
-    by (To a) g p h = next a g (valuesFrom sheet a .came) (valuesFrom sheet a .got) p refl h
-
--- the settings' lines after the series
-pub settings-taken : (k : Series) (sheet : List ℕ) (a : ℕ) (settings : List ℕ) → settingsIn k sheet ≡ came a settings →
-    let from = length (seriesLine k) in
-    (sheet ≡ seriesLine k ++ drop from sheet) × Taken (settingLine (rowsOf k)) (settingRight (rowsOf k)) (settingsN k) 0 sheet from a settings
-settings-taken k sheet a settings e =
-    let head = seriesLine k in
-    by-test (startsWith head sheet)
-    (λ s. (
-      starts-parted head sheet s,
-      part-taken (settingLine (rowsOf k)) (settingRight (rowsOf k)) (settingSays (rowsOf k)) (settingsN k) 0 (length head) sheet a settings (rw s at e),
-    ))
-    (λ s. absurd (wrong-came (rw s at e)))
-
-pub values-taken : (sheet : List ℕ) (a b : ℕ) (values : List Value) → valuesFrom sheet a ≡ came b values
-    → Taken valueLine valueRight valuesN 0 sheet a b values
-values-taken sheet a b values e = part-taken valueLine valueRight valueSays valuesN 0 a sheet b values e
-
-start-parts : (k : Series) (settings : List ℕ) (values : List Value) → inRanges (places k) settings ≡ true → length values ≡ valuesN
-    → valuesRight 0 values ≡ true → Parts (noEntries k settings values)
-unfolding entriesRight sound
-start-parts k settings values ranges long judged =
-    record { few = omega arith; ranges = ranges; values-long = long; values-right = judged; undo-long = refl; entries-right = refl; back = refl }
 
 pub loads-sheet : (k : Series) (sheet : List ℕ) (settings : List ℕ) (values : List Value) → loadingOf k sheet ≡ right settings values →
     let s = noEntries k (padded settings) values in
     (isState s ≡ true) × (sheetOf s ≡ sheet)
-unfolding sheetOf
-loads-sheet k sheet settings values e =
-    let t = through k sheet settings values e in
-    let head = seriesLine k in
-    let g = linesBy (settingLine (rowsOf k)) 0 settings in
-    let v = linesBy valueLine 0 values in
-    let one = settings-taken k sheet (t .past) settings (t .first) in
-    let two = values-taken sheet (t .past) (t .end) values (t .second) in
-    let none : drop (t .end) sheet ≡ [] = drop-of-length-le sheet {i = t .end} (omega (arith, t .size)) in
-    let last : drop (t .past) sheet ≡ v = two .after ∙ ap (λ (l : List ℕ). v ++ l) none ∙ append-nil v in
-    let ranges = ranges-right k settings (one .1 .long) ∙ one .1 .judged in
-    let again : held k (padded settings) ≡ settings = padded-held k settings (one .1 .long) in (
-      whole (noEntries k (padded settings) values)
-          (start-parts k (padded settings) values (padded-right k settings ranges) (two .long) (values-right 0 values ∙ two .judged)),
-      ap (λ (l : List ℕ). head ++ (linesBy (settingLine (rowsOf k)) 0 l ++ v)) again
-          ∙ ap (λ (l : List ℕ). head ++ (g ++ l)) (sym last)
-          ∙ ap (λ (l : List ℕ). head ++ l) (sym (one .1 .after))
-          ∙ sym (one .0),
-    )
+loads-sheet k sheet settings values e = by (ways k sheet)
+  where
+    by : Ways k sheet (loadingOf k sheet) →
+        let s = noEntries k (padded settings) values in
+        (isState s ≡ true) × (sheetOf s ≡ sheet)
+    by (other q o) = absurd (wrong-right 0 settings values (sym q ∙ e))
+    by (setting at g q is to r few none) = absurd (wrong-right at settings values (sym q ∙ e))
+    by (value at g v q is to long r w few none) = absurd (wrong-right at settings values (sym q ∙ e))
+    by (through at g v q is to n) =
+        by-test (eqb at (length sheet))
+        (λ t.
+        let same : right g v ≡ right settings values = rw t at (sym q ∙ e) in
+        let gs : g ≡ settings = cc in
+        let vs : v ≡ values = cc in
+        let made = named-state k g v n in
+        let none : drop at sheet ≡ [] = drop-of-length-le sheet {i = at} (omega (arith, eqb-true at (length sheet) t)) in
+        let all : sheetBy k g v ≡ sheet = sym (is ∙ ap (λ (l : List ℕ). sheetBy k g v ++ l) none ∙ append-nil (sheetBy k g v)) in
+        rw (← gs, ← vs) (made .0, made .1 ∙ all))
+        (λ t. absurd (wrong-right at settings values (rw t at (sym q ∙ e))))

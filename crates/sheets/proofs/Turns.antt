@@ -8,34 +8,34 @@ use borrow.Rule.Slice.PartMut.{midOf}
 use lib.ListN.{length, take, drop, replicate, length-drop}
 use lib.Seq.{drop-drop, take-all}
 use Rattle.state.specs.Image.{stateIn, isImage}
-use Rattle.lines.specs.Machine.{Outcome, step, told, Called, played, call}
+use Rattle.lines.specs.Machine.{Outcome, step, told, played, call}
+use Rattle.lines.specs.Sessions.{session}
 use Rattle.lines.specs.declared.verdicts.Verdict.the-variants.{NoState}
 use Rattle.pieces.specs.Pieces.{cutOf, pieces}
 use Rattle.pieces.proofs.Pieces.{cut-some, cut-fits, pieces-none, pieces-more}
+use Rattle.sheets.specs.Playing.{replyRoom}
 use Rattle.sheets.specs.Keeping.{runBy}
 
 -- a line on an image, whatever the room holds
-
-abbrev calledBy : Bool → Outcome → List ℕ → List ℕ → Called
-calledBy b o image room = cond b (played o room) (record { answer = told NoState 0; image = image; room = room })
-
-pub room-length : (image line room : List ℕ) → length room ≡ 306 → call image line room .image ≡ call image line (replicate 306 0) .image
+pub room-length : (image line room : List ℕ) → length room ≡ replyRoom → call image line room .image ≡ call image line (replicate replyRoom 0) .image
 room-length image line room e =
-    ap (λ (n : ℕ). calledBy (isImage image) (step (stateIn image) line n) image room .image) e ∙ by (isImage image) (step (stateIn image) line 306)
+    ap (λ (n : ℕ). cond (isImage image) (played (step (stateIn image) line n) room) (record { answer = told NoState 0; image = image; room = room }) .image) e
+    ∙ by (isImage image) (step (stateIn image) line replyRoom)
   where
-    by : (b : Bool) (o : Outcome) → calledBy b o image room .image ≡ calledBy b o image (replicate 306 0) .image
+    by : (b : Bool) (o : Outcome) → cond b (played o room) (record { answer = told NoState 0; image = image; room = room }) .image
+        ≡ cond b (played o (replicate replyRoom 0)) (record { answer = told NoState 0; image = image; room = replicate replyRoom 0 }) .image
     by true o = refl
     by false o = refl
 
 -- the pieces from a place on, run on an image: one piece more, and none left
 
 pub run-more : (input image line room next : List ℕ) (at n : ℕ) → at < length input → n ≡ cutOf (drop at input) → line ≡ take n (drop at input)
-    → length room ≡ 306 → next ≡ call image line room .image → runBy (pieces (drop at input)) image ≡ runBy (pieces (drop (at + n) input)) next
-unfolding runBy
+    → length room ≡ replyRoom → next ≡ call image line room .image → runBy (pieces (drop at input)) image ≡ runBy (pieces (drop (at + n) input)) next
+unfolding session
 run-more input image line room next at n h en el er e =
     let rest = drop at input in
-    let is : call image (take (cutOf rest) rest) (replicate 306 0) .image ≡ next =
-    ap (λ (l : List ℕ). call image l (replicate 306 0) .image) (ap (λ (k : ℕ). take k rest) (sym en) ∙ sym el) ∙ sym (room-length image line room er) ∙ sym e
+    let is : call image (take (cutOf rest) rest) (replicate replyRoom 0) .image ≡ next =
+    ap (λ (l : List ℕ). call image l (replicate replyRoom 0) .image) (ap (λ (k : ℕ). take k rest) (sym en) ∙ sym el) ∙ sym (room-length image line room er) ∙ sym e
     in
     let left : drop (cutOf rest) rest ≡ drop (at + n) input = ap (λ (k : ℕ). drop k rest) (sym en) ∙ drop-drop n at input in
     ap (λ (ps : List (List ℕ)). runBy ps image) (pieces-more rest (omega (arith, length-drop at input)))
@@ -43,11 +43,11 @@ run-more input image line room next at n h en el er e =
     ∙ ap (λ (l : List ℕ). runBy (pieces l) next) left
 
 pub run-none : (input image : List ℕ) (at : ℕ) → length input ≤ at → runBy (pieces (drop at input)) image ≡ image
-unfolding runBy
+unfolding session
 run-none input image at h = rw (pieces-none (drop at input) (omega (arith, length-drop at input)))
 
 -- a turn of the loop that runs them, as the calls in it ensure it
-pub run-turn : (input image room next : List ℕ) (at n : ℕ) → at < length input → length room ≡ 306
+pub run-turn : (input image room next : List ℕ) (at n : ℕ) → at < length input → length room ≡ replyRoom
     → n ≡ cutOf (midOf at (length input - at) input) → next ≡ call image (midOf 0 (n - 0) (midOf at (length input - at) input)) room .image
     → (0 < n) × ((at + n ≤ length input) × (runBy (pieces (drop at input)) image ≡ runBy (pieces (drop (at + n) input)) next))
 run-turn input image room next at n h er en e =

@@ -13,7 +13,7 @@ use Rattle.state.specs.Entries.{isState}
 use Rattle.state.specs.Image.{stateIn, isImage}
 use Rattle.state.specs.declared.entries.State.{State}
 use Rattle.sheets.specs.Sheet.{sheetOf, Sheet·room, sheetInRoom, writtenSheet, WritesSheet}
-use Rattle.sheets.specs.Keeping.{sheetPut}
+use Rattle.sheets.specs.Keeping.{sheetMost, sheetPut}
 use Rattle.sheets.specs.declared.writing.Sheet.{Sheet}
 use Rattle.sheets.specs.declared.answers.Sheeted.{Sheeted}
 use Rattle.sheets.specs.declared.answers.Sheeted.the-variants as answer
@@ -24,9 +24,9 @@ use Rattle.sheets.proofs.Linewise.{held-whole}
 pub sheet-kept : (s : State) (r : Sheet) → isState s ≡ true → r ≡ sheetPut s
     → (r .n ≡ length (sheetOf s)) × (take (r .n) (r .bytes) ≡ sheetOf s) × (r .n ≤ length (r .bytes))
 sheet-kept s r h e =
-    let bytes : r .bytes ≡ laid (sheetOf s) (replicate 441 0) = ap (λ (x : Sheet). x .bytes) e in
-    let whole = held-whole (replicate 441 0) (sheetOf s) (r .n) (r .bytes) (sheet-below s h) bytes (ap (λ (x : Sheet). x .n) e) in
-    let long : length (r .bytes) ≡ 441 = ap length bytes ∙ length-laid (sheetOf s) (replicate 441 0) in
+    let bytes : r .bytes ≡ laid (sheetOf s) (replicate sheetMost 0) = ap (λ (x : Sheet). x .bytes) e in
+    let whole = held-whole (replicate sheetMost 0) (sheetOf s) (r .n) (r .bytes) (sheet-below s h) bytes (ap (λ (x : Sheet). x .n) e) in
+    let long : length (r .bytes) ≡ sheetMost = ap length bytes ∙ length-laid (sheetOf s) (replicate sheetMost 0) in
     (whole .0, whole .1, omega (arith, whole .0, sheet-below s h))
 
 -- the answer

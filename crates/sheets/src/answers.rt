@@ -11,7 +11,7 @@ pub enum Sheeted {
     Loaded,
 }
 
-// The number that document 01 has for an answer.
+// Gives the number that document 01 has for an answer.
 pub fn sheet_number(answer: Sheeted) -> u64
     ensures { λ r. ⌜ r ≡ sheetNumber answer ⌝ }
 {
@@ -24,7 +24,7 @@ pub fn sheet_number(answer: Sheeted) -> u64
     }
 }
 
-// What it tells: the bytes written, a wrong line's start, otherwise 0.
+// Gives what an answer tells: the bytes written, a wrong line's start, otherwise 0.
 pub fn sheet_tells(answer: Sheeted) -> usize
     ensures { λ r. ⌜ r ≡ sheetTells answer ⌝ }
 {

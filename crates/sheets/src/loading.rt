@@ -2,12 +2,12 @@
 ghost use mathlib.Core.Path.{_≡_};
 ghost use Prim.Native.Nat.{_≤_, _<_};
 ghost use lib.ListN.{length, drop, replicate};
-ghost use Rattle.instrument.specs.Settings.{rowsOf};
 ghost use Rattle.state.specs.Entries.{valueOf};
 ghost use Rattle.instrument.specs.Values.{valuesN};
 ghost use Rattle.instrument.specs.declared.values.Kept.the-variants.{Never};
 ghost use Rattle.sheets.specs.Lines.{wrongAt};
-ghost use Rattle.sheets.specs.Loading.{saidBy, settingSays, keptSaid, settingsIn, valuesFrom, Loads};
+ghost use Rattle.sheets.specs.Sheet.{saidBy, settingLines, keptSaid};
+ghost use Rattle.sheets.specs.Loading.{settingsIn, valuesFrom, Loads};
 ghost use Rattle.sheets.specs.Keeping.{settingsAs, valuesAs};
 use crate::answers::Sheeted;
 use crate::writing::key_length;
@@ -50,7 +50,7 @@ pub struct Values {
     pub values: [Value; VALUES],
 }
 
-// The number that the digits from a place on say, three at most.
+// Reads the number that the digits from a place on say, three at most.
 fn said_at(s: &[u8], start: usize) -> u64
     ensures { λ r. ⌜ (r ≡ saidBy 3 0 (drop start (now (s .entry)))) × (r < 1000) ⌝ }
 {
@@ -72,15 +72,15 @@ fn said_at(s: &[u8], start: usize) -> u64
     n
 }
 
-// What the line of the setting at a place says.
+// Reads what the line of the setting at a place says.
 fn parameter_in(series: Series, place: usize, s: &[u8]) -> u64
-    ensures { λ r. ⌜ r ≡ settingSays (rowsOf series) place (now (s .entry)) ⌝ }
+    ensures { λ r. ⌜ r ≡ settingLines series .says place (now (s .entry)) ⌝ }
 {
     let key = key_at(series, place);
     said_at(s, key_length(key))
 }
 
-// What the line of the value at a place says.
+// Reads what the line of the value at a place says.
 fn kept_in(place: usize, s: &[u8]) -> Kept
     ensures { λ r. ⌜ r ≡ keptSaid place (now (s .entry)) ⌝ }
 {
@@ -92,7 +92,7 @@ fn kept_in(place: usize, s: &[u8]) -> Kept
         return never;
     }
     let row = stored_at(place);
-    let key = row.3;
+    let key = row.key;
     let start = key_length(key);
     let mut word = [0; 16];
     if start <= s.len() {
@@ -112,7 +112,7 @@ fn wrong_settings(at: usize) -> Settings
     }
 }
 
-// The series and the settings' lines.
+// Reads the series and the settings' lines.
 fn settings_in(series: Series, sheet: &[u8]) -> Settings
     ensures { λ r. ⌜ r ≡ settingsAs (settingsIn series (now (sheet .entry))) ⌝ }
 {
@@ -167,7 +167,7 @@ fn wrong_values(at: usize) -> Values
     }
 }
 
-// The values' lines, from a place on.
+// Reads the values' lines, from a place on.
 fn values_in(sheet: &[u8], start: usize) -> Values
     requires { ⌜ start ≤ length (now sheet) ⌝ }
     ensures { λ r. ⌜ r ≡ valuesAs (valuesFrom (now (sheet .entry)) start) ⌝ }

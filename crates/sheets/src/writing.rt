@@ -1,8 +1,7 @@
 // The sheet written from a state: line by line, each put where the one before it ended.
 ghost use mathlib.Core.Path.{_≡_};
 ghost use lib.ListN.{length};
-ghost use Rattle.instrument.specs.Settings.{rowsOf};
-ghost use Rattle.sheets.specs.Sheet.{seriesLine, settingLine, keptLine, WritesSheet};
+ghost use Rattle.sheets.specs.Sheet.{seriesLine, settingLines, keptLine, WritesSheet};
 ghost use Rattle.sheets.specs.Keeping.{keyLength, lineAs, sheetPut, settingsPut};
 use crate::answers::Sheeted;
 use figures::casts::wide;
@@ -19,7 +18,7 @@ use state::entries::State;
 use state::image::Known;
 use state::image::decode;
 
-// The longest sheet of a series.
+// The length of the longest sheet of either series.
 pub const LONGEST: usize = 441;
 
 // A line from the start of 20 bytes, the longest, and its length; the rest is 0.
@@ -34,7 +33,7 @@ pub struct Sheet {
     pub n: usize,
 }
 
-// The length of a row's key, which stands from the start of five bytes.
+// Gives the length of a row's key, which stands from the start of five bytes.
 pub(crate) fn key_length(key: [u8; 5]) -> usize
     ensures { λ r. ⌜ r ≡ keyLength key ⌝ }
 {
@@ -47,7 +46,7 @@ pub(crate) fn key_length(key: [u8; 5]) -> usize
     3
 }
 
-// The line that names the series.
+// Gives the line that names the series.
 pub(crate) fn series_line(series: Series) -> [u8; 14]
     ensures { λ r. ⌜ r ≡ seriesLine series ⌝ }
 {
@@ -57,9 +56,9 @@ pub(crate) fn series_line(series: Series) -> [u8; 14]
     }
 }
 
-// The line of the setting at a place.
+// Makes the line of the setting at a place.
 pub(crate) fn setting_line(series: Series, place: usize, parameter: u8) -> Line
-    ensures { λ r. ⌜ r ≡ lineAs (settingLine (rowsOf series) place parameter) ⌝ }
+    ensures { λ r. ⌜ r ≡ lineAs (settingLines series .write place parameter) ⌝ }
 {
     let key = key_at(series, place);
     let n = key_length(key);
@@ -73,12 +72,12 @@ pub(crate) fn setting_line(series: Series, place: usize, parameter: u8) -> Line
     }
 }
 
-// The line of the value at a place.
+// Makes the line of the value at a place.
 pub(crate) fn value_line(place: usize, kept: Kept) -> Line
     ensures { λ r. ⌜ r ≡ lineAs (keptLine place kept) ⌝ }
 {
     let row = stored_at(place);
-    let key = row.3;
+    let key = row.key;
     let n = key_length(key);
     let mut bytes = [0; 20];
     let mut at = put(&mut bytes, 0, &key[0..n]);
@@ -93,7 +92,7 @@ pub(crate) fn value_line(place: usize, kept: Kept) -> Line
     }
 }
 
-// The series and the settings' lines.
+// Puts the series and the settings' lines.
 fn put_settings(s: State) -> Sheet
     ensures { λ r. ⌜ r ≡ settingsPut s ⌝ }
 {
@@ -117,7 +116,7 @@ fn put_settings(s: State) -> Sheet
     }
 }
 
-// The whole sheet.
+// Puts the whole sheet.
 pub(crate) fn put_sheet(s: State) -> Sheet
     ensures { λ r. ⌜ r ≡ sheetPut s ⌝ }
 {

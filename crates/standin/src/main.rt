@@ -6,6 +6,7 @@ use instrument::settings::Series;
 use libc::STDERR_FILENO;
 use libc::STDIN_FILENO;
 use libc::STDOUT_FILENO;
+use lines::replies::REPLY_MOST;
 use lines::verdicts::Verdict;
 use port::Port;
 use port::hear;
@@ -32,7 +33,7 @@ struct Next {
     on: bool,
 }
 
-// Says why the line was refused that the port had kept; nothing of one that was accepted.
+// Says why the line that the port had kept was refused, and nothing of one that was accepted.
 fn say_why(number: u64, port: Port, verdict: Verdict) {
     let mut room = [0u8; ENOUGH];
     let n = put_why(&mut room, number, port, verdict);
@@ -50,7 +51,7 @@ fn turn(image: &mut [u8], port: Port, lines: u64, why: bool) -> Next {
             on: false,
         };
     }
-    let mut room = [0u8; 459];
+    let mut room = [0u8; REPLY_MOST];
     let turn = hear(image, port, byte[0], &mut room);
     let next = turn.port;
     let told = turn.told;
@@ -75,7 +76,7 @@ fn turn(image: &mut [u8], port: Port, lines: u64, why: bool) -> Next {
     }
 }
 
-// A proved loop has to end, so that this one counts its turns down, from a number that no run uses up.
+// Plays until the input ends. A proved loop has to end, so this one counts its turns down from a number that no run uses up.
 fn play(image: &mut [u8], why: bool) {
     let mut port = quiet();
     let mut lines = 0;
@@ -125,7 +126,9 @@ fn none() -> Start {
 }
 
 fn usage() -> Start {
-    put(b"usage: standin [--why] [TPS100 | TPS300 | SHEET]\n");
+    put(
+        b"usage: standin [--why] [TPS100 | TPS300 | SHEET]\ndocs/REFUSALS.md says what the number of each refusal means.\n",
+    );
     none()
 }
 
@@ -168,7 +171,8 @@ fn read_file(path: &[u8], sheet: &mut [u8]) -> Start {
     }
 }
 
-// A series, a sheet file, or nothing, which is a TPS100; the argument was just read. A name that starts with two hyphens is no file: ./--NAME is.
+// Starts from what the argument that was just read names: a series or a sheet file; with none it is a TPS100. A name that starts with two hyphens is no file,
+// but ./--NAME is.
 fn asked(arguments: usize, name: &[u8], sheet: &mut [u8]) -> Start {
     if arguments == 0 {
         return fresh(Series::Tps100);
@@ -215,7 +219,7 @@ fn less_one(n: usize) -> usize {
     if n == 0 { 0 } else { n - 1 }
 }
 
-// Whether that argument is --why.
+// Tells whether that argument is --why.
 fn asks_why(i: usize) -> bool {
     let mut word = [0u8; 6];
     let n = os::arg(i, &mut word);

@@ -1,21 +1,22 @@
 -- Each state's image gives the state back, so each has one image and each image is of one state.
 use Prim.Native.Nat.{ℕ, zero, suc, _+_, _-_, _*_, _/_, _%_, _<_, _≤_}
 use mathlib.Core.Path.{_≡_, refl, sym, ap, _∙_}
-use mathlib.Core.Bool.{Bool, true, false, cond, _&&_, false≢true, and-eq-true-iff}
+use mathlib.Core.Bool.{Bool, true, false, cond, _&&_, false≢true}
 use mathlib.Core.List.{List, [], _∷_, _++_}
 use native.Mathlib.Nat.{sub-zero}
 use native.Mathlib.Omega.{arith}
-use borrow.Author.Tests.{eq-eqb, eqb-true, leb-true}
-use lib.Dec.{eqb, leb}
+use borrow.Author.Tests.{eq-eqb, eqb-true}
+use lib.Dec.{eqb}
 use lib.ListN.{length, getD, take, drop, replicate, length-append, length-replicate, take-append-drop}
 use lib.Seq.{take-all, take-at, drop-at, drop-drop, getD-drop, length-take-le}
 use Rattle.figures.specs.Bytes.{sameBytes}
 use Rattle.figures.proofs.Bytes.{same-refl, same-true, laid-fits}
-use Rattle.instrument.specs.Settings.{rows100, rows300, settingsN, settingsMost, noRow, rowsOf, held, padded, places, inRange, inRanges}
-use Rattle.state.specs.Entries.{factoryState, entriesN, valueOf, entryOf, blankState, valuesRight, entriesRight, putsOf, sound, isState}
+use Rattle.figures.proofs.Tests.{both}
+use Rattle.instrument.specs.Settings.{rows100, rows300, settingsN, settingsMost, noRow, rowsOf, held, padded, heldRows, factorySettings, inRange, inRanges}
+use Rattle.state.specs.Entries.{factoryState, entriesN, valueOf, entryOf, blankState, valuesRight, contentsOf, contentsRight, isState}
 use Rattle.instrument.specs.Values.{valuesN}
-use Rattle.state.specs.Image.{formOf, valuesAt, countAt, entriesAt, restN, imageN, keptBytes, entryBytes, valuesBytes, entriesBytes, restOf, imageOf}
-use Rattle.state.specs.Image.{keptIn, entryIn, valuesIn, entriesIn, seriesIn, stateOf, stateAs, stateIn, isImage, decodeOf}
+use Rattle.state.specs.Image.{formOf, valuesAt, countAt, entriesAt, restN, imageN, keptBytes, entryBytes, valuesBytes, entriesBytes, restOf, imageOf, encodedIn}
+use Rattle.state.specs.Image.{keptIn, entryIn, valuesIn, entriesIn, seriesIn, stateFrom, stateAsOf, stateAs, stateIn, isImage, decodeOf}
 use Rattle.instrument.specs.declared.settings.Series.{Series}
 use Rattle.instrument.specs.declared.settings.Series.the-variants.{Tps100, Tps300}
 use Rattle.instrument.specs.declared.settings.Row.{Row}
@@ -28,7 +29,8 @@ use Rattle.state.specs.declared.entries.Entry.{Entry}
 use Rattle.state.specs.declared.entries.State.{State}
 use Rattle.state.specs.declared.image.Known.the-variants.{Not, Is}
 use Rattle.state.specs.declared.image.Decoded.{Decoded}
-use Rattle.instrument.proofs.Ranges.{rows-long, settings-few, places-long, range-high}
+use Rattle.instrument.proofs.Ranges.{settings-100, settings-300, settings-few, held-rows-long, ranges-long, range-high}
+use Rattle.state.proofs.Steps.{state-parts, back-now, none-state}
 use Rattle.state.proofs.Laying.{flat-length, rows-flat, valueBytes, valueIn}
 
 -- a row gives back what it was made of
@@ -64,13 +66,6 @@ pub record Shaped (s : State) : Type 0 where
   pub undo-long : length (s .undo) ≡ entriesN
   pub few : s .count < 65536
 
-ranges-long : (rs : List Row) (ps : List ℕ) → inRanges rs ps ≡ true → length ps ≡ length rs
-unfolding inRanges
-ranges-long [] [] e = refl
-ranges-long [] (p ∷ ps) e = absurd (false≢true e)
-ranges-long (r ∷ rs) [] e = absurd (false≢true e)
-ranges-long (r ∷ rs) (p ∷ ps) e = ap suc (ranges-long rs ps (and-eq-true-iff (inRange r p) (inRanges rs ps) .0 e .1))
-
 -- what stands past the series' own settings is nought
 
 drop-replicate : {A : Type 0} (n m : ℕ) (a : A) → drop n (replicate m a) ≡ replicate (m - n) a
@@ -87,8 +82,8 @@ blanks-held zero [] e = refl
 blanks-held zero (p ∷ ps) e = absurd (false≢true e)
 blanks-held (suc n) [] e = absurd (false≢true e)
 blanks-held (suc n) (p ∷ ps) e =
-    let both = and-eq-true-iff (inRange noRow p) (inRanges (replicate n noRow) ps) .0 e in
-    λ i. blank-held p (both .0) i ∷ blanks-held n ps (both .1) i
+    let (here, later) = both (inRange noRow p) (inRanges (replicate n noRow) ps) e in
+    λ i. blank-held p here i ∷ blanks-held n ps later i
 
 pub ranges-split : (rs more : List Row) (ps : List ℕ) → inRanges (rs ++ more) ps ≡ true
     → (inRanges rs (take (length rs) ps) ≡ true) × (inRanges more (drop (length rs) ps) ≡ true)
@@ -96,20 +91,20 @@ unfolding inRanges
 ranges-split [] more ps e = (refl, e)
 ranges-split (r ∷ rs) more [] e = absurd (false≢true e)
 ranges-split (r ∷ rs) more (p ∷ ps) e =
-    let both = and-eq-true-iff (inRange r p) (inRanges (rs ++ more) ps) .0 e in
-    let rest = ranges-split rs more ps (both .1) in
-    (rw (both .0) (rest .0), rest .1)
+    let (here, later) = both (inRange r p) (inRanges (rs ++ more) ps) e in
+    let rest = ranges-split rs more ps later in
+    (rw here (rest .0), rest .1)
 
-module _ (k : Series) (ps : List ℕ) (e : inRanges (places k) ps ≡ true) where
+module _ (k : Series) (ps : List ℕ) (e : inRanges (heldRows k) ps ≡ true) where
   parted : (inRanges (rowsOf k) (held k ps) ≡ true) × (inRanges (replicate (settingsMost - settingsN k) noRow) (drop (settingsN k) ps) ≡ true)
-  parted = rw (rows-long k) at (ranges-split (rowsOf k) (replicate (settingsMost - settingsN k) noRow) ps e)
+  parted = ranges-split (rowsOf k) (replicate (settingsMost - settingsN k) noRow) ps e
 
   -- the series' own are in their ranges
   pub held-right : inRanges (rowsOf k) (held k ps) ≡ true
   held-right = parted .0
 
   pub held-long : length (held k ps) ≡ settingsN k
-  held-long = ranges-long (rowsOf k) (held k ps) held-right ∙ rows-long k
+  held-long = ranges-long (rowsOf k) (held k ps) held-right
 
   pub held-back : padded (held k ps) ≡ ps
   held-back =
@@ -123,20 +118,16 @@ module _ (k : Series) (ps : List ℕ) (e : inRanges (places k) ps ≡ true) wher
 
 pub shaped : (s : State) → isState s ≡ true → Shaped s
 shaped s e =
-    let last = sound (s .count) (putsOf (s .values)) (s .undo) in
-    let u = eqb (length (s .undo)) entriesN && entriesRight (s .series) (s .undo) (s .count) in
-    let v = eqb (length (s .values)) valuesN && valuesRight 0 (s .values) in
-    let c = and-eq-true-iff (leb (s .count) entriesN) (inRanges (places (s .series)) (s .settings) && (v && (u && last))) .0 e in
-    let g = and-eq-true-iff (inRanges (places (s .series)) (s .settings)) (v && (u && last)) .0 (c .1) in
-    let w = and-eq-true-iff v (u && last) .0 (g .1) in
-    let values = and-eq-true-iff (eqb (length (s .values)) valuesN) (valuesRight 0 (s .values)) .0 (w .0) in
-    let undo = and-eq-true-iff (eqb (length (s .undo)) entriesN) (entriesRight (s .series) (s .undo) (s .count)) .0 (and-eq-true-iff u last .0 (w .1) .0) in
+    let p = state-parts entriesN s e in
+    let ranges = inRanges (heldRows (s .series)) (s .settings) in
+    let long = eqb (length (s .values)) valuesN in
+    let (settings, values) = both ranges (long && valuesRight 0 (s .values)) (back-now (s .count) (contentsOf s) (s .undo) (p .back)) in
     record {
-      settings-long = ranges-long (places (s .series)) (s .settings) (g .0) ∙ places-long (s .series);
-      settings-held = held-back (s .series) (s .settings) (g .0);
-      values-long = eqb-true (length (s .values)) valuesN (values .0);
-      undo-long = eqb-true (length (s .undo)) entriesN (undo .0);
-      few = omega (arith, leb-true (s .count) entriesN (c .0));
+      settings-long = ranges-long (heldRows (s .series)) (s .settings) settings ∙ held-rows-long (s .series);
+      settings-held = held-back (s .series) (s .settings) settings;
+      values-long = eqb-true (length (s .values)) valuesN (both long (valuesRight 0 (s .values)) values .0);
+      undo-long = p .undo-long;
+      few = omega (arith, p .few);
     }
 
 -- parameters as many as the series has, padded: held again, and right where they are
@@ -158,16 +149,16 @@ ranges-join [] more [] qs e f = f
 ranges-join [] more (p ∷ ps) qs e f = absurd (false≢true e)
 ranges-join (r ∷ rs) more [] qs e f = absurd (false≢true e)
 ranges-join (r ∷ rs) more (p ∷ ps) qs e f =
-    let both = and-eq-true-iff (inRange r p) (inRanges rs ps) .0 e in
-    rw (both .0) (ranges-join rs more ps qs (both .1) f)
+    let (here, later) = both (inRange r p) (inRanges rs ps) e in
+    rw here (ranges-join rs more ps qs later f)
 
-pub padded-right : (k : Series) (ps : List ℕ) → inRanges (rowsOf k) ps ≡ true → inRanges (places k) (padded ps) ≡ true
+pub padded-right : (k : Series) (ps : List ℕ) → inRanges (rowsOf k) ps ≡ true → inRanges (heldRows k) (padded ps) ≡ true
 padded-right k ps e =
-    let long : length ps ≡ settingsN k = ranges-long (rowsOf k) ps e ∙ rows-long k in
+    let long : length ps ≡ settingsN k = ranges-long (rowsOf k) ps e in
     let blanks : List ℕ = replicate settingsMost 0 in
     let fits : length ps ≤ length blanks = omega (arith, settings-few k, length-replicate {A = ℕ} settingsMost 0) in
     let past : drop (length ps) blanks ≡ replicate (settingsMost - settingsN k) 0 = ap (λ (i : ℕ). drop i blanks) long ∙ drop-replicate (settingsN k) settingsMost 0 in
-    ap (inRanges (places k)) (laid-fits ps blanks fits ∙ ap (λ (t : List ℕ). ps ++ t) past)
+    ap (inRanges (heldRows k)) (laid-fits ps blanks fits ∙ ap (λ (t : List ℕ). ps ++ t) past)
     ∙ ranges-join (rowsOf k) (replicate (settingsMost - settingsN k) noRow) ps (replicate (settingsMost - settingsN k) 0) e (blanks-right (settingsMost - settingsN k))
 
 -- the parts of the rest, by their offsets
@@ -198,10 +189,22 @@ series-said : (k : Series) (l : List ℕ) → seriesIn (formOf k ∷ l) ≡ k
 series-said Tps100 l = refl
 series-said Tps300 l = refl
 
+-- the length of an image of each series
+
+pub image-100 : imageN Tps100 ≡ 20 + restN
+image-100 = ap (λ (n : ℕ). 1 + n + restN) settings-100
+
+pub image-300 : imageN Tps300 ≡ 31 + restN
+image-300 = ap (λ (n : ℕ). 1 + n + restN) settings-300
+
+-- a room of that length is filled with the image
+pub encoded-fits : (s : State) (room : List ℕ) → length room ≡ imageN (s .series) → encodedIn s room ≡ imageOf s
+encoded-fits s room long = rw (eq-eqb (length room) (imageN (s .series)) long)
+
 -- a state is read from its image
 
 pub imaged : (s : State) → Shaped s → (length (imageOf s) ≡ imageN (s .series)) × (stateIn (imageOf s) ≡ s)
-unfolding imageOf stateAs
+unfolding imageOf stateAsOf
 imaged s hs =
     let k = s .series in
     let g = held k (s .settings) in
@@ -220,7 +223,7 @@ imaged s hs =
     let at-rest : drop (valuesAt k) (formOf k ∷ (g ++ r)) ≡ r =
     sym (drop-drop (settingsN k) 1 (formOf k ∷ (g ++ r))) ∙ drop-at g r (settingsN k) lg
     in
-    let split : stateAs k (formOf k ∷ (g ++ r)) ≡ stateOf k g r = λ i. stateOf k (at-settings i) (at-rest i) in (
+    let split : stateAs k (formOf k ∷ (g ++ r)) ≡ stateFrom entriesN k g r = λ i. stateFrom entriesN k (at-settings i) (at-rest i) in (
       omega (arith, length-append g r, rest-long h l v e lv le),
       ap (λ (t : Series). stateAs t (formOf k ∷ (g ++ r))) (series-said k (g ++ r))
           ∙ split
@@ -241,7 +244,7 @@ image-back s e = imaged s (shaped s e) .1
 
 -- an image says the series
 pub image-series : (s : State) → isState s ≡ true → seriesIn (imageOf s) ≡ s .series
-unfolding imageOf stateAs
+unfolding imageOf stateAsOf
 image-series s e = ap (λ (t : State). t .series) (image-back s e)
 
 -- every state's image is accepted, as that state
@@ -269,14 +272,14 @@ pub decoded-is : (l : List ℕ) (d : Decoded) → d ≡ decodeOf l → d .answer
 decoded-is l d e q = told (isImage l) (stateIn l) blankState d e q
 
 pub decoded-series : (l : List ℕ) (d : Decoded) → d ≡ decodeOf l → d .answer ≡ Is → d .state .series ≡ seriesIn l
-unfolding stateAs
+unfolding stateAsOf
 decoded-series l d e q = ap (λ (t : State). t .series) (decoded-is l d e q .1)
 
 pub decoded-not : (l : List ℕ) (d : Decoded) → d ≡ decodeOf l → d .answer ≡ Not → isImage l ≡ false
 decoded-not l d e q = told-not (isImage l) (stateIn l) blankState d e q
 
 pub image-is : (s : State) → isState s ≡ true → isImage (imageOf s) ≡ true
-unfolding imageOf stateAs
+unfolding imageOf stateAsOf
 image-is s e =
     ap (λ (t : State). eqb (length (imageOf s)) (imageN (t .series)) && (sameBytes (imageOf s) (imageOf t) && isState t)) (image-back s e)
     ∙ rw (eq-eqb (length (imageOf s)) (imageN (s .series)) (image-length s e), same-refl (imageOf s), e)
@@ -288,11 +291,14 @@ one-state s t hs ht e = sym (image-back s hs) ∙ ap stateIn e ∙ image-back t 
 
 pub image-of : (l : List ℕ) → isImage l ≡ true → (isState (stateIn l) ≡ true) × (l ≡ imageOf (stateIn l))
 image-of l e =
-    let rest = and-eq-true-iff (eqb (length l) (imageN (seriesIn l))) (sameBytes l (imageOf (stateIn l)) && isState (stateIn l)) .0 e in
-    let both = and-eq-true-iff (sameBytes l (imageOf (stateIn l))) (isState (stateIn l)) .0 (rest .1) in
-    (both .1, same-true l (imageOf (stateIn l)) (both .0))
+    let again = sameBytes l (imageOf (stateIn l)) in
+    let (same, right) = both again (isState (stateIn l)) (both (eqb (length l) (imageN (seriesIn l))) (again && isState (stateIn l)) e .1) in
+    (right, same-true l (imageOf (stateIn l)) same)
+
+factory-right : (k : Series) → contentsRight (contentsOf (factoryState k)) ≡ true
+unfolding rows100 rows300 inRanges valuesRight
+factory-right Tps100 = refl
+factory-right Tps300 = refl
 
 pub factory-is-state : (k : Series) → isState (factoryState k) ≡ true
-unfolding rows100 rows300 inRanges valuesRight entriesRight sound
-factory-is-state Tps100 = refl
-factory-is-state Tps300 = refl
+factory-is-state k = none-state k (factorySettings k) (replicate valuesN (valueOf Never)) (factory-right k)

@@ -1,3 +1,5 @@
+pub mod Steps
+pub mod Judging
 pub mod Standing
 pub mod Laying
 pub mod Images

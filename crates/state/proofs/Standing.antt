@@ -1,4 +1,4 @@
--- Laws of the loops that judge a state: values and entries that may stand, and the entries taken back newest first.
+-- Laws of the loops that judge a state: values and entries that may stand, and the entries taken back newestOf first.
 use Prim.Native.Nat.{ℕ, zero, suc, _+_, _-_, _<_, _≤_}
 use mathlib.Core.Path.{_≡_, _∙_}
 use mathlib.Core.Bool.{Bool, true, false, _&&_}
@@ -12,7 +12,8 @@ use Rattle.instrument.specs.declared.settings.Series.{Series}
 use Rattle.instrument.specs.declared.values.Value.{Value}
 use Rattle.state.specs.declared.entries.Entry.{Entry}
 use Rattle.instrument.specs.Values.{keptRight}
-use Rattle.state.specs.Entries.{blankEntry, entryRight, isBlank, entriesRight, valuesRight, backRight, putsBack, sound}
+use Rattle.state.specs.Entries.{blankEntry, isBlank, valuesRight}
+use Rattle.state.specs.Keeping.{entryRight, entriesRight, backRight, putsBack, sound}
 use Rattle.figures.proofs.Tests.{and-on, and-off}
 
 -- values
@@ -36,13 +37,13 @@ values-all vs i h = rw (drop-of-length-le vs h)
 -- entries: at a place below the count, and past it
 
 module _ (k : Series) (u : List Entry) (d : Entry) (i n : ℕ) (h : i < length u) where
-  stand-turn : i < n → entriesRight k (drop i u) (n - i) ≡ entryRight k (getD u i d) && entriesRight k (drop (i + 1) u) (n - (i + 1))
+  pub stand-turn : i < n → entriesRight k (drop i u) (n - i) ≡ entryRight k (getD u i d) && entriesRight k (drop (i + 1) u) (n - (i + 1))
   unfolding entriesRight
   stand-turn hn =
       let q : n - i - 1 ≡ n - (i + 1) = omega arith in
       rw (drop-cons u i d h, lt-ltb 0 (n - i) (omega arith), q, add-one i)
 
-  blank-turn : n ≤ i → entriesRight k (drop i u) (n - i) ≡ isBlank (getD u i d) && entriesRight k (drop (i + 1) u) (n - (i + 1))
+  pub blank-turn : n ≤ i → entriesRight k (drop i u) (n - i) ≡ isBlank (getD u i d) && entriesRight k (drop (i + 1) u) (n - (i + 1))
   unfolding entriesRight
   blank-turn hn =
       let q : n - i - 1 ≡ n - (i + 1) = omega arith in
@@ -66,21 +67,21 @@ entries-all k u i n h = rw (drop-of-length-le u h)
 
 -- entries taken back, the newest that stands at a time
 
-abbrev pub newest : List Entry → ℕ → Entry
-newest u n = getD u (n - 1) blankEntry
+abbrev pub newestOf : List Entry → ℕ → Entry
+newestOf u n = getD u (n - 1) blankEntry
 
-sound-turn : (n : ℕ) (puts : List Bool) (u : List Entry) → 0 < n
+pub sound-turn : (n : ℕ) (puts : List Bool) (u : List Entry) → 0 < n
     → sound n puts u
-    ≡ backRight puts (newest u n .item) && sound (n - 1) (putsBack puts (newest u n .item) (newest u n .former .kept)) u
+    ≡ backRight puts (newestOf u n .item) && sound (n - 1) (putsBack puts (newestOf u n .item) (newestOf u n .former .kept)) u
 unfolding sound
 sound-turn zero puts u h = absurd (omega arith)
 sound-turn (suc n) puts u h = let q : suc n - 1 ≡ n = omega arith in rw q
 
-pub sound-more : (n : ℕ) (puts : List Bool) (u : List Entry) → 0 < n → backRight puts (newest u n .item) ≡ true
-    → sound n puts u ≡ sound (n - 1) (putsBack puts (newest u n .item) (newest u n .former .kept)) u
+pub sound-more : (n : ℕ) (puts : List Bool) (u : List Entry) → 0 < n → backRight puts (newestOf u n .item) ≡ true
+    → sound n puts u ≡ sound (n - 1) (putsBack puts (newestOf u n .item) (newestOf u n .former .kept)) u
 sound-more n puts u h e = sound-turn n puts u h ∙ and-on e
 
-pub sound-not : (n : ℕ) (puts : List Bool) (u : List Entry) → 0 < n → backRight puts (newest u n .item) ≡ false → sound n puts u ≡ false
+pub sound-not : (n : ℕ) (puts : List Bool) (u : List Entry) → 0 < n → backRight puts (newestOf u n .item) ≡ false → sound n puts u ≡ false
 sound-not n puts u h e = sound-turn n puts u h ∙ and-off _ e
 
 pub sound-none : (n : ℕ) (puts : List Bool) (u : List Entry) → n ≤ 0 → sound n puts u ≡ true

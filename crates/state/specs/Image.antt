@@ -6,7 +6,7 @@ use lib.Dec.{eqb}
 use lib.ListN.{length, getD, take, drop}
 use Rattle.figures.specs.Bytes.{sameBytes}
 use Rattle.instrument.specs.Values.{eightBytes, eightOf, valuesN}
-use Rattle.state.specs.Entries.{entriesN, valueOf, entryOf, blankState, isState}
+use Rattle.state.specs.Entries.{entriesN, valueOf, entryOf, blankState, isStateOf}
 use Rattle.instrument.specs.Settings.{settingsN, held, padded}
 use Rattle.instrument.specs.declared.settings.Series.{Series}
 use Rattle.instrument.specs.declared.settings.Series.the-variants.{Tps100, Tps300}
@@ -36,11 +36,18 @@ countAt = valuesN * 11
 abbrev pub entriesAt : ℕ
 entriesAt = countAt + 2
 
+-- with room for so many entries
+abbrev pub restNOf : ℕ → ℕ
+restNOf capacity = entriesAt + capacity * 14
+
 abbrev pub restN : ℕ
-restN = entriesAt + entriesN * 14
+restN = restNOf entriesN
+
+abbrev pub imageNOf : ℕ → Series → ℕ
+imageNOf capacity k = valuesAt k + restNOf capacity
 
 abbrev pub imageN : Series → ℕ
-imageN k = valuesAt k + restN
+imageN = imageNOf entriesN
 
 -- never put, or unit, sign and eight characters
 unfoldable pub keptBytes : Kept → List ℕ
@@ -93,33 +100,47 @@ rowsIn g w (suc n) l = g (take w l) ∷ rowsIn g w n (drop w l)
 abbrev pub valuesIn : List ℕ → List Value
 valuesIn = rowsIn (λ (l : List ℕ). valueOf (keptIn l)) 11 valuesN
 
+abbrev pub entriesInOf : ℕ → List ℕ → List Entry
+entriesInOf = rowsIn entryIn 14
+
 abbrev pub entriesIn : List ℕ → List Entry
-entriesIn = rowsIn entryIn 14 entriesN
+entriesIn = entriesInOf entriesN
 
 -- the series that the first byte says; one that says none is in no image
 abbrev pub seriesIn : List ℕ → Series
 seriesIn l = cond (eqb (getD l 0 0) (formOf Tps300)) Tps300 Tps100
 
 -- the state of a series that has those settings' bytes and the rest
-abbrev pub stateOf : Series → List ℕ → List ℕ → State
-stateOf k settings rest = record {
+abbrev pub stateFrom : ℕ → Series → List ℕ → List ℕ → State
+stateFrom capacity k settings rest = record {
   series = k;
   settings = padded settings;
   values = valuesIn (take countAt rest);
-  undo = entriesIn (take (entriesN * 14) (drop entriesAt rest));
+  undo = entriesInOf capacity (take (capacity * 14) (drop entriesAt rest));
   count = getD rest countAt 0 * 256 + getD rest (countAt + 1) 0;
 }
 
 -- the state of a series that the bytes would be the image of
-unfoldable pub stateAs : Series → List ℕ → State
-stateAs k l = stateOf k (take (settingsN k) (drop 1 l)) (drop (valuesAt k) l)
+unfoldable pub stateAsOf : ℕ → Series → List ℕ → State
+stateAsOf capacity k l = stateFrom capacity k (take (settingsN k) (drop 1 l)) (drop (valuesAt k) l)
+
+abbrev pub stateAs : Series → List ℕ → State
+stateAs = stateAsOf entriesN
+
+abbrev pub stateInOf : ℕ → List ℕ → State
+stateInOf capacity l = stateAsOf capacity (seriesIn l) l
 
 abbrev pub stateIn : List ℕ → State
-stateIn l = stateAs (seriesIn l) l
+stateIn = stateInOf entriesN
 
--- the bytes are a state's image
+-- the bytes are the image of a state with room for so many entries
+abbrev pub isImageOf : ℕ → List ℕ → Bool
+isImageOf capacity l =
+    eqb (length l) (imageNOf capacity (seriesIn l))
+    && (sameBytes l (imageOf (stateInOf capacity l)) && isStateOf capacity (stateInOf capacity l))
+
 abbrev pub isImage : List ℕ → Bool
-isImage l = eqb (length l) (imageN (seriesIn l)) && (sameBytes l (imageOf (stateIn l)) && isState (stateIn l))
+isImage = isImageOf entriesN
 
 abbrev pub decodeOf : List ℕ → Decoded
 decodeOf l = cond (isImage l) (record { answer = Is; state = stateIn l }) (record { answer = Not; state = blankState })

@@ -1,7 +1,8 @@
 // The state, and its undo list: an array by value of entries, each with the item and its former content, blank past the count.
 ghost use mathlib.Core.Path.{_≡_};
 ghost use Prim.Native.Nat.{_≤_};
-ghost use Rattle.state.specs.Entries.{entriesN, noEntries, unused, blankEntry, factoryState, blankState, isNever, isBlank, putsOf, settable, entryRight, entriesRight, valuesRight, sound, isState};
+ghost use Rattle.state.specs.Entries.{entriesN, noEntries, unused, blankEntry, factoryState, blankState, isNever, isBlank, valuesRight, isState};
+ghost use Rattle.state.specs.Keeping.{putsOf, settable, entryRight, entriesRight, sound};
 use figures::casts::place_of;
 use figures::casts::wide;
 use instrument::settings::SETTINGS;
@@ -61,7 +62,7 @@ pub fn blank_entry() -> Entry
     }
 }
 
-// The series' state with those settings and values and no undo entry.
+// Makes the series' state with those settings and values and no undo entry.
 pub fn with_no_entries(series: Series, settings: [u8; SETTINGS], values: [Value; VALUES]) -> State
     ensures { λ r. ⌜ r ≡ noEntries series settings values ⌝ }
 {
@@ -84,14 +85,14 @@ fn with_settings(series: Series, settings: [u8; SETTINGS]) -> State
     with_no_entries(series, settings, [value; VALUES])
 }
 
-// At the factory no value has been put.
+// Gives the factory state: no value has been put there.
 pub fn factory(series: Series) -> State
     ensures { λ r. ⌜ r ≡ factoryState series ⌝ }
 {
     with_settings(series, factory_settings(series))
 }
 
-// The state of noughts, for bytes that are no state.
+// Gives the state of noughts, for bytes that are no state.
 pub(crate) fn blank_state() -> State
     ensures { λ r. ⌜ r ≡ blankState ⌝ }
 {
@@ -112,13 +113,13 @@ fn settable_in(series: Series, place: usize, parameter: u8) -> bool
         return false;
     }
     let row = row_at(series, place);
-    if row.4 {
+    if row.asked {
         return false;
     }
     in_range(row, wide(parameter))
 }
 
-// Whether a SET can leave the parameter at the place. The series is named so that the compiler knows the table.
+// Tells whether a SET can leave the parameter at the place. The series is named so that the compiler knows the table.
 fn settable(series: Series, place: usize, parameter: u8) -> bool
     ensures { λ r. ⌜ r ≡ settable series place parameter ⌝ }
 {
@@ -128,7 +129,7 @@ fn settable(series: Series, place: usize, parameter: u8) -> bool
     }
 }
 
-// Whether an entry that stands may be there.
+// Tells whether an entry that stands may be there.
 fn entry_right(series: Series, entry: Entry) -> bool
     ensures { λ r. ⌜ r ≡ entryRight series entry ⌝ }
 {
@@ -174,7 +175,7 @@ fn entry_blank(entry: Entry) -> bool
     }
 }
 
-// Those below the count may stand, and those past it are blank.
+// Tells whether the entries below the count may stand and those past it are blank.
 fn entries_right(series: Series, undo: [Entry; ENTRIES], count: usize) -> bool
     ensures { λ r. ⌜ r ≡ entriesRight series undo count ⌝ }
 {
@@ -210,7 +211,7 @@ fn values_right(values: [Value; VALUES]) -> bool
     true
 }
 
-// Which values are put.
+// Tells which values are put.
 fn puts_of(values: [Value; VALUES]) -> [bool; VALUES]
     ensures { λ r. ⌜ r ≡ putsOf values ⌝ }
 {
@@ -225,7 +226,7 @@ fn puts_of(values: [Value; VALUES]) -> [bool; VALUES]
     puts
 }
 
-// Whether, taken back newest first, no entry names a value that is then never put.
+// Tells whether, with the entries taken back newest first, none names a value that is then never put.
 fn sound_back(values: [Value; VALUES], undo: [Entry; ENTRIES], count: usize) -> bool
     requires { ⌜ count ≤ entriesN ⌝ }
     ensures { λ r. ⌜ r ≡ sound count (putsOf values) undo ⌝ }
@@ -252,7 +253,7 @@ fn sound_back(values: [Value; VALUES], undo: [Entry; ENTRIES], count: usize) -> 
     true
 }
 
-// Whether it is a state.
+// Tells whether it is a state.
 pub(crate) fn is_state(s: State) -> bool
     ensures { λ r. ⌜ r ≡ isState s ⌝ }
 {

@@ -14,6 +14,7 @@ use crate::entries::blank_entry;
 use crate::entries::blank_state;
 use crate::entries::is_state;
 use instrument::settings::SETTINGS;
+use instrument::settings::SETTINGS_100;
 use instrument::settings::Series;
 use instrument::settings::settings_of;
 use instrument::values::Eight;
@@ -29,9 +30,9 @@ const ENTRIES_AT: usize = COUNT_AT + 2;
 const REST: usize = ENTRIES_AT + ENTRIES * 14;
 
 // A TPS100's image, and a TPS300's, the longest.
-pub const IMAGE_100: usize = 20 + REST;
+pub const IMAGE_100: usize = 1 + SETTINGS_100 + REST;
 
-pub const IMAGE_300: usize = 31 + REST;
+pub const IMAGE_300: usize = 1 + SETTINGS + REST;
 
 // Whether the bytes are a state's image.
 pub enum Known {
@@ -54,7 +55,7 @@ fn kept_bytes(kept: Kept) -> [u8; 11]
     }
 }
 
-// What an item is, and its place.
+// Gives the two bytes of an item: what it is, and its place.
 fn item_bytes(item: Item) -> [u8; 2]
     ensures { λ r. ⌜ r ≡ itemBytes item ⌝ }
 {
@@ -92,7 +93,7 @@ fn entry_bytes(entry: Entry) -> [u8; 14]
     ]
 }
 
-// The first byte: the series in its high four bits, form 1 in its low four.
+// Gives the first byte: the series in its high four bits, form 1 in its low four.
 fn form_of(series: Series) -> u8
     ensures { λ r. ⌜ r ≡ formOf series ⌝ }
 {
@@ -102,14 +103,14 @@ fn form_of(series: Series) -> u8
     }
 }
 
-// Where the values start: after the first byte and as many settings as the series has.
+// Tells where the values start: after the first byte and as many settings as the series has.
 fn values_at(series: Series) -> usize
     ensures { λ r. ⌜ (r ≡ valuesAt series) × (r ≤ 31) ⌝ }
 {
     1 + settings_of(series)
 }
 
-// How many bytes an image of the series has.
+// Tells how many bytes an image of the series has.
 pub fn image_size(series: Series) -> usize
     ensures { λ r. ⌜ r ≡ imageN series ⌝ }
 {
@@ -158,7 +159,7 @@ fn put_rest(values: [Value; VALUES], count: usize, undo: [Entry; ENTRIES], out: 
     put_entries(undo, &mut out[ENTRIES_AT..REST]);
 }
 
-// Lays the image of s down; nothing where the bytes aren't as many as an image of its series has.
+// Lays the image of s down; it does nothing where the bytes aren't as many as an image of its series has.
 pub fn encode(s: State, image: &mut [u8])
     ensures { λ _. ⌜ now (image .exit) ≡ encodedIn s (now (image .entry)) ⌝ }
 {
@@ -256,7 +257,7 @@ fn wide(b: u8) -> usize
     b as usize
 }
 
-// The state of the series that the bytes would be the image of.
+// Reads the state of the series that the bytes would be the image of.
 fn state_in(series: Series, s: &[u8]) -> State
     requires { ⌜ length (now s) ≡ imageN series ⌝ }
     ensures { λ r. ⌜ r ≡ stateAs series (now (s .entry)) ⌝ }
@@ -278,7 +279,7 @@ fn state_in(series: Series, s: &[u8]) -> State
     }
 }
 
-// The series that the first byte says.
+// Reads the series that the first byte says.
 fn series_in(s: &[u8]) -> Series
     ensures { λ r. ⌜ r ≡ seriesIn (now (s .entry)) ⌝ }
 {
@@ -291,7 +292,7 @@ fn series_in(s: &[u8]) -> Series
     Series::Tps100
 }
 
-// The state whose image the bytes are: what they would be is laid down again and compared, and judged.
+// Finds the state whose image the bytes are: the state that they would be is laid down, compared with them, and judged.
 pub fn decode(image: &[u8]) -> Decoded
     ensures { λ r. ⌜ r ≡ decodeOf (now (image .entry)) ⌝ }
 {

@@ -55,11 +55,8 @@ informedBy i = informedOf (i .0) (i .1 .0) (i .1 .1 .0) (i .1 .1 .1 .0) (i .1 .1
 pub informed-by-determined : Determined Information Informed (λ i r. r ≡ informedBy i)
 informed-by-determined = by-equation Information Informed informedBy
 
-abbrev ledBy : Family × (ℕ × ℕ) → ℕ
-ledBy i = leadOf (i .0) (i .1 .0) (i .1 .1)
-
-pub lead-of-determined : Determined (Family × (ℕ × ℕ)) ℕ (λ i r. r ≡ ledBy i)
-lead-of-determined = by-equation (Family × (ℕ × ℕ)) ℕ ledBy
+pub lead-of-determined : Determined (ℕ × ℕ) ℕ (λ i r. r ≡ leadOf (i .0) (i .1))
+lead-of-determined = by-equation (ℕ × ℕ) ℕ (λ i. leadOf (i .0) (i .1))
 
 pub sign-byte-determined : Determined ℕ ℕ (λ m r. r ≡ signByte m)
 sign-byte-determined = by-equation ℕ ℕ signByte

@@ -16,7 +16,7 @@ use Rattle.units.specs.declared.kinds.Kind.{Kind}
 use Rattle.units.specs.declared.kinds.Kind.the-variants.{Missing}
 use Rattle.units.specs.declared.kinds.Named.{Named}
 use Rattle.units.specs.declared.kinds.Named.the-variants as named
-use Rattle.figures.proofs.Tests.{both, by-test, among-above}
+use Rattle.figures.proofs.Tests.{clash, both, by-test, among-above}
 
 -- the index
 
@@ -24,14 +24,14 @@ use Rattle.figures.proofs.Tests.{both, by-test, among-above}
 pub named-not : (tens ones : ℕ) {r : Named} → r ≡ namedBy tens ones → r ≡ named.Not → isDigit tens && isDigit ones ≡ false
 named-not tens ones e f =
     by-test (isDigit tens && isDigit ones)
-    (λ q. let told = rw q at (sym e ∙ f) in let z : _≡_ {A = ℕ} 0 1 = cc in absurd (omega arith)) (λ q. q)
+    (λ q. let told = rw q at (sym e ∙ f) in absurd (clash (cc))) (λ q. q)
 
 pub named-is : (tens ones : ℕ) {r : Named} {i : ℕ} → r ≡ namedBy tens ones → r ≡ named.Index i
     → (isDigit tens ≡ true) × (isDigit ones ≡ true) × (i ≡ indexOf tens ones)
 named-is tens ones e f =
     by-test (isDigit tens && isDigit ones)
     (λ q. let told = rw q at (sym e ∙ f) in let digits = both (isDigit tens) (isDigit ones) q in (digits .0, digits .1, cc))
-    (λ q. let told = rw q at (sym e ∙ f) in let z : _≡_ {A = ℕ} 0 1 = cc in absurd (omega arith))
+    (λ q. let told = rw q at (sym e ∙ f) in absurd (clash (cc)))
 
 -- no index of the table is above 88
 pub none-above : (n : ℕ) → 88 < n → stationKind n ≡ Missing

@@ -1,15 +1,15 @@
 -- The classes of a level's three digits: what each says of the index, computed over the whole table.
 use Prim.Native.Nat.{ℕ, _/_, _<_, zero-le}
 use mathlib.Core.Path.{_≡_, refl, sym}
-use mathlib.Core.Bool.{true, false, cond, _||_}
+use mathlib.Core.Bool.{true, false, cond}
 use mathlib.Core.List.{[], _∷_}
 use native.Mathlib.Omega.{arith}
 use borrow.Author.Tests.{eq-eqb}
 use lib.Dec.{eqb, leb}
-use Rattle.figures.specs.Bytes.{within, among, every}
+use Rattle.figures.specs.Bytes.{among, every}
 use Rattle.figures.proofs.Bytes.{above-within}
-use Rattle.figures.proofs.Tests.{Even, along, among-above, by-test}
-use Rattle.units.specs.Classes.{none, number, text, numbered, classOf}
+use Rattle.figures.proofs.Tests.{Even, along, among-above}
+use Rattle.units.specs.Classes.{none, numbered, classOf}
 use Rattle.units.specs.Kinds.{levelKind, kindOf}
 use Rattle.units.specs.declared.kinds.Family.the-variants.{Level}
 use Rattle.units.specs.declared.kinds.Kind.{Kind}
@@ -31,14 +31,6 @@ class-says : {A : Type 0} (class : ℕ) (f : ℕ → A) {a : A} → Even (λ m. 
 class-says class f {a} even n h e =
     sym (rw (eq-eqb (classOf n) class e) at (along (λ m. cond (eqb (classOf m) class) (f m) a) 0 1000 even zero-le h))
 
-pub number-kind : (n : ℕ) → n < 1000 → classOf n ≡ number → kindOf Level n ≡ Length
-unfolding among
-number-kind = class-says number (kindOf Level) refl
-
-pub text-kind : (n : ℕ) → n < 1000 → classOf n ≡ text → kindOf Level n ≡ Text
-unfolding among
-text-kind = class-says text (kindOf Level) refl
-
 -- a block number's first digit after 11 or 41
 pub numbered-kind : (n : ℕ) → n < 1000 → classOf n ≡ numbered → kindOf Level (n / 10) ≡ Numbered
 unfolding among
@@ -53,13 +45,6 @@ numbered-class n h e =
 pub class-low : (n : ℕ) → n < 100 → classOf n ≡ none
 unfolding among
 class-low n h = sym (along classOf 0 100 refl zero-le h)
-
--- a class that is none of the three is the fourth
-pub class-none : (n : ℕ) → (classOf n ≡ number → ⊥) → (classOf n ≡ text → ⊥) → (classOf n ≡ numbered → ⊥) → classOf n ≡ none
-class-none n a b c =
-    by-test (within 330 336 n || (among n (374 ∷ []) || within 571 574 n)) (λ p. absurd (a (rw p)))
-    (λ p. by-test (among n (521 ∷ [])) (λ q. absurd (b (rw (p, q))))
-    (λ q. by-test (within 110 119 n || within 410 419 n) (λ r. absurd (c (rw (p, q, r)))) (λ r. rw (p, q, r))))
 
 -- and none above 574
 pub class-high : (n : ℕ) → 574 < n → classOf n ≡ none

@@ -2,20 +2,21 @@
 use Prim.Native.Nat.{ℕ}
 use mathlib.Core.Bool.{cond, _||_}
 use mathlib.Core.List.{[], _∷_}
+use Rattle.figures.specs.Text.{byte}
 use Rattle.figures.specs.Bytes.{within, among}
 
 -- a class is a digit: 0 none, 1 number, 2 text, 3 numbered text
 abbrev pub none : ℕ
-none = 48
+none = byte "0"
 
 abbrev pub number : ℕ
-number = 49
+number = byte "1"
 
 abbrev pub text : ℕ
-text = 50
+text = byte "2"
 
 abbrev pub numbered : ℕ
-numbered = 51
+numbered = byte "3"
 
 -- "330-336, 374, 521, 571-574 with a three-digit index .. 110-119 and 410-419 are index 11 or 41 with a block number"
 abbrev pub classOf : ℕ → ℕ

@@ -2,6 +2,7 @@
 use Prim.Native.Nat.{ℕ, _+_, _*_, _/_, _%_}
 use mathlib.Core.Bool.{Bool, cond, _&&_}
 use lib.Dec.{eqb, ltb}
+use Rattle.figures.specs.Text.{byte}
 use Rattle.units.specs.declared.kinds.Kind.{Kind}
 use Rattle.units.specs.declared.kinds.Kind.the-variants as kind
 use Rattle.units.specs.declared.counts.Whole.{Whole}
@@ -37,24 +38,37 @@ abbrev pub sexagesimal : ℕ → ℕ
 sexagesimal v = v / 36000 * 100000 + v / 600 % 60 * 1000 + v / 10 % 60 * 10 + v % 10
 
 -- "An angle's size is below 40,000,000 (gon), 36,000,000 (degrees) or 64,000,000 (mil); for unit 4 degrees are below 360, minutes and seconds below 60."
+abbrev pub gonLimit : ℕ
+gonLimit = 40000000
+
+abbrev pub degreeLimit : ℕ
+degreeLimit = 36000000
+
+abbrev pub milLimit : ℕ
+milLimit = 64000000
+
+-- 360 degrees in tenths of a second
+abbrev pub tenthLimit : ℕ
+tenthLimit = 12960000
+
 abbrev pub counted : Bool → Count → Valued
 counted right c = cond right (Counted c) Not
 
 abbrev pub gonAt : ℕ → ℕ → Valued
-gonAt m n = counted (ltb n 40000000) (Gon (record { 0 = whole m n }))
+gonAt m n = counted (ltb n gonLimit) (Gon (record { 0 = whole m n }))
 
 abbrev pub degreeAt : ℕ → ℕ → Valued
-degreeAt m n = counted (ltb n 36000000) (Degree (record { 0 = whole m n }))
+degreeAt m n = counted (ltb n degreeLimit) (Degree (record { 0 = whole m n }))
 
 abbrev pub tenthAt : ℕ → ℕ → Valued
 tenthAt m n = counted (ltb (degrees n) 360 && (ltb (minutes n) 60 && ltb (seconds n) 60)) (Tenth (record { 0 = whole m (tenthsOf n) }))
 
 abbrev pub milAt : ℕ → ℕ → Valued
-milAt m n = counted (ltb n 64000000) (Mil (record { 0 = whole m n }))
+milAt m n = counted (ltb n milLimit) (Mil (record { 0 = whole m n }))
 
--- units 2, 3, 4 and 5
+-- by the unit: 2, 3, 4 and 5
 abbrev pub byUnit : {A : Type 0} → ℕ → A → A → A → A → A
-byUnit u gon degree tenth mil = cond (eqb u 50) gon (cond (eqb u 51) degree (cond (eqb u 52) tenth mil))
+byUnit u gon degree tenth mil = cond (eqb u (byte "2")) gon (cond (eqb u (byte "3")) degree (cond (eqb u (byte "4")) tenth mil))
 
 abbrev pub angleAt : ℕ → ℕ → ℕ → Valued
 angleAt u m n = byUnit u (gonAt m n) (degreeAt m n) (tenthAt m n) (milAt m n)
@@ -62,19 +76,26 @@ angleAt u m n = byUnit u (gonAt m n) (degreeAt m n) (tenthAt m n) (milAt m n)
 abbrev pub angleOf : ℕ → Whole → Count
 angleOf u w = byUnit u (Gon (record { 0 = w })) (Degree (record { 0 = w })) (Tenth (record { 0 = w })) (Mil (record { 0 = w }))
 
+-- the last of so many decimals of a metre, and of a foot
+abbrev pub metres : ℕ → Whole → Count
+metres decimals w = Metre (record { 0 = w; 1 = decimals })
+
+abbrev pub feet : ℕ → Whole → Count
+feet decimals w = Feet (record { 0 = w; 1 = decimals })
+
 -- "unit 0 is 1 mm, 1 is 1/1000 ft, 6 is 1/10 mm, 7 is 1/10,000 ft, 8 is 1/100 mm"; of a level "9 is 0.0005 inch"
 abbrev pub lengthOf : ℕ → Whole → Count
 lengthOf u w =
-    cond (eqb u 48) (Metre (record { 0 = w; 1 = 3 }))
-    (cond (eqb u 49) (Feet (record { 0 = w; 1 = 3 }))
-    (cond (eqb u 54) (Metre (record { 0 = w; 1 = 4 }))
-    (cond (eqb u 55) (Feet (record { 0 = w; 1 = 4 }))
-    (cond (eqb u 57) (Inch (record { 0 = w }))
-    (Metre (record { 0 = w; 1 = 5 }))))))
+    cond (eqb u (byte "0")) (metres 3 w)
+    (cond (eqb u (byte "1")) (feet 3 w)
+    (cond (eqb u (byte "6")) (metres 4 w)
+    (cond (eqb u (byte "7")) (feet 4 w)
+    (cond (eqb u (byte "9")) (Inch (record { 0 = w }))
+    (metres 5 w)))))
 
 -- "58 counts 1/10 mm; 59 counts 1/10,000 ppm."
 abbrev pub constantOf : ℕ → Whole → Count
-constantOf i w = cond (eqb i 58) (Metre (record { 0 = w; 1 = 4 })) (Ppm (record { 0 = w }))
+constantOf i w = cond (eqb i 58) (metres 4 w) (Ppm (record { 0 = w }))
 
 abbrev pub numberAt : Kind → ℕ → ℕ → ℕ → ℕ → Valued
 numberAt kind.Missing i u m n = Not

@@ -1,11 +1,11 @@
 -- Positions 1-3: the index of a word and its kind, by the family of instruments that the caller names.
 use Prim.Native.Nat.{ℕ, _+_, _-_, _*_}
-use mathlib.Core.Bool.{Bool, true, false, cond, not, _&&_, _||_}
+use mathlib.Core.Bool.{Bool, true, false, cond, _&&_, _||_}
 use mathlib.Core.List.{[], _∷_}
 use lib.Dec.{eqb, ltb}
 use Rattle.figures.specs.Bytes.{within, among}
 use Rattle.figures.specs.Decimal.{isDigit}
-use Rattle.units.specs.Classes.{none, number, text, numbered, classOf}
+use Rattle.units.specs.Classes.{number, text, numbered, classOf}
 use Rattle.units.specs.declared.kinds.Family.{Family}
 use Rattle.units.specs.declared.kinds.Family.the-variants.{Station, Level}
 use Rattle.units.specs.declared.kinds.Kind.{Kind}
@@ -13,7 +13,7 @@ use Rattle.units.specs.declared.kinds.Kind.the-variants.{Missing, Number
 use Rattle.units.specs.declared.kinds.Named.{Named}
 use Rattle.units.specs.declared.kinds.Named.the-variants as named
 use Rattle.units.specs.declared.kinds.Indexed.{Indexed}
-use Rattle.units.specs.declared.kinds.Indexed.the-variants.{Not, Listed}
+use Rattle.units.specs.declared.kinds.Indexed.the-variants.{Other, Unlisted, Listed}
 
 -- a total station: the table's first two columns. "Each index missing from the table is refused."
 abbrev pub stationKind : ℕ → Kind
@@ -29,8 +29,8 @@ stationKind n =
 -- a level's two digits: "then 32, 52, 57 and 83 .. 11, 41-49 read as before. 52, 57 and 521 are text"
 abbrev pub levelKind : ℕ → Kind
 levelKind n =
-    cond (among n (11 ∷ 41 ∷ [])) Numbered
-    (cond (among n (52 ∷ 57 ∷ []) || within 42 49 n) Text
+    cond (eqb n 11 || within 41 49 n) (stationKind n)
+    (cond (among n (52 ∷ 57 ∷ [])) Text
     (cond (among n (32 ∷ 83 ∷ [])) Length
     Missing))
 
@@ -65,42 +65,55 @@ isTextual Pair = false
 abbrev pub indexOf : ℕ → ℕ → ℕ
 indexOf tens ones = (tens - 48) * 10 + (ones - 48)
 
+abbrev pub areDigits : ℕ → ℕ → Bool
+areDigits tens ones = isDigit tens && isDigit ones
+
 abbrev pub namedBy : ℕ → ℕ → Named
-namedBy tens ones = cond (isDigit tens && isDigit ones) (named.Index (indexOf tens ones)) named.Not
+namedBy tens ones = cond (areDigits tens ones) (named.Index (indexOf tens ones)) named.Not
 
 -- with a third digit
 abbrev pub threeOf : ℕ → ℕ → ℕ
 threeOf two third = two * 10 + (third - 48)
 
--- "110-119 and 410-419 are index 11 or 41 with a block number"; else a digit at position 3 belongs to the index
-abbrev pub levelIndex : ℕ → ℕ → ℕ
-levelIndex two third = cond (isDigit third && not (eqb (classOf (threeOf two third)) numbered)) (threeOf two third) two
+-- an index of that kind, if it has one
+abbrev pub ofKind : ℕ → Kind → Indexed
+ofKind i k = cond (isListed k) (Listed i k) Unlisted
 
--- whether a level has the index: a digit at position 3 makes it one of three digits
-abbrev pub levelListed : ℕ → ℕ → Bool
-levelListed two third = cond (isDigit third) (not (eqb (classOf (threeOf two third)) none)) (isListed (levelKind two))
+-- a level's two digits and position 3. "110-119 and 410-419 are index 11 or 41 with a block number"; any other digit there belongs to the index, and
+-- its class says of which kind it is. Where there is no digit, it is an index of two digits
+abbrev pub levelAt : ℕ → ℕ → Indexed
+levelAt two third =
+    let three = threeOf two third in
+    cond (isDigit third)
+    (cond (eqb (classOf three) numbered) (Listed two Numbered) (ofKind three (classKind (classOf three))))
+    (ofKind two (levelKind two))
 
--- the index that positions 1-3 say, and whether the family has it
-abbrev pub indexBy : Family → ℕ → ℕ → ℕ → ℕ
-indexBy Station tens ones third = indexOf tens ones
-indexBy Level tens ones third = levelIndex (indexOf tens ones) third
+-- two digits and position 3, by the family
+abbrev pub listedAt : Family → ℕ → ℕ → Indexed
+listedAt Station two third = ofKind two (stationKind two)
+listedAt Level two third = levelAt two third
 
-abbrev pub listedBy : Family → ℕ → ℕ → ℕ → Bool
-listedBy Station tens ones third = isListed (stationKind (indexOf tens ones))
-listedBy Level tens ones third = levelListed (indexOf tens ones) third
-
--- two digits at positions 1-2; and of 5 "the first that breaks the rule" (request 104): the first that is no digit, from 0
-abbrev pub areDigits : ℕ → ℕ → Bool
-areDigits tens ones = isDigit tens && isDigit ones
-
+-- of 5 "the first that breaks the rule" (request 104): the first of positions 1-2 that is no digit, from 0
 abbrev pub firstOther : ℕ → ℕ
 firstOther tens = cond (isDigit tens) 1 0
 
-abbrev pub indexRight : Family → ℕ → ℕ → ℕ → Bool
-indexRight f tens ones third = isDigit tens && (isDigit ones && listedBy f tens ones third)
-
-abbrev pub listed : Bool → ℕ → Kind → Indexed
-listed right i k = cond right (Listed i k) Not
-
+-- positions 1-3
 abbrev pub indexAt : Family → ℕ → ℕ → ℕ → Indexed
-indexAt f tens ones third = listed (indexRight f tens ones third) (indexBy f tens ones third) (kindOf f (indexBy f tens ones third))
+indexAt f tens ones third = cond (areDigits tens ones) (listedAt f (indexOf tens ones) third) (Other (firstOther tens))
+
+-- whether the family has the index that they say, and which it is; 0 where it is none
+abbrev pub isIndex : Indexed → Bool
+isIndex (Other at) = false
+isIndex Unlisted = false
+isIndex (Listed i k) = true
+
+abbrev pub indexOr : Indexed → ℕ
+indexOr (Other at) = 0
+indexOr Unlisted = 0
+indexOr (Listed i k) = i
+
+abbrev pub listedBy : Family → ℕ → ℕ → ℕ → Bool
+listedBy f tens ones third = isIndex (listedAt f (indexOf tens ones) third)
+
+abbrev pub indexBy : Family → ℕ → ℕ → ℕ → ℕ
+indexBy f tens ones third = indexOr (listedAt f (indexOf tens ones) third)

@@ -36,7 +36,7 @@ const CLASSES_8: [u8; 100] =
 const CLASSES_9: [u8; 100] =
     *b"0000000000000000000000000000000000000000000000000000000000000000000000000000000000000000000000000000";
 
-// The class that a row has for three digits of its hundred.
+// Looks up the class that a row has for three digits of its hundred.
 fn class_in(row: [u8; 100], three: u16) -> u8
     ensures { λ r. ⌜ r ≡ getD row (three % 100) 0 ⌝ }
 {
@@ -44,7 +44,7 @@ fn class_in(row: [u8; 100], three: u16) -> u8
     row[at]
 }
 
-// The class of three digits.
+// Looks up the class of three digits.
 pub(crate) fn class_of(three: u16) -> u8
     requires { ⌜ three < 1000 ⌝ }
     ensures { λ r. ⌜ r ≡ classOf three ⌝ }

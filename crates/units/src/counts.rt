@@ -87,7 +87,7 @@ fn degree_at(minus: u8, n: u64) -> Valued
     Valued::Counted(count)
 }
 
-// From the right: one digit of tenths, two of seconds, two of minutes, the rest degrees.
+// Reads from the right one digit of tenths, two of seconds, two of minutes, and the rest as degrees.
 fn tenth_at(minus: u8, n: u64) -> Valued
     ensures { λ r. ⌜ r ≡ tenthAt minus n ⌝ }
 {
@@ -135,7 +135,7 @@ fn angle_at(unit: u8, minus: u8, n: u64) -> Valued
     }
 }
 
-// An angle of that unit.
+// Gives the count of an angle of that unit.
 pub fn angle_of(unit: u8, whole: Whole) -> Count
     ensures { λ r. ⌜ r ≡ angleOf unit whole ⌝ }
 {
@@ -147,7 +147,7 @@ pub fn angle_of(unit: u8, whole: Whole) -> Count
     }
 }
 
-// A length of that unit.
+// Gives the count of a length of that unit.
 pub fn length_of(unit: u8, whole: Whole) -> Count
     ensures { λ r. ⌜ r ≡ lengthOf unit whole ⌝ }
 {
@@ -161,7 +161,7 @@ pub fn length_of(unit: u8, whole: Whole) -> Count
     }
 }
 
-// 58 counts 1/10 mm, 59 counts 1/10,000 ppm.
+// Gives the count of a constant: 58 counts 1/10 mm, 59 counts 1/10,000 ppm.
 pub fn constant_of(index: u16, whole: Whole) -> Count
     ensures { λ r. ⌜ r ≡ constantOf index whole ⌝ }
 {
@@ -200,7 +200,7 @@ fn number_at(kind: Kind, index: u16, unit: u8, minus: u8, n: u64) -> Valued
     }
 }
 
-// The count of a word of that kind, index and unit, with that sign before those figures.
+// Gives the count of a word of that kind, index and unit, with that sign before those figures.
 pub fn value_at(kind: Kind, index: u16, unit: u8, minus: u8, figures: Figures) -> Valued
     ensures { λ r. ⌜ r ≡ valueAt kind index unit minus figures ⌝ }
 {
@@ -226,7 +226,7 @@ pub fn value_at(kind: Kind, index: u16, unit: u8, minus: u8, figures: Figures) -
     }
 }
 
-// The value that a record keeps of a count; 0 of text.
+// Gives the value that a record keeps of a count; it is 0 for text.
 pub fn first_of(count: Count) -> Whole
     ensures { λ r. ⌜ r ≡ firstOf count ⌝ }
 {
@@ -245,7 +245,7 @@ pub fn first_of(count: Count) -> Whole
     }
 }
 
-// The mm that a record keeps; 0 but for a pair.
+// Gives the mm that a record keeps; they are 0 except for a pair.
 pub fn second_of(count: Count) -> Whole
     ensures { λ r. ⌜ r ≡ secondOf count ⌝ }
 {

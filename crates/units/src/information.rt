@@ -29,7 +29,7 @@ fn dot(b: u8) -> bool
     b == b'.'
 }
 
-// A dot or a digit.
+// Tells whether the byte is a dot or a digit.
 fn free(b: u8) -> bool
     ensures { λ r. ⌜ r ≡ isDotOrDigit b ⌝ }
 {
@@ -39,7 +39,7 @@ fn free(b: u8) -> bool
     figures::digit(b)
 }
 
-// A dot or 0-4.
+// Tells whether the byte is a mode: a dot or 0-4.
 fn mode(b: u8) -> bool
     ensures { λ r. ⌜ r ≡ isMode b ⌝ }
 {
@@ -50,7 +50,7 @@ fn mode(b: u8) -> bool
     }
 }
 
-// Position 4 of an angle: a dot, 0, 1 or 3.
+// Tells whether an angle can have the byte at position 4: a dot, 0, 1 or 3.
 fn angle_mark(b: u8) -> bool
     ensures { λ r. ⌜ r ≡ isAngleMark b ⌝ }
 {
@@ -60,7 +60,7 @@ fn angle_mark(b: u8) -> bool
     }
 }
 
-// Position 6 of an angle: 2-5.
+// Tells whether an angle can have the byte at position 6: 2-5.
 fn angle_unit(b: u8) -> bool
     ensures { λ r. ⌜ r ≡ isAngleUnit b ⌝ }
 {
@@ -70,7 +70,7 @@ fn angle_unit(b: u8) -> bool
     }
 }
 
-// Position 6 of a length: 0, 1, 6, 7 or 8.
+// Tells whether a length can have the byte at position 6: 0, 1, 6, 7 or 8.
 fn length_unit(b: u8) -> bool
     ensures { λ r. ⌜ r ≡ isLengthUnit b ⌝ }
 {
@@ -80,7 +80,7 @@ fn length_unit(b: u8) -> bool
     }
 }
 
-// Position 4 of a level's number: a dot, or 1 for the compensator's flag.
+// Tells whether a level's number can have the byte at position 4: a dot, or 1 for the compensator's flag.
 fn flag(b: u8) -> bool
     ensures { λ r. ⌜ r ≡ isFlag b ⌝ }
 {
@@ -90,7 +90,7 @@ fn flag(b: u8) -> bool
     }
 }
 
-// Position 5 of a level's number: a dot, 0-2 or 4-7.
+// Tells whether a level's number can have the byte at position 5: a dot, 0-2 or 4-7.
 fn level_mode(b: u8) -> bool
     ensures { λ r. ⌜ r ≡ isLevelMode b ⌝ }
 {
@@ -102,7 +102,7 @@ fn level_mode(b: u8) -> bool
     }
 }
 
-// Position 6 of a level's number: 0, 1 or 6-9.
+// Tells whether a level's number can have the byte at position 6: 0, 1 or 6-9.
 fn level_unit(b: u8) -> bool
     ensures { λ r. ⌜ r ≡ isLevelUnit b ⌝ }
 {
@@ -113,7 +113,7 @@ fn level_unit(b: u8) -> bool
     }
 }
 
-// The first byte of a level's information: a dot after two digits, 0 after three.
+// Tells whether a level's information can start with the byte: a dot after two digits, 0 after three.
 fn lead(index: u16, b: u8) -> bool
     ensures { λ r. ⌜ r ≡ isLead index b ⌝ }
 {
@@ -123,14 +123,14 @@ fn lead(index: u16, b: u8) -> bool
     b == 0
 }
 
-// Whether all four are right.
+// Tells whether all four are right.
 fn all(m: Marks) -> bool
     ensures { λ r. ⌜ r ≡ allRight m ⌝ }
 {
     m.0 && m.1 && m.2 && m.3
 }
 
-// The first that isn't, from 0; the last where the first three are.
+// Gives the first that isn't right, from 0; it is the last where the first three are.
 fn first_wrong(m: Marks) -> usize
     ensures { λ r. ⌜ r ≡ firstWrong m ⌝ }
 {
@@ -146,7 +146,7 @@ fn first_wrong(m: Marks) -> usize
     3
 }
 
-// Four digits or four dots, as the first byte chooses.
+// Judges four digits or four dots, as the first byte chooses.
 fn numbered(a: u8, b: u8, c: u8, d: u8) -> Marks
     ensures { λ r. ⌜ r ≡ numberedMarks a b c d ⌝ }
 {
@@ -195,14 +195,14 @@ fn info_marks(family: Family, index: u16, kind: Kind, a: u8, b: u8, c: u8, d: u8
     }
 }
 
-// Whether a word of that index and kind can have the information.
+// Tells whether a word of that index and kind can have the information.
 pub fn info_right(family: Family, index: u16, kind: Kind, a: u8, b: u8, c: u8, d: u8) -> bool
     ensures { λ r. ⌜ r ≡ infoRight family index kind a b c d ⌝ }
 {
     all(info_marks(family, index, kind, a, b, c, d))
 }
 
-// Which of the four, from 0, is the first that a word of that index and kind can't have.
+// Tells which of the four, from 0, is the first that a word of that index and kind can't have.
 pub fn info_at(family: Family, index: u16, kind: Kind, a: u8, b: u8, c: u8, d: u8) -> usize
     ensures { λ r. ⌜ (r ≡ firstWrong (infoMarks family index kind a b c d)) × (r ≤ 3) ⌝ }
 {
@@ -219,7 +219,7 @@ fn answer(right: bool) -> Informed
     }
 }
 
-// The information of a word of that index and kind. It doesn't call `info_right`: so the compiler joins the choice of the family with the reader
+// Judges the information of a word of that index and kind. It doesn't call `info_right`, so that the compiler joins the choice of the family with the reader
 // (docs/BENCHMARK.md).
 pub fn informed_by(family: Family, index: u16, kind: Kind, a: u8, b: u8, c: u8, d: u8) -> Informed
     ensures { λ r. ⌜ r ≡ informedOf family index kind a b c d ⌝ }
@@ -230,29 +230,21 @@ pub fn informed_by(family: Family, index: u16, kind: Kind, a: u8, b: u8, c: u8, 
     }
 }
 
-// Position 3 as the information has it: 0 where it belongs to the index.
-pub fn lead_of(family: Family, index: u16, third: u8) -> u8
-    ensures { λ r. ⌜ r ≡ leadOf family index third ⌝ }
+// Gives position 3 as the information has it: 0 where it belongs to the index.
+pub fn lead_of(index: u16, third: u8) -> u8
+    ensures { λ r. ⌜ r ≡ leadOf index third ⌝ }
 {
-    match family {
-        Family::Station => third,
-        Family::Level => {
-            if index < 100 {
-                return third;
-            }
-            0
-        }
-    }
+    if index < 100 { third } else { 0 }
 }
 
-// The byte of a sign.
+// Gives the byte of a sign.
 pub fn sign_byte(minus: u8) -> u8
     ensures { λ r. ⌜ r ≡ signByte minus ⌝ }
 {
     if minus == 0 { b'+' } else { b'-' }
 }
 
-// Position 7 of a word of that kind: text has a plus only.
+// Reads the sign at position 7 of a word of that kind; text has a plus only.
 pub fn sign_at(kind: Kind, b: u8) -> Signed
     ensures { λ r. ⌜ r ≡ signAt kind b ⌝ }
 {

@@ -1,7 +1,8 @@
 // The index of a word and its kind, by the family of instruments that a block is from.
 ghost use mathlib.Core.Path.{_≡_};
 ghost use Prim.Native.Nat.{_<_};
-ghost use Rattle.units.specs.Kinds.{stationKind, levelKind, classKind, kindOf, isListed, isTextual, namedBy, levelIndex, levelListed, listed, indexAt};
+ghost use mathlib.Core.Bool.{true};
+ghost use Rattle.units.specs.Kinds.{stationKind, levelKind, classKind, kindOf, isTextual, areDigits, indexOf, namedBy, ofKind, levelAt, indexAt};
 use crate::classes::class_of;
 use figures::casts::figure;
 
@@ -21,19 +22,20 @@ pub enum Kind {
     Pair,
 }
 
-// The index that two digits say.
+// Gives the index that two digits say.
 pub enum Named {
     Not,
     Index(u16),
 }
 
-// What positions 1-3 say: an index of the family with its kind, or none.
+// What positions 1-3 say: a byte that is no digit, from 0; digits that the family doesn't have; or an index of it, with its kind.
 pub enum Indexed {
-    Not,
+    Other(usize),
+    Unlisted,
     Listed(u16, Kind),
 }
 
-// A total station's indexes.
+// Gives the kind of a total station's index.
 fn station_kind(index: u16) -> Kind
     ensures { λ r. ⌜ r ≡ stationKind index ⌝ }
 {
@@ -51,20 +53,20 @@ fn station_kind(index: u16) -> Kind
     }
 }
 
-// A level's indexes of two digits.
+// Gives the kind of a level's index of two digits.
 fn level_kind(index: u16) -> Kind
     ensures { λ r. ⌜ r ≡ levelKind index ⌝ }
 {
     match index {
-        11 | 41 => Kind::Numbered,
-        42..=49 => Kind::Text,
+        11 => station_kind(index),
+        41..=49 => station_kind(index),
         52 | 57 => Kind::Text,
         32 | 83 => Kind::Length,
         _ => Kind::Missing,
     }
 }
 
-// The kind that a class of three digits gives a record.
+// Gives the kind of a record whose three digits are of that class.
 fn class_kind(class: u8) -> Kind
     ensures { λ r. ⌜ r ≡ classKind class ⌝ }
 {
@@ -75,7 +77,7 @@ fn class_kind(class: u8) -> Kind
     }
 }
 
-// The kind of a record's index.
+// Gives the kind of a record's index.
 pub fn kind_of(family: Family, index: u16) -> Kind
     ensures { λ r. ⌜ r ≡ kindOf family index ⌝ }
 {
@@ -93,7 +95,7 @@ pub fn kind_of(family: Family, index: u16) -> Kind
     }
 }
 
-// Whether a word of that kind holds text.
+// Tells whether a word of that kind holds text.
 pub fn textual(kind: Kind) -> bool
     ensures { λ r. ⌜ r ≡ isTextual kind ⌝ }
 {
@@ -104,7 +106,15 @@ pub fn textual(kind: Kind) -> bool
     }
 }
 
-// The index that two characters name.
+// Gives the index that two digits say.
+fn index_of(tens: u8, ones: u8) -> u16
+    requires { ⌜ areDigits tens ones ≡ true ⌝ }
+    ensures { λ r. ⌜ r ≡ indexOf tens ones ⌝ }
+{
+    figure(tens - b'0') * 10 + figure(ones - b'0')
+}
+
+// Reads the index that two characters name.
 pub fn named_by(tens: u8, ones: u8) -> Named
     ensures { λ r. ⌜ r ≡ namedBy tens ones ⌝ }
 {
@@ -114,23 +124,23 @@ pub fn named_by(tens: u8, ones: u8) -> Named
     if !figures::digit(ones) {
         return Named::Not;
     }
-    Named::Index(figure(tens - b'0') * 10 + figure(ones - b'0'))
+    Named::Index(index_of(tens, ones))
 }
 
-// An index that has a kind.
+// Answers an index that has a kind.
 fn listed_as(index: u16, kind: Kind) -> Indexed
-    ensures { λ r. ⌜ r ≡ listed (isListed kind) index kind ⌝ }
+    ensures { λ r. ⌜ r ≡ ofKind index kind ⌝ }
 {
     if let Kind::Missing = kind {
-        return Indexed::Not;
+        return Indexed::Unlisted;
     }
     Indexed::Listed(index, kind)
 }
 
-// A level's index: position 3 decides whether two digits or three are looked up.
+// Finds a level's index: position 3 decides whether two digits or three are looked up.
 fn level_at(two: u16, third: u8) -> Indexed
     requires { ⌜ two < 100 ⌝ }
-    ensures { λ r. ⌜ r ≡ listed (levelListed two third) (levelIndex two third) (kindOf Family.Level (levelIndex two third)) ⌝ }
+    ensures { λ r. ⌜ r ≡ levelAt two third ⌝ }
 {
     if !figures::digit(third) {
         let kind = level_kind(two);
@@ -150,17 +160,21 @@ fn level_at(two: u16, third: u8) -> Indexed
             let kind = Kind::Numbered;
             Indexed::Listed(two, kind)
         }
-        _ => Indexed::Not,
+        _ => Indexed::Unlisted,
     }
 }
 
-// Positions 1-3.
+// Finds the index that positions 1-3 say.
 pub fn index_at(family: Family, tens: u8, ones: u8, third: u8) -> Indexed
     ensures { λ r. ⌜ r ≡ indexAt family tens ones third ⌝ }
 {
-    let Named::Index(two) = named_by(tens, ones) else {
-        return Indexed::Not;
-    };
+    if !figures::digit(tens) {
+        return Indexed::Other(0);
+    }
+    if !figures::digit(ones) {
+        return Indexed::Other(1);
+    }
+    let two = index_of(tens, ones);
     match family {
         Family::Station => {
             let kind = station_kind(two);

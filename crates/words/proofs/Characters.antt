@@ -6,7 +6,7 @@ use mathlib.Core.List.{List, [], _∷_, _++_}
 use native.Mathlib.Nat.{sub-zero, zero-sub, suc-sub-suc}
 use native.Mathlib.Omega.{arith}
 use lib.ListN.{length, take, drop, replicate, length-append, length-drop, length-replicate, take-append-drop}
-use lib.Seq.{take-at, drop-at, getD-at, drop-append-add, length-take-le, split-at}
+use lib.Seq.{take-at, drop-at, getD-at, drop-append-add, length-take-le}
 use Rattle.figures.specs.Bytes.{every, laid}
 use Rattle.figures.specs.Decimal.{isDigit, numberOf, digitsOf}
 use Rattle.figures.proofs.Bytes.{within-bounds, laid-fits}
@@ -19,6 +19,7 @@ use Rattle.units.specs.declared.kinds.Kind.{Kind}
 use Rattle.units.specs.declared.kinds.Kind.the-variants as kind
 use Rattle.units.specs.declared.counts.Figures.{Figures}
 use Rattle.units.specs.declared.counts.Figures.the-variants as figures
+use Rattle.words.proofs.Letters.{one-right, missing-right, halves-in, halves-right, pair-right}
 use Rattle.words.proofs.Checks.{width-bounds}
 use Rattle.figures.proofs.Tests.{both}
 use Rattle.units.proofs.Positions.{sign-back, sign-byte-is, sign-on, sign-small}
@@ -75,26 +76,12 @@ text-again n t h l e =
 
 -- a pair
 
-record Halves (d : List ℕ) : Type 0 where
-  whole : ppmIn d ++ (underIn d ∷ mmIn d) ≡ d
-  front : length (ppmIn d) ≡ length d - 4
-  back : length (mmIn d) ≡ 3
+record Joined (d a : List ℕ) (s : ℕ) (b : List ℕ) : Type 0 where
+  ppm : ppmIn d ≡ a
+  under : underIn d ≡ s
+  mm : mmIn d ≡ b
 
-halves-in : (d : List ℕ) → 4 ≤ length d → Halves d
-halves-in d h =
-    let at : suc (length d - 4) ≡ length d - 3 = omega arith in
-    record {
-      whole = sym (split-at d (length d - 4) 0 (omega arith) ∙ rw at);
-      front = length-take-le (length d - 4) d (omega arith);
-      back = length-drop (length d - 3) d ∙ omega arith;
-    }
-
-pub record Joined (d a : List ℕ) (s : ℕ) (b : List ℕ) : Type 0 where
-  pub ppm : ppmIn d ≡ a
-  pub under : underIn d ≡ s
-  pub mm : mmIn d ≡ b
-
-pub halves-of : (a : List ℕ) (s : ℕ) (b : List ℕ) → length b ≡ 3 → Joined (a ++ (s ∷ b)) a s b
+halves-of : (a : List ℕ) (s : ℕ) (b : List ℕ) → length b ≡ 3 → Joined (a ++ (s ∷ b)) a s b
 halves-of a s b h =
     let l : length (a ++ (s ∷ b)) ≡ length a + suc (length b) = length-append a (s ∷ b) in
     let four : length (a ++ (s ∷ b)) - 4 ≡ length a = omega arith in
@@ -108,27 +95,27 @@ halves-of a s b h =
 -- from the data to what they say
 
 pub fit-read : (k : Kind) (d : List ℕ) → 4 ≤ length d → dataRight k d ≡ true → Fit (length d) k (figuresIn k d)
-fit-read kind.Missing d h e = absurd (false≢true e)
+fit-read kind.Missing d h e = absurd (false≢true (sym (missing-right d h) ∙ e))
 fit-read kind.Numbered d h e = of-numbered
 fit-read kind.Text d h e = of-text
-fit-read kind.Angle d h e = of-angle (number-below d e)
-fit-read kind.Length d h e = of-length (number-below d e)
-fit-read kind.Constant d h e = of-constant (number-below d e)
+fit-read kind.Angle d h e = of-angle (number-below d (sym (one-right isDigit d) ∙ e))
+fit-read kind.Length d h e = of-length (number-below d (sym (one-right isDigit d) ∙ e))
+fit-read kind.Constant d h e = of-constant (number-below d (sym (one-right isDigit d) ∙ e))
 fit-read kind.Pair d h e =
-    let parts = both (every isDigit (ppmIn d)) (isSign (underIn d) && every isDigit (mmIn d)) e in
+    let parts = both (every isDigit (ppmIn d)) (isSign (underIn d) && every isDigit (mmIn d)) (sym (pair-right d h) ∙ e) in
     let two = both (isSign (underIn d)) (every isDigit (mmIn d)) (parts .1) in
     let p = halves-in d h in
     of-pair (rw (p .front) at (number-below (ppmIn d) (parts .0))) (sign-small (underIn d)) (rw (p .back) at (number-below (mmIn d) (two .1)))
 
 pub data-back : (k : Kind) (d : List ℕ) → 4 ≤ length d → length d ≤ 16 → dataRight k d ≡ true → dataOf (length d) (figuresIn k d) (textField k d) ≡ d
-data-back kind.Missing d h l e = absurd (false≢true e)
+data-back kind.Missing d h l e = absurd (false≢true (sym (missing-right d h) ∙ e))
 data-back kind.Numbered d h l e = text-start d l
 data-back kind.Text d h l e = text-start d l
-data-back kind.Angle d h l e = digits-number d e
-data-back kind.Length d h l e = digits-number d e
-data-back kind.Constant d h l e = digits-number d e
+data-back kind.Angle d h l e = digits-number d (sym (one-right isDigit d) ∙ e)
+data-back kind.Length d h l e = digits-number d (sym (one-right isDigit d) ∙ e)
+data-back kind.Constant d h l e = digits-number d (sym (one-right isDigit d) ∙ e)
 data-back kind.Pair d h l e =
-    let parts = both (every isDigit (ppmIn d)) (isSign (underIn d) && every isDigit (mmIn d)) e in
+    let parts = both (every isDigit (ppmIn d)) (isSign (underIn d) && every isDigit (mmIn d)) (sym (pair-right d h) ∙ e) in
     let two = both (isSign (underIn d)) (every isDigit (mmIn d)) (parts .1) in
     let p = halves-in d h in
     let a : digitsOf (length d - 4) (numberOf (ppmIn d)) ≡ ppmIn d = rw (p .front) at (digits-number (ppmIn d) (parts .0)) in
@@ -150,8 +137,8 @@ none-kept wide = (refl, refl)
 
 pub text-read : (wide : Bool) (k : Kind) (d : List ℕ) → length d ≡ width wide → dataRight k d ≡ true → Kept wide k (textField k d)
 text-read wide kind.Missing d l e = none-kept wide
-text-read wide kind.Numbered d l e = words-kept wide d l e
-text-read wide kind.Text d l e = words-kept wide d l e
+text-read wide kind.Numbered d l e = words-kept wide d l (sym (one-right isGraphic d) ∙ e)
+text-read wide kind.Text d l e = words-kept wide d l (sym (one-right isGraphic d) ∙ e)
 text-read wide kind.Angle d l e = none-kept wide
 text-read wide kind.Length d l e = none-kept wide
 text-read wide kind.Constant d l e = none-kept wide
@@ -167,7 +154,7 @@ words-spelt : (wide : Bool) (t : List ℕ) → Kept wide kind.Text t → Spellin
 words-spelt wide t (l, e) =
     let most = width-bounds wide .1 in
     let parts = both (every isGraphic (take (width wide) t)) (every isZero (drop (width wide) t)) e in
-    (length-take-le (width wide) t (omega arith), parts .0, refl, text-again (width wide) t most l (parts .1))
+    (length-take-le (width wide) t (omega arith), one-right isGraphic (take (width wide) t) ∙ parts .0, refl, text-again (width wide) t most l (parts .1))
 
 none-spelt : (wide : Bool) (t : List ℕ) → Kept wide kind.Angle t → replicate 16 0 ≡ t
 none-spelt wide t (l, e) = sym (zeros t e ∙ rw l)
@@ -176,7 +163,7 @@ number-spelt : (wide : Bool) (v : ℕ) (t : List ℕ) → v < 10 ^ width wide �
     → Spelling wide kind.Angle (figures.Number v) t (digitsOf (width wide) v)
 number-spelt wide v t h kept =
     let n = width wide in
-    (digits-length n v, digits-are n v, ap figures.Number (number-digits n v h), none-spelt wide t kept)
+    (digits-length n v, one-right isDigit (digitsOf n v) ∙ digits-are n v, ap figures.Number (number-digits n v h), none-spelt wide t kept)
 
 pub spelt : (wide : Bool) {k : Kind} {f : Figures} (t : List ℕ) → Fit (width wide) k f → Kept wide k t → Spelling wide k f t (dataOf (width wide) f t)
 spelt wide t of-numbered kept = words-spelt wide t kept
@@ -192,7 +179,7 @@ spelt wide t (of-pair {p} {s} {q} hp hs hq) kept =
     let lb : length b ≡ 3 = digits-length 3 q in
     let j = halves-of a (signByte s) b lb in (
       length-append a (signByte s ∷ b) ∙ omega arith,
-      rw (j .ppm, j .under, j .mm, digits-are (width wide - 4) p, sign-byte-is s, digits-are 3 q),
+      halves-right a (signByte s) b lb ∙ rw (digits-are (width wide - 4) p, sign-byte-is s, digits-are 3 q),
       rw (j .ppm, j .under, j .mm, number-digits (width wide - 4) p hp, sign-on s hs, number-digits 3 q hq),
       none-spelt wide t kept,
     )

@@ -1,7 +1,7 @@
 -- What a check says of the rule that it tests: from its answer, and from the test of that answer.
 use Prim.Native.Nat.{ℕ, _+_, _-_, _≤_, _<_}
 use mathlib.Core.Path.{_≡_, refl, sym, _∙_}
-use mathlib.Core.Bool.{Bool, true, false, cond, _&&_, and-true, and-assoc, false≢true}
+use mathlib.Core.Bool.{Bool, true, false, cond, _&&_, and-true, and-assoc}
 use mathlib.Core.List.{List}
 use native.Mathlib.Omega.{arith}
 use borrow.Author.Tests.{le-leb, lt-leb, leb-true, leb-false}
@@ -13,15 +13,16 @@ use Rattle.figures.specs.Bytes.{every, runOf}
 use Rattle.figures.specs.Decimal.{isDigit, numberOf, numberIn}
 use Rattle.figures.specs.declared.Said.{Said}
 use Rattle.figures.specs.declared.Said.the-variants as said
-use Rattle.units.specs.Kinds.{isTextual, kindOf, indexBy, areDigits, listedBy, indexRight, indexAt}
+use Rattle.units.specs.Kinds.{isTextual, kindOf, areDigits, firstOther, indexOf, listedAt, indexAt, listedBy, indexBy}
+use Rattle.units.proofs.Positions.{two-digits}
+use Rattle.units.proofs.Levels.{listed-kind, no-other}
 use Rattle.units.specs.Information.{isSign, signRight, signOf, signAt}
 use Rattle.words.specs.Records.{width, textRight, isGraphic, isZero}
-use Rattle.words.specs.Reading.{wordSize, pos, dataIn, indexIn, kindAt, dataRight, dataAt, ppmIn, underIn, mmIn, figuresIn, faulty, unless, wordOf}
-use Rattle.words.specs.declared.reading.Fault.the-variants.{Index, Unlisted}
-use Rattle.words.specs.declared.reading.OneWord.{OneWord}
+use Rattle.words.specs.Reading.{wordSize, pos, dataIn, indexIn, kindAt, dataRight, dataAt, ppmIn, underIn, mmIn, figuresIn, wordOf}
 use Rattle.figures.proofs.Bytes.{run-every, run-other}
-use Rattle.figures.proofs.Tests.{both, by-test}
+use Rattle.figures.proofs.Tests.{clash, both, by-test}
 use Rattle.words.specs.Keeping.{pairAt, spelledAt, listedWord}
+use Rattle.words.proofs.Letters.{one-right, missing-right, pair-at, pair-right}
 use Rattle.units.specs.declared.kinds.Family.{Family}
 use Rattle.units.specs.declared.kinds.Kind.{Kind}
 use Rattle.units.specs.declared.kinds.Indexed.{Indexed}
@@ -46,9 +47,6 @@ granted : {A : Type 0} (b : Bool) (x y : A) {r z : A} → (y ≡ z → ⊥) → 
 granted true x y apart e f = (refl, sym f ∙ e)
 granted false x y apart e f = absurd (apart (sym e ∙ f))
 
-clash : _≡_ {A = ℕ} 0 1 → ⊥
-clash z = omega arith
-
 pub informed-not : {b : Bool} {r : Informed} → r ≡ cond b informed.Right informed.Not → r ≡ informed.Not → b ≡ false
 informed-not {b} e f = refused b informed.Right informed.Not (λ q. clash (cc)) e f
 
@@ -61,35 +59,24 @@ parted-not {b} e f = refused b parted.Blank parted.Not (λ q. clash (cc)) e f
 pub parted-blank : {b : Bool} {r : Parted} → r ≡ cond b parted.Blank parted.Not → r ≡ parted.Blank → b ≡ true
 parted-blank {b} e f = granted b parted.Blank parted.Not (λ q. clash (cc)) e f .0
 
--- positions 1-3 that are an index: digits, and listed
-pub index-right : (f : Family) (t o c : ℕ) → areDigits t o ≡ true → listedBy f t o c ≡ true → indexRight f t o c ≡ true
-index-right f t o c d l = let two = both (isDigit t) (isDigit o) d in rw (two .0, two .1, l)
+-- what the check on positions 1-3 says of them
 
-pub right-parts : (f : Family) (t o c : ℕ) → indexRight f t o c ≡ true → (areDigits t o ≡ true) × (listedBy f t o c ≡ true)
-right-parts f t o c e =
-    let tens = both (isDigit t) (isDigit o && listedBy f t o c) e in
-    let ones = both (isDigit o) (listedBy f t o c) (tens .1) in
-    (rw (tens .0, ones .0), ones .1)
+pub index-other : (f : Family) (t o c : ℕ) {r : Indexed} {at : ℕ} → r ≡ indexAt f t o c → r ≡ indexed.Other at
+    → (areDigits t o ≡ false) × (at ≡ firstOther t)
+index-other f t o c e is =
+    by-test (areDigits t o) (λ q. absurd (no-other f (indexOf t o) c _ (rw q at (sym e ∙ is)))) (λ q. let told = rw q at (sym e ∙ is) in (q, cc))
 
--- where they are none, 5 or 15
-pub index-not : (f : Family) (t o c at : ℕ) (next : OneWord) {r : Indexed} → r ≡ indexAt f t o c → r ≡ indexed.Not
-    → unless (areDigits t o) Index at (unless (listedBy f t o c) Unlisted 0 next) ≡ unless (areDigits t o) Index at (faulty Unlisted 0)
-index-not f t o c at next e is =
-    let i = indexBy f t o c in
-    go (isDigit t) (isDigit o) (listedBy f t o c) (refused (indexRight f t o c) (indexed.Listed i (kindOf f i)) indexed.Not (λ q. clash (cc)) e is)
-  where
-    go : (a b l : Bool) → a && (b && l) ≡ false → unless (a && b) Index at (unless l Unlisted 0 next) ≡ unless (a && b) Index at (faulty Unlisted 0)
-    go true true true h = absurd (false≢true (sym h))
-    go true true false h = refl
-    go true false l h = refl
-    go false b l h = refl
+pub index-digits : (f : Family) (t o c : ℕ) {r x : Indexed} → r ≡ indexAt f t o c → r ≡ x → ((at : ℕ) → indexed.Other at ≡ x → ⊥)
+    → (areDigits t o ≡ true) × (listedAt f (indexOf t o) c ≡ x)
+index-digits f t o c e is apart =
+    by-test (areDigits t o) (λ q. (q, rw q at (sym e ∙ is))) (λ q. absurd (apart (firstOther t) (rw q at (sym e ∙ is))))
 
 pub index-is : (f : Family) (t o c : ℕ) {r : Indexed} {i : ℕ} {k : Kind} → r ≡ indexAt f t o c → r ≡ indexed.Listed i k
     → ((areDigits t o ≡ true) × (listedBy f t o c ≡ true)) × (i ≡ indexBy f t o c) × (k ≡ kindOf f (indexBy f t o c))
-index-is f t o c e is =
-    let n = indexBy f t o c in
-    let ok = granted (indexRight f t o c) (indexed.Listed n (kindOf f n)) indexed.Not (λ q. clash (cc)) e is in
-    (right-parts f t o c (ok .0), cc (ok .1), cc (ok .1))
+index-is f t o c {r} {i} {k} e is =
+    let (digits, told) = index-digits f t o c e is (λ at q. clash (cc)) in
+    let (tens, ones) = both (isDigit t) (isDigit o) digits in
+    ((digits, rw told), rw told, rw told (sym (listed-kind f (indexOf t o) c i k (two-digits t o tens ones) told)))
 
 -- what `number` takes: no more than 16 digits
 abbrev pub isNumber : List ℕ → Bool
@@ -123,7 +110,7 @@ pub pair-by : (d : List ℕ) → 4 ≤ length d → pairAt d ≡ cond (pairParts
 pair-by d h =
     let front = length-take-le (length d - 4) d (omega arith) in
     let back : length (mmIn d) ≡ 3 = omega (arith, length-drop (length d - 3) d) in
-    rw (le-leb 4 (length d) h, few (length d) h (leb (length d - 4) 16) refl, front, back, and-true, and-assoc)
+    rw (le-leb 4 (length d) h, few (length d) h (leb (length d - 4) 16) refl, pair-right d h, front, back, and-true, and-assoc)
 
 -- the ppm and the mm as they are lent
 pub ppm-part : (d : List ℕ) → midOf 0 (length d - 4 - 0) d ≡ ppmIn d
@@ -143,16 +130,20 @@ module _ (d : List ℕ) (h : 4 ≤ length d) where
   ppm-wrong near =
       let some : every isDigit (ppmIn d) ≡ false =
       by-test (every isDigit (ppmIn d)) (λ q. absurd (omega (arith, run-every isDigit (ppmIn d) q, front))) (λ q. q) in
-      rw some
+      rw (pair-at d h, some)
 
   ppm-right : length d - 4 ≤ runOf isDigit (ppmIn d) → every isDigit (ppmIn d) ≡ true
   ppm-right far = by-test (every isDigit (ppmIn d)) (λ q. q) (λ q. absurd (omega (arith, run-other isDigit (ppmIn d) q, front)))
 
   pub under-wrong : length d - 4 ≤ runOf isDigit (ppmIn d) → signRight kind.Pair (underIn d) ≡ false → dataAt kind.Pair d ≡ length d - 4
-  under-wrong far bad = let other : isSign (underIn d) ≡ false = rw and-true at bad in rw (ppm-right far, other)
+  under-wrong far bad =
+      let other : isSign (underIn d) ≡ false = rw and-true at bad in
+      rw (pair-at d h, ppm-right far, other) (omega arith)
 
   pub mm-wrong : length d - 4 ≤ runOf isDigit (ppmIn d) → signRight kind.Pair (underIn d) ≡ true → dataAt kind.Pair d ≡ length d - 3 + runOf isDigit (mmIn d)
-  mm-wrong far good = let is : isSign (underIn d) ≡ true = rw and-true at good in rw (ppm-right far, is)
+  mm-wrong far good =
+      let is : isSign (underIn d) ≡ true = rw and-true at good in
+      rw (pair-at d h, ppm-right far, is) (omega arith)
 
 -- the data of a word: no more than `number` takes, and no fewer than a pair has
 pub width-bounds : (wide : Bool) → (8 ≤ width wide) × (width wide ≤ 16)
@@ -175,12 +166,12 @@ data-fits wide s n e h =
 
 pub spelled-by : (k : Kind) (d : List ℕ) → 4 ≤ length d → length d ≤ 16
     → spelledAt k d ≡ cond (dataRight k d) (spelled.Says (figuresIn k d)) spelled.Not
-spelled-by kind.Missing d h g = refl
-spelled-by kind.Numbered d h g = refl
-spelled-by kind.Text d h g = refl
-spelled-by kind.Angle d h g = rw (le-leb (length d) 16 g)
-spelled-by kind.Length d h g = rw (le-leb (length d) 16 g)
-spelled-by kind.Constant d h g = rw (le-leb (length d) 16 g)
+spelled-by kind.Missing d h g = rw (missing-right d h)
+spelled-by kind.Numbered d h g = rw (one-right isGraphic d)
+spelled-by kind.Text d h g = rw (one-right isGraphic d)
+spelled-by kind.Angle d h g = rw (le-leb (length d) 16 g, one-right isDigit d)
+spelled-by kind.Length d h g = rw (le-leb (length d) 16 g, one-right isDigit d)
+spelled-by kind.Constant d h g = rw (le-leb (length d) 16 g, one-right isDigit d)
 spelled-by kind.Pair d h g = rw (le-leb 4 (length d) h, le-leb (length d) 20 (omega arith))
 
 module _ (k : Kind) (d : List ℕ) (h : 4 ≤ length d) (g : length d ≤ 16) where

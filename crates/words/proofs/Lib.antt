@@ -1,3 +1,4 @@
+pub mod Letters
 pub mod Checks
 pub mod Characters
 pub mod Values

@@ -74,15 +74,15 @@ abbrev pub valueBy : Family → ℕ → Places → Valued
 valueBy f i p = valueAt (kindOf f i) i (p .unit) (signOf (p .sign)) (figuresIn (kindOf f i) (p .letters))
 
 abbrev pub recordBy : Family → ℕ → Places → Count → Word
-recordBy f i p c = recordOf i (leadOf f i (p .first) ∷ p .second ∷ p .mode ∷ p .unit ∷ []) c (textField (kindOf f i) (p .letters))
+recordBy f i p c = recordOf i (leadOf i (p .first) ∷ p .second ∷ p .mode ∷ p .unit ∷ []) c (textField (kindOf f i) (p .letters))
 
-abbrev pub marksBy : Family → ℕ → Places → Marks
-marksBy f i p = infoMarks f i (kindOf f i) (leadOf f i (p .first)) (p .second) (p .mode) (p .unit)
+abbrev pub informedAt : Family → ℕ → Places → Marks
+informedAt f i p = infoMarks f i (kindOf f i) (leadOf i (p .first)) (p .second) (p .mode) (p .unit)
 
 abbrev pub tellsBy : Family → Bool → ℕ → Places → Tells
 tellsBy f wide i p = record {
   other = firstOther (p .tens);
-  info = 2 + firstWrong (marksBy f i p);
+  info = 2 + firstWrong (informedAt f i p);
   letters = 7 + dataAt (kindOf f i) (p .letters);
   end = 7 + width wide;
 }
@@ -92,7 +92,7 @@ wordAt f wide i p =
     rules (tellsBy f wide i p)
     (areDigits (p .tens) (p .ones))
     (listedBy f (p .tens) (p .ones) (p .first))
-    (allRight (marksBy f i p))
+    (allRight (informedAt f i p))
     (signRight (kindOf f i) (p .sign))
     (dataRight (kindOf f i) (p .letters))
     (eqb (p .end) 32)

@@ -25,14 +25,14 @@ use Rattle.words.specs.declared.reading.Fault.{Fault}
 use Rattle.words.specs.declared.reading.Fault.the-variants.{Short, Index, Unlisted, Information, Sign, Characters, Separator, Value}
 use Rattle.words.specs.declared.reading.Judged.the-variants.{Right, Wrong}
 use Rattle.words.specs.declared.reading.OneWord.{OneWord}
-use Rattle.words.proofs.Checks.{index-right, right-parts, width-bounds, data-length}
-use Rattle.figures.proofs.Tests.{both}
-use Rattle.units.proofs.Heads.{head-back, twoOf, thirdOf, head-is, head-says}
+use Rattle.words.proofs.Checks.{width-bounds, data-length}
+use Rattle.figures.proofs.Tests.{clash, both}
+use Rattle.units.proofs.Heads.{head-back, twoOf, thirdOf, head-is, head-digits, head-says}
 use Rattle.units.proofs.Positions.{tensOf, onesOf}
 use Rattle.units.proofs.Positions.{sign-back, sign-of, sign-on, sign-right}
 use Rattle.words.proofs.Characters.{fit-read, data-back, text-read, spelt}
 use Rattle.words.proofs.Values.{value-told, value-on}
-use Rattle.words.proofs.Places.{Places, indexFrom, spread, placesIn, Tells, rules, valueBy, marksBy, recordBy, wordAt, wordBy}
+use Rattle.words.proofs.Places.{Places, indexFrom, spread, placesIn, Tells, rules, valueBy, informedAt, recordBy, wordAt, wordBy}
 use Rattle.words.proofs.Places.{spread-places, word-spread, spread-on, size-spread, take-spread}
 
 -- a record that the writer takes, rule by rule
@@ -90,7 +90,7 @@ right-taken f wide w c e t =
 record Judges (f : Family) (i : ℕ) (p : Places) (c : Count) : Type 0 where
   digits : areDigits (p .tens) (p .ones) ≡ true
   listed : listedBy f (p .tens) (p .ones) (p .first) ≡ true
-  info : allRight (marksBy f i p) ≡ true
+  info : allRight (informedAt f i p) ≡ true
   sign : signRight (kindOf f i) (p .sign) ≡ true
   letters : dataRight (kindOf f i) (p .letters) ≡ true
   end : p .end ≡ 32
@@ -110,8 +110,7 @@ through : (b : Bool) (x : Fault) (at : ℕ) (r : OneWord) (w : Word) → unless 
 through true x at r w e = (refl, e)
 through false x at r w e =
     let q : Wrong x at ≡ Right = ap (λ (o : OneWord). o .answer) e in
-    let z : _≡_ {A = ℕ} 0 1 = cc in
-    absurd (omega arith)
+    absurd (clash (cc))
 
 counted-is : (v : Valued) → isCounted v ≡ true → v ≡ Counted (countOr v)
 counted-is Not e = absurd (false≢true e)
@@ -122,7 +121,7 @@ judged : (f : Family) (wide : Bool) (i : ℕ) (p : Places) (w : Word) → wordAt
 judged f wide i p w e =
     let digits = through (areDigits (p .tens) (p .ones)) Index _ _ w e in
     let listed = through (listedBy f (p .tens) (p .ones) (p .first)) Unlisted _ _ w (digits .1) in
-    let info = through (allRight (marksBy f i p)) Information _ _ w (listed .1) in
+    let info = through (allRight (informedAt f i p)) Information _ _ w (listed .1) in
     let sign = through (signRight (kindOf f i) (p .sign)) Sign _ _ w (info .1) in
     let letters = through (dataRight (kindOf f i) (p .letters)) Characters _ _ w (sign .1) in
     let end = through (eqb (p .end) 32) Separator _ _ w (letters .1) in
@@ -141,7 +140,7 @@ judged f wide i p w e =
 
 -- the bytes of a record, place by place
 bytes-spread : (f : Family) (wide : Bool) (w : Word) (p : Places)
-    → headOf f (w .index) (w .info) ≡ p .tens ∷ p .ones ∷ p .first ∷ p .second ∷ p .mode ∷ p .unit ∷ []
+    → headOf (w .index) (w .info) ≡ p .tens ∷ p .ones ∷ p .first ∷ p .second ∷ p .mode ∷ p .unit ∷ []
     → signByte (w .minus) ≡ p .sign → dataOf (width wide) (figuresOf (countOf f w)) (w .text) ≡ p .letters → p .end ≡ 32 → bytesOf f wide w ≡ spread p []
 bytes-spread f wide w p h s d e = rw (d, h, s, e)
 
@@ -160,15 +159,14 @@ places-read f wide p w l e =
     let fit = fit-read k (p .letters) (omega arith) (j .letters) in
     let kept = text-read wide k (p .letters) l (j .letters) in
     let told =
-    value-told wide i (p .unit) (signOf (p .sign)) (leadOf f i (p .first)) (p .second) (p .mode) (r .text) (rw l at fit) (sign .1) (ap isCounted (j .value)) in
+    value-told wide i (p .unit) (signOf (p .sign)) (leadOf i (p .first)) (p .second) (p .mode) (r .text) (rw l at fit) (sign .1) (ap isCounted (j .value)) in
     let right : isRight f wide r ≡ true =
     right-taken f wide r c (told .3)
     (record { four = refl; sixteen = kept .0; info = j .info; count = told .0; first = refl; second = refl; text = kept .1 }) in
     let letters : dataOf (width wide) (figuresOf (countOf f r)) (r .text) ≡ p .letters =
     ap (λ (n : Count). dataOf (width wide) (figuresOf n) (r .text)) (told .3)
     ∙ rw (told .1, ← l) (data-back k (p .letters) (omega arith) (omega arith) (j .letters)) in
-    let index = index-right f (p .tens) (p .ones) (p .first) (j .digits) (j .listed) in
-    let head = head-back f (p .tens) (p .ones) (p .first) (p .second) (p .mode) (p .unit) index in
+    let head = head-back f (p .tens) (p .ones) (p .first) (p .second) (p .mode) (p .unit) (j .digits) (j .listed) in
     let bytes : bytesOf f wide r ≡ spread p [] =
     bytes-spread f wide r p head (ap signByte (told .2) ∙ sign-back (p .sign) (sign .0)) letters (j .end) in (
       ap (isRight f wide) (sym is) ∙ right,
@@ -204,9 +202,9 @@ read-signed f wide s w e =
 
 abbrev placesOf : Family → Bool → Word → Places
 placesOf f wide w = record {
-  tens = tensOf (twoOf f (w .index));
-  ones = onesOf (twoOf f (w .index));
-  first = thirdOf f (w .index) (getD (w .info) 0 0);
+  tens = tensOf (twoOf (w .index));
+  ones = onesOf (twoOf (w .index));
+  first = thirdOf (w .index) (getD (w .info) 0 0);
   second = getD (w .info) 1 0;
   mode = getD (w .info) 2 0;
   unit = unitIn w;
@@ -238,8 +236,8 @@ places-written f wide w e =
     let (long, right, says, text) = spelt wide (w .text) fit (t .sixteen, t .text) in
     let info = four-are (w .info) (t .four) in
     let judged-by : Judges f i p c = record {
-      digits = right-parts f (p .tens) (p .ones) (p .first) (head .right) .0;
-      listed = right-parts f (p .tens) (p .ones) (p .first) (head .right) .1;
+      digits = head-digits i;
+      listed = head .listed;
       info = rw (head .lead) (t .info);
       sign = sign-right k (w .minus) sign;
       letters = right;
@@ -258,7 +256,7 @@ places-written f wide w e =
     } in
     record {
       long = long;
-      bytes = bytes-spread f wide w p (ap (headOf f i) info ∙ head-is f i a (p .second) (p .mode) (p .unit)) refl refl refl;
+      bytes = bytes-spread f wide w p (ap (headOf i) info ∙ head-is i a (p .second) (p .mode) (p .unit)) refl refl refl;
       word = ap (λ n. wordAt f wide n p) (head .index) ∙ word-judged f wide i p c judged-by ∙ ap rightWord same;
     }
 

@@ -9,6 +9,7 @@ use lib.Dec.{eqb, leb, ltb}
 use lib.ListN.{length, getD, length-append}
 use Rattle.figures.specs.Bytes.{every, runOf}
 use Rattle.figures.specs.Decimal.{isDigit, numberOf}
+use Rattle.figures.proofs.Tests.{clash}
 use Rattle.units.specs.Kinds.{kindOf, indexBy, areDigits, firstOther, listedBy, isTextual}
 use Rattle.units.specs.Information.{infoMarks, allRight, firstWrong, infoRight, leadOf, isSign, signOf, signRight}
 use Rattle.units.specs.Counts.{whole, zeroWhole, degrees, minutes, seconds, tenthsOf, counted, angleAt, valueAt, firstOf, secondOf}
@@ -32,7 +33,8 @@ use Rattle.words.specs.declared.reading.Judged.the-variants.{Wrong}
 use Rattle.words.specs.declared.reading.OneWord.{OneWord}
 use Rattle.words.proofs.Values.{by-unit, by-length, by-constant}
 use Rattle.words.proofs.Checks.{width-bounds}
-use Rattle.words.proofs.Characters.{halves-of}
+use Rattle.words.proofs.Letters.{halves-at, halves-right}
+use Rattle.words.proofs.Told.{past}
 use Rattle.words.proofs.Places.{Places, spread, Tells, rules, valueBy, recordBy, word-spread}
 use Rattle.words.proofs.RoundTrip.{takes, read-counts, write-read}
 use Rattle.words.proofs.Given.{gives}
@@ -119,9 +121,9 @@ under-as-plus f wide a b c d e u sign end ppm mm rest is front back =
     λ x. record { tens = a; ones = b; first = c; second = d; mode = e; unit = u; sign = sign; letters = ppm ++ (x ∷ mm); end = end } in
     let digits = areDigits a b in
     let listed = listedBy f a b c in
-    let marks = infoMarks f i (kindOf f i) (leadOf f i c) d e u in
+    let marks = infoMarks f i (kindOf f i) (leadOf i c) d e u in
     let right = every isDigit ppm && every isDigit mm in
-    let wrong = cond (every isDigit ppm) (length ppm + suc (length mm) - 3 + runOf isDigit mm) (runOf isDigit ppm) in
+    let wrong = cond (every isDigit ppm) (length ppm + suc (runOf isDigit mm)) (runOf isDigit ppm) in
     let told : Tells = record { other = firstOther a; info = 2 + firstWrong marks; letters = 7 + wrong; end = 7 + width wide } in
     let of : ℕ → Word = λ x. recordBy f i (places x) (countOr (valueBy f i (places x))) in
     let answers : (x : ℕ) → isSign x ≡ true
@@ -130,9 +132,8 @@ under-as-plus f wide a b c d e u sign end ppm mm rest is front back =
     λ x s.
     let long = length-append ppm (x ∷ mm) in
     let bounds = width-bounds wide in
-    let halves = halves-of ppm x mm back in
-    let letters : dataRight (kindOf f i) (ppm ++ (x ∷ mm)) ≡ right = rw (is, halves .ppm, halves .under, halves .mm, s) in
-    let first : dataAt (kindOf f i) (ppm ++ (x ∷ mm)) ≡ wrong = rw (is, halves .ppm, halves .under, halves .mm, s, long) in
+    let letters : dataRight (kindOf f i) (ppm ++ (x ∷ mm)) ≡ right = rw is (halves-right ppm x mm back ∙ rw s) in
+    let first : dataAt (kindOf f i) (ppm ++ (x ∷ mm)) ≡ wrong = rw is (halves-at ppm x mm back ∙ rw s) in
     let value : isCounted (valueBy f i (places x)) ≡ true = rw is in
     ap (λ (o : OneWord). o .answer) (word-spread wide (places x) (omega arith) f rest) ∙ rw (letters, value, first) in
     answers 45 refl
@@ -141,19 +142,14 @@ under-as-plus f wide a b c d e u sign end ppm mm rest is front back =
 
 -- 10
 
-module _ (x : Fault) (at : ℕ) (ten : faultNumber x ≡ 10) where
-  past : (b : Bool) (y : Fault) (p : ℕ) (r : OneWord) → (faultNumber y ≡ 10 → ⊥) → unless b y p r .answer ≡ Wrong x at
-      → (b ≡ true) × (r .answer ≡ Wrong x at)
-  past true y p r other e = (refl, e)
-  past false y p r other e = let same : y ≡ x = cc in absurd (other (ap faultNumber same ∙ ten))
-
+module _ (x : Fault) (at : ℕ) where
   last : (b : Bool) (w : Word) → unless b Value 7 (rightWord w) .answer ≡ Wrong x at → (b ≡ false) × (at ≡ 7)
-  last true w e = let z : _≡_ {A = ℕ} 0 1 = cc in absurd (omega arith)
+  last true w e = absurd (clash (cc))
   last false w e = (refl, cc)
 
 angle-alone : (k : Kind) (i u m : ℕ) (d : List ℕ) → dataRight k d ≡ true → isCounted (valueAt k i u m (figuresIn k d)) ≡ false
     → (k ≡ Angle) × (isCounted (angleAt u m (numberOf d)) ≡ false)
-angle-alone Missing i u m d right e = absurd (false≢true right)
+angle-alone Missing i u m d right e = absurd (false≢true (sym e))
 angle-alone Numbered i u m d right e = absurd (false≢true (sym e))
 angle-alone Text i u m d right e = absurd (false≢true (sym e))
 angle-alone Angle i u m d right e = (refl, e)
@@ -165,7 +161,7 @@ refused-ten : (f : Family) (wide : Bool) (s : List ℕ) (x : Fault) (at : ℕ) �
     → (allRight (marksIn f s) ≡ true) × (kindAt f s ≡ Angle)
     × (isCounted (angleAt (pos 6 s) (signOf (pos 7 s)) (numberOf (dataIn wide s))) ≡ false) × (at ≡ 7)
 refused-ten f wide s x at e ten =
-    let by = past x at ten in
+    let by = past x at in
     let digits = by (leb (wordSize wide) (length s)) Short _ _ (λ q. omega arith) e .1 in
     let index = by (areDigits (pos 1 s) (pos 2 s)) Index _ _ (λ q. omega arith) digits .1 in
     let info = by (listedBy f (pos 1 s) (pos 2 s) (pos 3 s)) Unlisted _ _ (λ q. omega arith) index .1 in
@@ -173,7 +169,7 @@ refused-ten f wide s x at e ten =
     let letters = by (signRight (kindAt f s) (pos 7 s)) Sign _ _ (λ q. omega arith) sign .1 in
     let (right, end) = by (dataRight (kindAt f s) (dataIn wide s)) Characters _ _ (λ q. omega arith) letters in
     let value = by (eqb (getD s (7 + width wide) 0) 32) Separator _ _ (λ q. omega arith) end .1 in
-    let (out, told) = last x at ten (isCounted (valueIn f wide s)) _ value in
+    let (out, told) = last x at (isCounted (valueIn f wide s)) _ value in
     let (angle, far) = angle-alone (kindAt f s) (indexIn f s) (pos 6 s) (signOf (pos 7 s)) (dataIn wide s) right out in
     (informed, angle, far, told)
 

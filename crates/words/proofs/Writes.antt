@@ -21,7 +21,6 @@ use Rattle.words.specs.Reading.{wordSize}
 use Rattle.words.specs.Writing.{dataOf}
 use Rattle.words.specs.Keeping.{bytesIn}
 use Rattle.units.specs.declared.kinds.Family.{Family}
-use Rattle.units.specs.declared.kinds.Family.the-variants.{Station, Level}
 use Rattle.units.specs.declared.kinds.Kind.{Kind}
 use Rattle.units.specs.declared.counts.Whole.{Whole}
 use Rattle.units.specs.declared.counts.Count.{Count}
@@ -78,18 +77,10 @@ digits-then room index laidInfo info i k j h hi ei el =
     let put = fill-on (digitsOf k i) room r₁ info k j (omega arith) first hi in
     rw is (put ∙ rw (drop-of-length-le room {i = length all} full, append-nil))
 
-pub head-length : (f : Family) (i : ℕ) (info : List ℕ) → length info ≡ 4 → length (headOf f i info) ≡ 6
-head-length f i info h = by-family f
-  where
-    two : length (digitsOf 2 i ++ info) ≡ 6
-    two = omega (arith, length-append (digitsOf 2 i) info, digits-length 2 i)
-
-    three : length (digitsOf 3 i ++ drop 1 info) ≡ 6
-    three = omega (arith, length-append (digitsOf 3 i) (drop 1 info), digits-length 3 i, length-drop 1 info)
-
-    by-family : (f : Family) → length (headOf f i info) ≡ 6
-    by-family Station = two
-    by-family Level = by-test (ltb i 100) (λ q. rw q two) (λ q. rw q three)
+pub head-length : (i : ℕ) (info : List ℕ) → length info ≡ 4 → length (headOf i info) ≡ 6
+head-length i info h =
+    by-test (ltb i 100) (λ q. rw q (omega (arith, length-append (digitsOf 2 i) info, digits-length 2 i)))
+    (λ q. rw q (omega (arith, length-append (digitsOf 3 i) (drop 1 info), digits-length 3 i, length-drop 1 info)))
 
 -- a word's room once its positions 1-6 and its sign stand in it
 abbrev pub headedIn : List ℕ → List ℕ → ℕ → List ℕ
@@ -128,7 +119,7 @@ rest-zero : (wide : Bool) → drop {A = ℕ} (width wide + 8) (replicate 24 0) �
 rest-zero true = refl
 rest-zero false = refl
 
-pub word-is : (f : Family) (wide : Bool) (w : Word) (sign n : ℕ) (head figures : List ℕ) → head ≡ headOf f (w .index) (w .info) → sign ≡ signByte (w .minus)
+pub word-is : (f : Family) (wide : Bool) (w : Word) (sign n : ℕ) (head figures : List ℕ) → head ≡ headOf (w .index) (w .info) → sign ≡ signByte (w .minus)
     → n ≡ width wide → figures ≡ dataOf n (figuresOf (countOf f w)) (w .text)
     → (head ++ (sign ∷ (figures ++ (32 ∷ [])))) ++ drop (n + 8) (replicate 24 0) ≡ bytesIn f wide w
 word-is f wide w sign n head figures eh es en ef = rw (ef, eh, es, en, rest-zero wide)

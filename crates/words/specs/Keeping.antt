@@ -58,7 +58,7 @@ dataWord i k info u m d b =
 -- what is left of `wordOf` where positions 1-3 are an index of that kind: `listed-by`, in proofs/Checks.antt
 abbrev pub listedWord : Family → Bool → ℕ → Kind → List ℕ → OneWord
 listedWord f wide i k s =
-    let lead = leadOf f i (pos 3 s) in
+    let lead = leadOf i (pos 3 s) in
     let m = infoMarks f i k lead (pos 4 s) (pos 5 s) (pos 6 s) in
     unless (allRight m) Information (2 + firstWrong m)
     (unless (signRight k (pos 7 s)) Sign 6

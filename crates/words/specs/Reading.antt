@@ -1,11 +1,11 @@
 -- One word: "positions 1-2 index; 3-6 information; 7 sign; 8-15 (or 8-23) data; one blank, also after the last word." The family says what
 -- positions 1-6 may be.
-use Prim.Native.Nat.{ℕ, _+_, _-_}
-use mathlib.Core.Bool.{Bool, true, false, cond, _&&_}
-use mathlib.Core.List.{List, [], _∷_}
+use Prim.Native.Nat.{ℕ, suc, _+_, _-_}
+use mathlib.Core.Bool.{Bool, true, false, cond}
+use mathlib.Core.List.{List, [], _∷_, _++_}
 use lib.Dec.{eqb, leb}
 use lib.ListN.{length, getD, take, drop, replicate}
-use Rattle.figures.specs.Bytes.{every, runOf, laid}
+use Rattle.figures.specs.Bytes.{laid}
 use Rattle.figures.specs.Decimal.{isDigit, numberOf}
 use Rattle.units.specs.Kinds.{kindOf, indexBy, areDigits, firstOther, listedBy, isTextual}
 use Rattle.units.specs.Information.{infoMarks, allRight, firstWrong, leadOf, isSign, signOf, signRight}
@@ -57,7 +57,7 @@ abbrev pub kindAt : Family → List ℕ → Kind
 kindAt f s = kindOf f (indexIn f s)
 
 abbrev pub leadIn : Family → List ℕ → ℕ
-leadIn f s = leadOf f (indexIn f s) (pos 3 s)
+leadIn f s = leadOf (indexIn f s) (pos 3 s)
 
 abbrev pub infoIn : Family → List ℕ → List ℕ
 infoIn f s = leadIn f s ∷ pos 4 s ∷ pos 5 s ∷ pos 6 s ∷ []
@@ -75,26 +75,28 @@ underIn d = getD d (length d - 4) 0
 abbrev pub mmIn : List ℕ → List ℕ
 mmIn d = drop (length d - 3) d
 
--- "Text is bytes 33 to 126 .. Digits are all 0-9. A pair is .."
-abbrev pub dataRight : Kind → List ℕ → Bool
-dataRight kind.Missing d = false
-dataRight kind.Numbered d = every isGraphic d
-dataRight kind.Text d = every isGraphic d
-dataRight kind.Angle d = every isDigit d
-dataRight kind.Length d = every isDigit d
-dataRight kind.Constant d = every isDigit d
-dataRight kind.Pair d = every isDigit (ppmIn d) && (isSign (underIn d) && every isDigit (mmIn d))
+-- "Text is bytes 33 to 126 .. Digits are all 0-9. A pair is .." the test of each of n data bytes
+abbrev pub dataTests : Kind → ℕ → List (ℕ → Bool)
+dataTests kind.Missing n = replicate n (λ b. false)
+dataTests kind.Numbered n = replicate n isGraphic
+dataTests kind.Text n = replicate n isGraphic
+dataTests kind.Angle n = replicate n isDigit
+dataTests kind.Length n = replicate n isDigit
+dataTests kind.Constant n = replicate n isDigit
+dataTests kind.Pair n = replicate (n - 4) isDigit ++ (isSign ∷ replicate 3 isDigit)
 
--- of 8 "the first that breaks the rule" (request 104): the first wrong data byte, from 0
+-- how many bytes at the start pass the test of their place
+abbrev pub passing : List (ℕ → Bool) → List ℕ → ℕ
+passing [] d = 0
+passing (t ∷ ts) [] = 0
+passing (t ∷ ts) (b ∷ d) = cond (t b) (suc (passing ts d)) 0
+
+-- of 8 "the first that breaks the rule" (request 104): the first wrong data byte, from 0; where all are right, how many there are
 abbrev pub dataAt : Kind → List ℕ → ℕ
-dataAt kind.Missing d = 0
-dataAt kind.Numbered d = runOf isGraphic d
-dataAt kind.Text d = runOf isGraphic d
-dataAt kind.Angle d = runOf isDigit d
-dataAt kind.Length d = runOf isDigit d
-dataAt kind.Constant d = runOf isDigit d
-dataAt kind.Pair d =
-    cond (every isDigit (ppmIn d)) (cond (isSign (underIn d)) (length d - 3 + runOf isDigit (mmIn d)) (length d - 4)) (runOf isDigit (ppmIn d))
+dataAt k d = passing (dataTests k (length d)) d
+
+abbrev pub dataRight : Kind → List ℕ → Bool
+dataRight k d = eqb (dataAt k d) (length d)
 
 -- what right data say
 abbrev pub figuresIn : Kind → List ℕ → Figures

@@ -7,7 +7,7 @@ use lib.ListN.{length, getD, take, drop, replicate}
 use Rattle.figures.specs.Bytes.{within, every}
 use Rattle.units.specs.Kinds.{kindOf, isTextual}
 use Rattle.units.specs.Information.{infoRight}
-use Rattle.units.specs.Counts.{whole, angleOf, lengthOf, constantOf, firstOf, secondOf}
+use Rattle.units.specs.Counts.{whole, gonLimit, degreeLimit, tenthLimit, milLimit, angleOf, lengthOf, constantOf, firstOf, secondOf}
 use Rattle.units.specs.declared.kinds.Family.{Family}
 use Rattle.units.specs.declared.kinds.Kind.{Kind}
 use Rattle.units.specs.declared.kinds.Kind.the-variants as kind
@@ -65,10 +65,10 @@ wholeRight w limit = leb (w .minus) 1 && ltb (w .size) limit
 abbrev pub limitOf : Bool → Count → ℕ
 limitOf wide Nothing = tenTo wide false
 limitOf wide Text = tenTo wide false
-limitOf wide (Gon c) = 40000000
-limitOf wide (Degree c) = 36000000
-limitOf wide (Tenth c) = 12960000
-limitOf wide (Mil c) = 64000000
+limitOf wide (Gon c) = gonLimit
+limitOf wide (Degree c) = degreeLimit
+limitOf wide (Tenth c) = tenthLimit
+limitOf wide (Mil c) = milLimit
 limitOf wide (Metre c) = tenTo wide false
 limitOf wide (Feet c) = tenTo wide false
 limitOf wide (Inch c) = tenTo wide false

@@ -21,4 +21,4 @@ dataOf k (Pair p s q) t = digitsOf (k - 4) p ++ (signByte s ∷ digitsOf 3 q)
 -- the word's bytes, its blank included
 abbrev pub bytesOf : Family → Bool → Word → List ℕ
 bytesOf f wide w =
-    headOf f (w .index) (w .info) ++ (signByte (w .minus) ∷ (dataOf (width wide) (figuresOf (countOf f w)) (w .text) ++ (32 ∷ [])))
+    headOf (w .index) (w .info) ++ (signByte (w .minus) ∷ (dataOf (width wide) (figuresOf (countOf f w)) (w .text) ++ (32 ∷ [])))

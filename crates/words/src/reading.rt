@@ -3,9 +3,8 @@
 ghost use mathlib.Core.Path.{_≡_};
 ghost use Prim.Native.Nat.{_≤_};
 ghost use lib.ListN.{length};
-ghost use Rattle.units.specs.Kinds.{areDigits, firstOther};
 ghost use Rattle.words.specs.Records.{width};
-ghost use Rattle.words.specs.Reading.{faultNumber, faulty, unless, wordSize, dataAt, textField, wordOf};
+ghost use Rattle.words.specs.Reading.{faultNumber, faulty, wordSize, dataAt, textField, wordOf};
 ghost use Rattle.words.specs.Keeping.{digitsAt, pairAt, spelledAt, partedAt, dataWord, listedWord};
 use crate::records::Word;
 use crate::records::blank_word;
@@ -60,7 +59,7 @@ pub enum Parted {
     Blank,
 }
 
-// The number that the rules have for a fault.
+// Gives the number that the rules have for a fault.
 pub fn fault_number(fault: Fault) -> u64
     ensures { λ r. ⌜ r ≡ faultNumber fault ⌝ }
 {
@@ -76,7 +75,7 @@ pub fn fault_number(fault: Fault) -> u64
     }
 }
 
-// How many characters of data a word has.
+// Tells how many characters of data a word has.
 pub fn width_of(wide: bool) -> usize
     ensures { λ r. ⌜ r ≡ width wide ⌝ }
 {
@@ -94,19 +93,6 @@ fn wrong(fault: Fault, at: usize) -> OneWord
     }
 }
 
-// Positions 1-3 that are no index: a byte that is no digit, or digits that the family doesn't have.
-fn no_index(tens: u8, ones: u8) -> OneWord
-    ensures { λ r. ⌜ r ≡ unless (areDigits tens ones) Fault.Index (firstOther tens) (faulty Fault.Unlisted 0) ⌝ }
-{
-    if !figures::digit(tens) {
-        return wrong(Fault::Index, 0);
-    }
-    if !figures::digit(ones) {
-        return wrong(Fault::Index, 1);
-    }
-    wrong(Fault::Unlisted, 0)
-}
-
 fn digits_at(s: &[u8]) -> Spelled
     ensures { λ r. ⌜ r ≡ digitsAt (now (s .entry)) ⌝ }
 {
@@ -117,7 +103,7 @@ fn digits_at(s: &[u8]) -> Spelled
     Spelled::Says(says)
 }
 
-// A pair: digits, a sign, three digits.
+// Reads a pair: digits, a sign, three digits.
 fn pair_at(s: &[u8]) -> Spelled
     requires { ⌜ 4 ≤ length (now s) ⌝ }
     ensures { λ r. ⌜ r ≡ pairAt (now (s .entry)) ⌝ }
@@ -137,7 +123,7 @@ fn pair_at(s: &[u8]) -> Spelled
     Spelled::Says(says)
 }
 
-// The data of a word of that kind.
+// Reads the data of a word of that kind.
 fn spelled_at(kind: Kind, s: &[u8]) -> Spelled
     requires { ⌜ 4 ≤ length (now s) ⌝ }
     ensures { λ r. ⌜ r ≡ spelledAt kind (now (s .entry)) ⌝ }
@@ -158,7 +144,7 @@ fn spelled_at(kind: Kind, s: &[u8]) -> Spelled
     }
 }
 
-// The first byte of a pair's data that is wrong.
+// Finds the first byte of a pair's data that is wrong.
 fn pair_wrong(s: &[u8]) -> usize
     requires { ⌜ 4 ≤ length (now s) ⌝ }
     ensures { λ r. ⌜ (r ≡ dataAt Kind.Pair (now (s .entry))) × (r ≤ length (now (s .entry))) ⌝ }
@@ -175,7 +161,7 @@ fn pair_wrong(s: &[u8]) -> usize
     from + figures::run_within(&s[from..], b'0', b'9')
 }
 
-// The first byte of the data of a word of that kind that is wrong.
+// Finds the first wrong byte in the data of a word of that kind.
 fn data_wrong(kind: Kind, s: &[u8]) -> usize
     requires { ⌜ 4 ≤ length (now s) ⌝ }
     ensures { λ r. ⌜ (r ≡ dataAt kind (now (s .entry))) × (r ≤ length (now (s .entry))) ⌝ }
@@ -200,7 +186,7 @@ fn parted_at(b: u8) -> Parted
     }
 }
 
-// The text of a word of that kind, from the start of 16 bytes.
+// Gives the text of a word of that kind, from the start of 16 bytes.
 fn text_of(kind: Kind, s: &[u8]) -> [u8; 16]
     ensures { λ r. ⌜ r ≡ textField kind (now (s .entry)) ⌝ }
 {
@@ -211,7 +197,7 @@ fn text_of(kind: Kind, s: &[u8]) -> [u8; 16]
     text
 }
 
-// The rest of a word whose positions 1-7 are right: its data, its blank and its value, and the record.
+// Reads the rest of a word whose positions 1-7 are right: its data, its blank and its value, and makes the record.
 fn read_data(
     index: u16,
     kind: Kind,
@@ -242,12 +228,12 @@ fn read_data(
     }
 }
 
-// The rest of a word whose positions 1-3 are an index of that kind: its information and its sign, and what follows.
+// Reads the rest of a word whose positions 1-3 are an index of that kind: its information and its sign, and what follows.
 fn read_listed(s: &[u8], family: Family, wide: bool, index: u16, kind: Kind) -> OneWord
     requires { ⌜ wordSize wide ≤ length (now s) ⌝ }
     ensures { λ r. ⌜ r ≡ listedWord family wide index kind (now (s .entry)) ⌝ }
 {
-    let lead = lead_of(family, index, s[2]);
+    let lead = lead_of(index, s[2]);
     let mark = s[3];
     let mode = s[4];
     let unit = s[5];
@@ -270,15 +256,16 @@ fn read_listed(s: &[u8], family: Family, wide: bool, index: u16, kind: Kind) -> 
     )
 }
 
-// The word of the family that stands at the start of s; Short where s has fewer bytes than a word of the width.
+// Reads the word of the family that stands at the start of s; it is Short where s has fewer bytes than a word of the width.
 pub fn read_word(s: &[u8], family: Family, wide: bool) -> OneWord
     ensures { λ r. ⌜ r ≡ wordOf family wide (now (s .entry)) ⌝ }
 {
     if s.len() <= 7 + width_of(wide) {
         return wrong(Fault::Short, 0);
     }
-    let Indexed::Listed(index, kind) = index_at(family, s[0], s[1], s[2]) else {
-        return no_index(s[0], s[1]);
-    };
-    read_listed(s, family, wide, index, kind)
+    match index_at(family, s[0], s[1], s[2]) {
+        Indexed::Other(at) => wrong(Fault::Index, at),
+        Indexed::Unlisted => wrong(Fault::Unlisted, 0),
+        Indexed::Listed(index, kind) => read_listed(s, family, wide, index, kind),
+    }
 }

@@ -26,7 +26,7 @@ pub struct Word {
     pub text: [u8; 16],
 }
 
-// The record that holds nothing.
+// Gives the record that holds nothing.
 pub fn blank_word() -> Word
     ensures { λ r. ⌜ r ≡ blank ⌝ }
 {
@@ -43,7 +43,7 @@ pub fn blank_word() -> Word
     }
 }
 
-// The record of a count.
+// Makes the record of a count.
 pub(crate) fn record_of(index: u16, info: [u8; 4], count: Count, text: [u8; 16]) -> Word
     ensures { λ r. ⌜ r ≡ recordOf index info count text ⌝ }
 {
@@ -60,7 +60,7 @@ pub(crate) fn record_of(index: u16, info: [u8; 4], count: Count, text: [u8; 16])
     }
 }
 
-// What a record of that kind counts, by its unit.
+// Gives what a record of that kind counts, by its unit.
 pub(crate) fn count_by(w: Word, kind: Kind) -> Count
     ensures { λ r. ⌜ r ≡ countBy kind w ⌝ }
 {
@@ -87,7 +87,7 @@ pub(crate) fn count_by(w: Word, kind: Kind) -> Count
     }
 }
 
-// The count that a record says.
+// Gives the count that a record says.
 pub(crate) fn count_of(w: Word, family: Family) -> Count
     ensures { λ r. ⌜ r ≡ countOf family w ⌝ }
 {
@@ -95,7 +95,7 @@ pub(crate) fn count_of(w: Word, family: Family) -> Count
     count_by(w, kind)
 }
 
-// The first number that has more digits than a word of the width, or than the ppm of its pair.
+// Gives the first number that has more digits than a word of the width, or than the ppm of its pair.
 fn ten_to(wide: bool, pair: bool) -> u64
     ensures { λ r. ⌜ r ≡ tenTo wide pair ⌝ }
 {
@@ -120,7 +120,7 @@ fn whole_right(whole: Whole, limit: u64) -> bool
     whole.size < limit
 }
 
-// The first number that a count of one number doesn't reach.
+// Gives the first number that a count of one number doesn't reach.
 fn limit_of(count: Count, wide: bool) -> u64
     ensures { λ r. ⌜ r ≡ limitOf wide count ⌝ }
 {
@@ -133,7 +133,7 @@ fn limit_of(count: Count, wide: bool) -> u64
     }
 }
 
-// Whether a word of the width can have the count.
+// Tells whether a word of the width can have the count.
 fn count_right(count: Count, wide: bool) -> bool
     ensures { λ r. ⌜ r ≡ countRight wide count ⌝ }
 {
@@ -150,7 +150,7 @@ fn count_right(count: Count, wide: bool) -> bool
     }
 }
 
-// Whether a word of that kind and width can have the text.
+// Tells whether a word of that kind and width can have the text.
 fn text_right(kind: Kind, text: [u8; 16], wide: bool) -> bool
     ensures { λ r. ⌜ r ≡ textRight wide kind text ⌝ }
 {
@@ -175,7 +175,7 @@ fn same_whole(w: Whole, minus: u8, size: u64) -> bool
     false
 }
 
-// Whether some word of the family and width gives the record.
+// Tells whether some word of the family and width gives the record.
 pub fn right(w: Word, family: Family, wide: bool) -> bool
     ensures { λ r. ⌜ r ≡ isRight family wide w ⌝ }
 {
@@ -198,7 +198,7 @@ pub fn right(w: Word, family: Family, wide: bool) -> bool
     text_right(kind, text, wide)
 }
 
-// The typed count of a record; Nothing where no word of the family gives the record, of either width.
+// Gives the typed count of a record; Nothing where no word of the family gives the record, of either width.
 pub fn count(w: Word, family: Family) -> Count
     ensures { λ r. ⌜ r ≡ typedOf family w ⌝ }
 {

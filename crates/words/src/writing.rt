@@ -53,7 +53,7 @@ fn put_figures(says: Figures, text: [u8; 16], out: &mut [u8])
     }
 }
 
-// The figures of a count that a word can have.
+// Gives the figures of a count that a word can have.
 fn figures_of(count: Count) -> Figures
     requires { ⌜ firstOf count .size < 10 ^ 16 ⌝ }
     ensures { λ r. ⌜ r ≡ figuresOf count ⌝ }
@@ -74,7 +74,7 @@ fn figures_of(count: Count) -> Figures
     }
 }
 
-// Two digits and the information.
+// Lays two digits and the information.
 fn two_digits(index: u16, info: [u8; 4]) -> [u8; 6]
     ensures { λ r. ⌜ r ≡ digitsOf 2 index ++ info ⌝ }
 {
@@ -84,7 +84,7 @@ fn two_digits(index: u16, info: [u8; 4]) -> [u8; 6]
     head
 }
 
-// Three digits, and the information but for its first byte.
+// Lays three digits, and the information but for its first byte.
 fn three_digits(index: u16, info: [u8; 4]) -> [u8; 6]
     ensures { λ r. ⌜ r ≡ digitsOf 3 index ++ drop 1 info ⌝ }
 {
@@ -94,22 +94,17 @@ fn three_digits(index: u16, info: [u8; 4]) -> [u8; 6]
     head
 }
 
-// Positions 1-6.
-fn head_of(family: Family, index: u16, info: [u8; 4]) -> [u8; 6]
-    ensures { λ r. ⌜ r ≡ headOf family index info ⌝ }
+// Gives positions 1-6.
+fn head_of(index: u16, info: [u8; 4]) -> [u8; 6]
+    ensures { λ r. ⌜ r ≡ headOf index info ⌝ }
 {
-    match family {
-        Family::Station => two_digits(index, info),
-        Family::Level => {
-            if index < 100 {
-                return two_digits(index, info);
-            }
-            three_digits(index, info)
-        }
+    if index < 100 {
+        return two_digits(index, info);
     }
+    three_digits(index, info)
 }
 
-// The bytes of a record that some word of the family and width gives.
+// Gives the bytes of a record that some word of the family and width gives.
 fn bytes_of(w: Word, family: Family, wide: bool) -> [u8; 24]
     requires { ⌜ w .size < 10 ^ 16 ⌝ }
     ensures { λ r. ⌜ r ≡ bytesIn family wide w ⌝ }
@@ -120,7 +115,7 @@ fn bytes_of(w: Word, family: Family, wide: bool) -> [u8; 24]
     let says = figures_of(count);
     let end = 7 + width_of(wide);
     let mut bytes = [0; 24];
-    let head = head_of(family, w.index, info);
+    let head = head_of(w.index, info);
     figures::lay(&head, &mut bytes[0..6]);
     bytes[6] = sign_byte(w.minus);
     put_figures(says, text, &mut bytes[7..end]);
@@ -128,7 +123,7 @@ fn bytes_of(w: Word, family: Family, wide: bool) -> [u8; 24]
     bytes
 }
 
-// The word of that family and width that gives the record.
+// Writes the word of that family and width that gives the record.
 pub fn spell(w: Word, family: Family, wide: bool) -> Spelling
     ensures { λ r. ⌜ r ≡ spellingOf family wide w ⌝ }
 {

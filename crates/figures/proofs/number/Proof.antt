@@ -29,9 +29,6 @@ loop-holds c = (omega arith, omega arith, omega arith, refl, refl)
 shared-slice-read-b : tie.Need-shared-slice-read-b Inv-loop μ-loop
 shared-slice-read-b c = omega arith
 
-digit-requires : tie.Need-digit-requires Inv-loop μ-loop
-digit-requires c κs = search needs
-
 returns-2 : tie.Need-returns-2 Inv-loop μ-loop
 returns-2 c =
     let at = c .before .before .before .before .loop in
@@ -46,9 +43,6 @@ mul-n c =
 
 sub-wide : tie.Need-sub-wide Inv-loop μ-loop
 sub-wide c = within-bounds 48 57 _ (sym (c .before .digit .ensures) ∙ not-false _ (c .if2 .left)) .0
-
-wide-requires : tie.Need-wide-requires Inv-loop μ-loop
-wide-requires c κs = search needs
 
 add-n : tie.Need-add-n Inv-loop μ-loop
 add-n c =
@@ -92,11 +86,11 @@ number-spec =
     returns
     loop-holds
     shared-slice-read-b
-    digit-requires
+    (λ c κs. search needs)
     returns-2
     mul-n
     sub-wide
-    wide-requires
+    (λ c κs. search needs)
     add-n
     add-i
     loop-less

@@ -21,7 +21,7 @@ bounds false = (omega arith, omega arith)
 
 -- two digits and the information, or three and what is left of it
 text : (b : Bool) (i : ℕ) (info : List ℕ) → length info ≡ 4
-    → cond b (digitsOf 2 i ++ (codes " info=" ++ info)) (digitsOf 3 i ++ (codes " info=" ++ drop 1 info))
+    → cond b (digitsOf 2 i) (digitsOf 3 i) ++ (codes " info=" ++ cond b info (drop 1 info))
     ≡ digitsOf (cond b 2 3) i ++ (codes " info=" ++ midOf (cond b 2 3 - 2) (4 - (cond b 2 3 - 2)) info)
 text true i info h = rw (take-all 4 info (omega arith))
 text false i info h = rw (take-all 3 (drop 1 info) (omega (arith, length-drop 1 info)))

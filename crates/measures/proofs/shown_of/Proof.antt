@@ -13,27 +13,6 @@ use Rattle.measures.proofs.shown_of.Tie as tie
 arm : (c : tie.Start) {k : Count} → c .args .counted ≡ k → shownOf (c .args .index) k ≡ shownOf (c .args .index) (c .args .counted)
 arm c e = ap (shownOf (c .args .index)) (sym e)
 
-returns : tie.Need-returns
-returns c = rw (eq-eqb _ _ (c .if1 .taken)) at (arm (c .before .before .before .before) (c .before .before .counted5 .given .1))
-
-returns-2 : tie.Need-returns-2
-returns-2 c = arm (c .before .before) (c .enum-told .given .1)
-
-returns-3 : tie.Need-returns-3
-returns-3 c = arm (c .before .before) (c .enum-told2 .given .1)
-
-returns-4 : tie.Need-returns-4
-returns-4 c = arm (c .before .before .before) (c .before .counted .given .1)
-
-returns-5 : tie.Need-returns-5
-returns-5 c = arm (c .before .before .before) (c .before .counted2 .given .1)
-
-returns-6 : tie.Need-returns-6
-returns-6 c = arm (c .before .before .before) (c .before .counted3 .given .1)
-
-returns-7 : tie.Need-returns-7
-returns-7 c = arm (c .before .before .before) (c .before .counted4 .given .1)
-
 returns-8 : tie.Need-returns-8
 returns-8 c =
     let w = c .before .before .before .counted5 .given in
@@ -44,15 +23,6 @@ returns-9 : tie.Need-returns-9
 returns-9 c =
     let w = c .before .before .counted6 .given in
     ap (λ d. Measure (w .0 .0 .0 .minus) (w .0 .0 .0 .size) d unit.Feet) (c .decimals-of2 .ensures) ∙ arm (c .before .before .before .before) (w .1)
-
-returns-10 : tie.Need-returns-10
-returns-10 c = arm (c .before .before .before) (c .before .counted7 .given .1)
-
-returns-11 : tie.Need-returns-11
-returns-11 c = arm (c .before .before .before) (c .before .counted8 .given .1)
-
-returns-12 : tie.Need-returns-12
-returns-12 c = arm (c .before .before .before) (c .before .counted9 .given .1)
 
 pub shown-of-spec : {M : Type 1} → statement M
 shown-of-spec =
@@ -65,21 +35,21 @@ shown-of-spec =
     (λ c. search needs)
     (λ c. search needs)
     (λ c. search needs)
-    returns
+    (λ c. rw (eq-eqb _ _ (c .if1 .taken)) at (arm (c .before .before .before .before) (c .before .before .counted5 .given .1)))
     (λ c κs. search needs)
     (λ c. search needs)
     (λ c κs. search needs)
     (λ c. search needs)
     (λ c. search needs)
     (λ c. search needs)
-    returns-2
-    returns-3
-    returns-4
-    returns-5
-    returns-6
-    returns-7
+    (λ c. arm (c .before .before) (c .enum-told .given .1))
+    (λ c. arm (c .before .before) (c .enum-told2 .given .1))
+    (λ c. arm (c .before .before .before) (c .before .counted .given .1))
+    (λ c. arm (c .before .before .before) (c .before .counted2 .given .1))
+    (λ c. arm (c .before .before .before) (c .before .counted3 .given .1))
+    (λ c. arm (c .before .before .before) (c .before .counted4 .given .1))
     returns-8
     returns-9
-    returns-10
-    returns-11
-    returns-12)
+    (λ c. arm (c .before .before .before) (c .before .counted7 .given .1))
+    (λ c. arm (c .before .before .before) (c .before .counted8 .given .1))
+    (λ c. arm (c .before .before .before) (c .before .counted9 .given .1)))

@@ -13,9 +13,6 @@ use Rattle.blocks.proofs.Composes.{put-written, put-same, words-end, co
 use Rattle.blocks.proofs.composing.compose.Statement.{statement}
 use Rattle.blocks.proofs.composing.compose.Tie as tie
 
-refuse-list-requires : tie.Need-refuse-list-requires
-refuse-list-requires c κs = search needs
-
 returns : tie.Need-returns
 returns c =
     let start = c .before .before .before in
@@ -27,15 +24,6 @@ some-words : (c : tie.Else1) → let b = c .before .before .args .b in length (t
 some-words c e =
     let start = c .before .before in
     c .if1 .left (sym (listed (start .args .b) _ (start .good .0) (start .pre)) ∙ e)
-
-put-words-requires : tie.Need-put-words-requires
-put-words-requires c κs = search needs
-
-enum-known-answer : tie.Need-enum-known-answer
-enum-known-answer c = search needs
-
-enum-told : tie.Need-enum-told
-enum-told c = search needs
 
 returns-2 : tie.Need-returns-2
 returns-2 c =
@@ -111,11 +99,11 @@ pub compose-spec : {M : Type 1} → statement M
 compose-spec =
     tie.close
     (tie.spec
-    refuse-list-requires
+    (λ c κs. search needs)
     returns
-    put-words-requires
-    enum-known-answer
-    enum-told
+    (λ c κs. search needs)
+    (λ c. search needs)
+    (λ c. search needs)
     returns-2
     array-write-bytes
     add-past

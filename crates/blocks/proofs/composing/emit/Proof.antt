@@ -21,15 +21,6 @@ returns c =
     let out = a .out .now in
     writes-as (a .family) (listOf (a .b)) (replicate 33 blank) (a .wide) (a .crlf) out out (Refused Count) (listed-many (a .b) (c .if1 .taken)) refl
 
-compose-requires : tie.Need-compose-requires
-compose-requires c κs = search needs
-
-enum-known-answer : tie.Need-enum-known-answer
-enum-known-answer c = search needs
-
-enum-told : tie.Need-enum-told
-enum-told c = search needs
-
 few : (c : tie.Else1) → let b = c .before .before .before .args .b in length (take (b .n) (b .words)) ≤ 32
 few c =
     let start = c .before .before .before in
@@ -81,23 +72,11 @@ returns-3 c =
     let none = fitted-not (blockBytes (a .family) (a .wide) (a .crlf) ws) out n (there .0) (c .if2 .taken) in
     writes-as (a .family) (listOf (a .b)) ws (a .wide) (a .crlf) out out (Refused (Room n)) list (there .3 ∙ none)
 
-sub-lay : tie.Need-sub-lay
-sub-lay c = search needs
-
-part-lay-start : tie.Need-part-lay-start
-part-lay-start c = search needs
-
 part-lay-end : tie.Need-part-lay-end
 part-lay-end c =
     let a = c .before .before .before .before .before .before .before .before .before .before .args in
     let there = ready (c .before .before .before .before) in
     omega (arith, there .2, ap length (there .1), room-length (blockBytes (a .family) (a .wide) (a .crlf) (take (a .b .n) (a .b .words))))
-
-lay-requires : tie.Need-lay-requires
-lay-requires c κs = search needs
-
-same-length : tie.Need-same-length
-same-length c = search needs
 
 returns-4 : tie.Need-returns-4
 returns-4 c =
@@ -121,14 +100,14 @@ emit-spec =
     tie.close
     (tie.spec
     returns
-    compose-requires
-    enum-known-answer
-    enum-told
+    (λ c κs. search needs)
+    (λ c. search needs)
+    (λ c. search needs)
     returns-2
     returns-3
-    sub-lay
-    part-lay-start
+    (λ c. search needs)
+    (λ c. search needs)
     part-lay-end
-    lay-requires
-    same-length
+    (λ c κs. search needs)
+    (λ c. search needs)
     returns-4)

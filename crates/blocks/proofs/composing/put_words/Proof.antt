@@ -36,17 +36,8 @@ Inv-loop family wide words n size bytes₀ at₀ i₀ bytes at i =
 abbrev μ-loop : tie.MeasureT-loop
 μ-loop family wide words n size bytes₀ at₀ i₀ bytes at i = n - i
 
-width-of-requires : tie.Need-width-of-requires Inv-loop μ-loop
-width-of-requires c κs = search needs
-
 add-size : tie.Need-add-size Inv-loop μ-loop
 add-size c = omega (arith, width-small (c .before .before .args .wide))
-
-open-requires : tie.Need-open-requires Inv-loop μ-loop
-open-requires c κs = search needs
-
-start-of-requires : tie.Need-start-of-requires Inv-loop μ-loop
-start-of-requires c κs = search needs
 
 opened-length : (c : tie.After-open Inv-loop μ-loop) → length (c .«open» .result) ≡ 771
 opened-length c = ap length (c .«open» .ensures) ∙ room-length (starBytes (c .before .before .before .args .wide))
@@ -115,18 +106,6 @@ mul-word c = omega arith
 array-copy-out-word : tie.Need-array-copy-out-word Inv-loop μ-loop
 array-copy-out-word c = omega arith
 
-spell-requires : tie.Need-spell-requires Inv-loop μ-loop
-spell-requires c κs = search needs
-
-enum-told : tie.Need-enum-told Inv-loop μ-loop
-enum-told c = search needs
-
-enum-told-2 : tie.Need-enum-told-2 Inv-loop μ-loop
-enum-told-2 c = search needs
-
-refuse-list-requires : tie.Need-refuse-list-requires Inv-loop μ-loop
-refuse-list-requires c κs = search needs
-
 returns : tie.Need-returns Inv-loop μ-loop
 returns c =
     let spelled = c .before .before .before in
@@ -159,9 +138,6 @@ part-bytes-start c = omega arith
 
 part-bytes-end : tie.Need-part-bytes-end Inv-loop μ-loop
 part-bytes-end c = omega (arith, held (c .before .before .before .before .before .before .before))
-
-lay-requires : tie.Need-lay-requires Inv-loop μ-loop
-lay-requires c κs = search needs
 
 add-at : tie.Need-add-at Inv-loop μ-loop
 add-at c =
@@ -229,17 +205,17 @@ put-words-spec =
     (tie.spec
     Inv-loop
     μ-loop
-    width-of-requires
+    (λ c κs. search needs)
     add-size
-    open-requires
-    start-of-requires
+    (λ c κs. search needs)
+    (λ c κs. search needs)
     loop-holds
     mul-word
     array-copy-out-word
-    spell-requires
-    enum-told
-    enum-told-2
-    refuse-list-requires
+    (λ c κs. search needs)
+    (λ c. search needs)
+    (λ c. search needs)
+    (λ c κs. search needs)
     returns
     sub-lay
     part-lay-start
@@ -247,7 +223,7 @@ put-words-spec =
     sub-lay-2
     part-bytes-start
     part-bytes-end
-    lay-requires
+    (λ c κs. search needs)
     add-at
     add-i
     loop-less

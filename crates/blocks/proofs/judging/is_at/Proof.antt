@@ -5,9 +5,6 @@ use Rattle.blocks.proofs.Steps.{is-in, is-past}
 use Rattle.blocks.proofs.judging.is_at.Statement.{statement}
 use Rattle.blocks.proofs.judging.is_at.Tie as tie
 
-shared-slice-read-result : tie.Need-shared-slice-read-result
-shared-slice-read-result c = search needs
-
 returns : tie.Need-returns
 returns c =
     let a = c .before .before .args in
@@ -19,4 +16,4 @@ returns-2 c =
     sym (is-past (a .b) (a .s .now) (a .at) (c .if1 .left))
 
 pub is-at-spec : {M : Type 1} → statement M
-is-at-spec = tie.close (tie.spec shared-slice-read-result returns returns-2)
+is-at-spec = tie.close (tie.spec (λ c. search needs) returns returns-2)

@@ -8,25 +8,10 @@ use Rattle.blocks.proofs.Steps.{start-small, judged-empty, judged-no-wo
 use Rattle.blocks.proofs.judging.judge_whole.Statement.{statement}
 use Rattle.blocks.proofs.judging.judge_whole.Tie as tie
 
-refuse-requires : tie.Need-refuse-requires
-refuse-requires c κs = search needs
-
 returns : tie.Need-returns
 returns c =
     let a = c .before .before .before .args in
     c .refuse .ensures ∙ sym (ap keptOf (judged-empty (a .family) (a .s .now) (a .places) (c .before .if1 .taken)))
-
-shared-slice-read-wide : tie.Need-shared-slice-read-wide
-shared-slice-read-wide c = search needs
-
-start-of-requires : tie.Need-start-of-requires
-start-of-requires c κs = search needs
-
-is-at-requires : tie.Need-is-at-requires
-is-at-requires c κs = search needs
-
-refuse-requires-2 : tie.Need-refuse-requires-2
-refuse-requires-2 c κs = search needs
 
 returns-2 : tie.Need-returns-2
 returns-2 c =
@@ -55,12 +40,12 @@ pub judge-whole-spec : {M : Type 1} → statement M
 judge-whole-spec =
     tie.close
     (tie.spec
-    refuse-requires
+    (λ c κs. search needs)
     returns
-    shared-slice-read-wide
-    start-of-requires
-    is-at-requires
-    refuse-requires-2
+    (λ c. search needs)
+    (λ c κs. search needs)
+    (λ c κs. search needs)
+    (λ c κs. search needs)
     returns-2
     words-from-requires
     returns-3)

@@ -3,11 +3,8 @@ use borrow.Author.Needs.{needs}
 use Rattle.blocks.proofs.judging.no_block.Statement.{statement}
 use Rattle.blocks.proofs.judging.no_block.Tie as tie
 
-blank-word-requires : tie.Need-blank-word-requires
-blank-word-requires c κs = search needs
-
 returns : tie.Need-returns
 returns c = rw (c .blank-word .ensures)
 
 pub no-block-spec : {M : Type 1} → statement M
-no-block-spec = tie.close (tie.spec blank-word-requires returns)
+no-block-spec = tie.close (tie.spec (λ c κs. search needs) returns)

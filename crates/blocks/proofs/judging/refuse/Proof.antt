@@ -3,11 +3,8 @@ use borrow.Author.Needs.{needs}
 use Rattle.blocks.proofs.judging.refuse.Statement.{statement}
 use Rattle.blocks.proofs.judging.refuse.Tie as tie
 
-no-block-requires : tie.Need-no-block-requires
-no-block-requires c κs = search needs
-
 returns : tie.Need-returns
 returns c = rw (c .no-block .ensures)
 
 pub refuse-spec : {M : Type 1} → statement M
-refuse-spec = tie.close (tie.spec no-block-requires returns)
+refuse-spec = tie.close (tie.spec (λ c κs. search needs) returns)

@@ -16,12 +16,6 @@ use Rattle.blocks.proofs.Steps.{width-small, next-ends, next-full, next
 use Rattle.blocks.proofs.judging.step.Statement.{statement}
 use Rattle.blocks.proofs.judging.step.Tie as tie
 
-is-at-requires : tie.Need-is-at-requires
-is-at-requires c κs = search needs
-
-blank-word-requires : tie.Need-blank-word-requires
-blank-word-requires c κs = search needs
-
 -- what the step is to find
 abbrev next : tie.After-is-at → Stepped
 next c =
@@ -37,32 +31,14 @@ returns c =
 no-end : (c : tie.Else1) → isAt 13 (drop (c .before .before .before .args .at) (c .before .before .before .args .s .now)) ≡ false
 no-end c = sym (c .before .is-at .ensures) ∙ c .if1 .left
 
-stops-requires : tie.Need-stops-requires
-stops-requires c κs = search needs
-
 returns-2 : tie.Need-returns-2
 returns-2 c =
     let a = c .before .before .before .before .before .args in
     let rest = drop (a .at) (a .s .now) in
     c .stops .ensures ∙ sym (next-full (a .family) (a .wide) (a .places) (a .count) (a .at) rest (no-end (c .before .before)) (c .before .if2 .taken))
 
-sub-rest : tie.Need-sub-rest
-sub-rest c = search needs
-
-part-rest-start : tie.Need-part-rest-start
-part-rest-start c = search needs
-
-part-rest-end : tie.Need-part-rest-end
-part-rest-end c = search needs
-
-width-of-requires : tie.Need-width-of-requires
-width-of-requires c κs = search needs
-
 add-if3 : tie.Need-add-if3
 add-if3 c = omega (arith, width-small (c .before .before .before .before .before .before .args .wide))
-
-stops-requires-2 : tie.Need-stops-requires-2
-stops-requires-2 c κs = search needs
 
 returns-3 : tie.Need-returns-3
 returns-3 c =
@@ -72,9 +48,6 @@ returns-3 c =
     let more = no-end (c .before .before .before .before .before) in
     c .stops2 .ensures ∙ sym (next-short (a .family) (a .wide) (a .places) (a .count) (a .at) rest more (omega arith) (omega arith))
 
-stops-requires-3 : tie.Need-stops-requires-3
-stops-requires-3 c κs = search needs
-
 returns-4 : tie.Need-returns-4
 returns-4 c =
     let a = c .before .before .before .before .before .before .before .before .before .args in
@@ -82,18 +55,6 @@ returns-4 c =
     let rest = drop (a .at) (a .s .now) in
     let more = no-end (c .before .before .before .before .before .before) in
     c .stops3 .ensures ∙ sym (next-no-place (a .family) (a .wide) (a .places) (a .count) (a .at) rest more (omega arith) (omega arith) (omega arith))
-
-read-word-requires : tie.Need-read-word-requires
-read-word-requires c κs = search needs
-
-enum-known-answer : tie.Need-enum-known-answer
-enum-known-answer c = search needs
-
-stops-requires-4 : tie.Need-stops-requires-4
-stops-requires-4 c κs = search needs
-
-enum-told : tie.Need-enum-told
-enum-told c = search needs
 
 -- where a word was read the step is by what the word is
 word : (c : tie.After-read-word) →
@@ -140,24 +101,24 @@ pub step-spec : {M : Type 1} → statement M
 step-spec =
     tie.close
     (tie.spec
-    is-at-requires
-    blank-word-requires
+    (λ c κs. search needs)
+    (λ c κs. search needs)
     returns
-    stops-requires
+    (λ c κs. search needs)
     returns-2
-    sub-rest
-    part-rest-start
-    part-rest-end
-    width-of-requires
+    (λ c. search needs)
+    (λ c. search needs)
+    (λ c. search needs)
+    (λ c κs. search needs)
     add-if3
-    stops-requires-2
+    (λ c κs. search needs)
     returns-3
-    stops-requires-3
+    (λ c κs. search needs)
     returns-4
-    read-word-requires
-    enum-known-answer
+    (λ c κs. search needs)
+    (λ c. search needs)
     add-t28
-    stops-requires-4
-    enum-told
+    (λ c κs. search needs)
+    (λ c. search needs)
     returns-5
     returns-6)

@@ -3,11 +3,8 @@ use borrow.Author.Needs.{needs}
 use Rattle.blocks.proofs.judging.stops.Statement.{statement}
 use Rattle.blocks.proofs.judging.stops.Tie as tie
 
-blank-word-requires : tie.Need-blank-word-requires
-blank-word-requires c κs = search needs
-
 returns : tie.Need-returns
 returns c = rw (c .blank-word .ensures)
 
 pub stops-spec : {M : Type 1} → statement M
-stops-spec = tie.close (tie.spec blank-word-requires returns)
+stops-spec = tie.close (tie.spec (λ c κs. search needs) returns)

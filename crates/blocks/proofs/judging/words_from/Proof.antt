@@ -9,9 +9,9 @@ use lib.Seq.{length-take-le}
 use Rattle.words.specs.Reading.{wordSize}
 use Rattle.blocks.specs.declared.judging.Block.{Block}
 use Rattle.blocks.specs.declared.judging.JudgedBlock.{JudgedBlock}
-use Rattle.blocks.specs.Judging.{blockFrom}
-use Rattle.blocks.specs.Keeping.{keptOf}
-use Rattle.blocks.proofs.Steps.{width-small, walk-ends, walk-stops, walk-goes, walk-on, ends-inside, goes-inside, kept-more, kept-judged}
+use Rattle.blocks.specs.declared.judging.Stepped.{Stepped}
+use Rattle.blocks.specs.Judging.{Judgement, blockFrom}
+use Rattle.blocks.proofs.Steps.{width-small, went, done, further, block-walk, walk-on, ends-inside, goes-inside, kept-more, kept-judged}
 use Rattle.blocks.proofs.judging.words_from.Statement.{statement}
 use Rattle.blocks.proofs.judging.words_from.Tie as tie
 
@@ -26,23 +26,14 @@ Inv-loop s family wide start places size words₀ n₀ at₀ words n at =
 abbrev μ-loop : tie.MeasureT-loop
 μ-loop s family wide start places size words₀ n₀ at₀ words n at = 32 - n
 
-width-of-requires : tie.Need-width-of-requires Inv-loop μ-loop
-width-of-requires c κs = search needs
-
 add-size : tie.Need-add-size Inv-loop μ-loop
 add-size c = omega (arith, width-small (c .before .before .args .wide))
-
-no-block-requires : tie.Need-no-block-requires Inv-loop μ-loop
-no-block-requires c κs = search needs
 
 loop-holds : tie.Need-loop-holds Inv-loop μ-loop
 loop-holds c = (omega arith, c .before .before .before .before .pre, ap (λ (b : Block). length (b .words)) (c .before .no-block .ensures), refl, refl)
 
 step-requires : tie.Need-step-requires Inv-loop μ-loop
 step-requires c κs = c .loop .inv .1
-
-enum-told : tie.Need-enum-told Inv-loop μ-loop
-enum-told c = search needs
 
 ended-requires : tie.Need-ended-requires Inv-loop μ-loop
 ended-requires c κs =
@@ -55,47 +46,37 @@ ended-requires c κs =
 kept : (c : tie.At-loop Inv-loop μ-loop) → length (take (c .loop .n) (c .loop .words)) ≡ c .loop .n
 kept c = length-take-le (c .loop .n) (c .loop .words) (omega arith)
 
+-- what the block is, by what the step found
+abbrev goesOn : tie.After-step Inv-loop μ-loop → Stepped → Judgement
+goesOn c =
+    let l = c .before .loop in
+    let a = c .before .before .before .before .before .before .args in
+    let rest = drop (l .at) (a .s .now) in
+    let ws = take (l .n) (l .words) in
+    went (done (a .family) (a .wide) (a .places) (l .n) (l .at) rest ws) (further (a .family) (a .wide) (a .places) (l .n) (l .at) rest ws)
+
+walked : (c : tie.After-step Inv-loop μ-loop) →
+    let a = c .before .before .before .before .before .before .args in
+    blockFrom (a .family) 32 (a .wide) (a .places) (a .start) (drop (a .start) (a .s .now)) [] ≡ goesOn c (c .step .result)
+walked c =
+    let l = c .before .loop in
+    let a = c .before .before .before .before .before .before .args in
+    let rest = drop (l .at) (a .s .now) in
+    l .inv .4
+    ∙ block-walk (a .family) (a .wide) (a .places) (l .n) (l .at) rest (take (l .n) (l .words)) (l .inv .0) (kept (c .before))
+    ∙ sym (ap (goesOn c) (c .step .ensures))
+
 returns : tie.Need-returns Inv-loop μ-loop
 returns c =
     let here = c .before .before .before in
     let l = here .before .loop in
-    let a = here .before .before .before .before .before .before .args in
     let none = l .inv .3 ∙ ap (λ (b : Block). drop (l .n) (b .words)) (here .before .before .before .no-block .ensures) in
     let found : JudgedBlock = record { answer = c .ended .result; block = record { words = l .words; n = l .n } } in
     let judged = kept-judged found (l .words) (l .n) (omega arith) none refl in
-    let rest = drop (l .at) (a .s .now) in
-    let ws = take (l .n) (l .words) in
-    let few = l .inv .0 in
-    let step = here .step in
-    let block =
-    l .inv .4
-    ∙ walk-ends (a .family) (a .wide) (a .places) (l .n) (l .at) rest ws few (kept (here .before)) (step .result) (step .ensures)
-    (c .before .enum-told .given .1) in
-    rw block (judged ∙ rw (c .ended .ensures))
-
-enum-known-next : tie.Need-enum-known-next Inv-loop μ-loop
-enum-known-next c = search needs
-
-refuse-requires : tie.Need-refuse-requires Inv-loop μ-loop
-refuse-requires c κs = search needs
+    rw (walked here, c .before .enum-told .given .1) (judged ∙ rw (c .ended .ensures))
 
 returns-2 : tie.Need-returns-2 Inv-loop μ-loop
-returns-2 c =
-    let here = c .before .before .before .before in
-    let l = here .before .loop in
-    let a = here .before .before .before .before .before .before .args in
-    let rest = drop (l .at) (a .s .now) in
-    let ws = take (l .n) (l .words) in
-    let few = l .inv .0 in
-    let step = here .step in
-    let block =
-    l .inv .4
-    ∙ walk-stops (a .family) (a .wide) (a .places) (l .n) (l .at) rest ws few (kept (here .before)) (step .result) (step .ensures) _
-    (c .before .before .next .given .1) in
-    c .refuse .ensures ∙ sym (ap keptOf block)
-
-enum-told-2 : tie.Need-enum-told-2 Inv-loop μ-loop
-enum-told-2 c = search needs
+returns-2 c = rw (walked (c .before .before .before .before), c .before .before .next .given .1) (c .refuse .ensures)
 
 -- where a word stands there is a place for its record, and the word's bytes
 goes : (c : tie.After-word Inv-loop μ-loop) →
@@ -136,14 +117,7 @@ loop-again c =
     let w = here .step .result .word in
     let room : l .n < length (l .words) = omega (arith, goes c .0) in
     let size : width .result + 8 ≡ wordSize (a .wide) = omega (arith, width .ensures) in
-    let rest = drop (l .at) (a .s .now) in
-    let ws = take (l .n) (l .words) in
-    let few = l .inv .0 in
-    let step = here .step in
-    let block =
-    l .inv .4
-    ∙ walk-goes (a .family) (a .wide) (a .places) (l .n) (l .at) rest ws few (kept (here .before)) (step .result) (step .ensures)
-    (c .before .enum-told2 .given .1) in
+    let block = rw (c .before .enum-told2 .given .1) at (walked here) in
     let on = walk-on (a .family) (32 - (l .n + 1)) (l .n) (l .at) (width .result + 8) (a .wide) (a .places) (a .s .now) (l .words) w room size in
     let long = length-set (l .words) (l .n) w ∙ l .inv .2 in
     (omega (arith, goes c .0), omega (arith, goes c .1, size), long, kept-more (l .words) first (l .n) w (l .inv .3), block ∙ on)
@@ -154,18 +128,18 @@ words-from-spec =
     (tie.spec
     Inv-loop
     μ-loop
-    width-of-requires
+    (λ c κs. search needs)
     add-size
-    no-block-requires
+    (λ c κs. search needs)
     loop-holds
     step-requires
-    enum-told
+    (λ c. search needs)
     ended-requires
     returns
-    enum-known-next
-    refuse-requires
+    (λ c. search needs)
+    (λ c κs. search needs)
     returns-2
-    enum-told-2
+    (λ c. search needs)
     mul-words
     array-set-from-words
     add-n

@@ -7,7 +7,7 @@ use borrow.Author.Needs.{needs}
 use borrow.Author.Tests.{eq-eqb, ne-eqb}
 use Rattle.figures.specs.Bytes.{startsWith, sameBytes}
 use Rattle.commands.specs.Shapes.{set-slash, conf-slash, put-slash, get-i, undo-word, hasKeyword, orderOf}
-use Rattle.commands.specs.declared.shapes.Order.the-variants.{Not, Unknown}
+use Rattle.commands.specs.declared.shapes.Order.the-variants.{WrongShape, NoKeyword}
 use Rattle.commands.proofs.Shape.{to-end}
 use Rattle.figures.proofs.Bytes.{starts-length}
 use Rattle.commands.proofs.shapes.order_of.Statement.{statement}
@@ -98,7 +98,7 @@ returns-7 c =
     rw (no-set (c2 .before .before .before), no-conf c2, no-put c3, no-get c5, no-undo c6, sym (c .before .same2 .ensures) ∙ c .if7 .taken)
 
 -- and no keyword with the rest that it should have
-none : (c : tie.Else7) → let t = text4 (c .before .before .before .before .before .before .before) in orderOf t ≡ cond (hasKeyword t) Not Unknown
+none : (c : tie.Else7) → let t = text4 (c .before .before .before .before .before .before .before) in orderOf t ≡ cond (hasKeyword t) WrongShape NoKeyword
 none c =
     let c6 = c .before .before .before in
     let c5 = c6 .before .before .before in

@@ -15,24 +15,6 @@ returns c =
     let a = c .before .before .before .args in
     (omega arith, sym (put-past (a .room .now) (a .text .now) (a .at) (c .if1 .taken)))
 
-sub-left : tie.Need-sub-left
-sub-left c = search needs
-
-sub-lay : tie.Need-sub-lay
-sub-lay c = search needs
-
-part-lay-start : tie.Need-part-lay-start
-part-lay-start c = search needs
-
-part-lay-end : tie.Need-part-lay-end
-part-lay-end c = search needs
-
-lay-requires : tie.Need-lay-requires
-lay-requires c κs = search needs
-
-same-length : tie.Need-same-length
-same-length c = search needs
-
 -- the room once the text is laid down
 abbrev Laid : tie.After-lay → Type 0
 Laid c =
@@ -50,12 +32,6 @@ returns-2 c =
     let is = laid (c .before .before .before) in
     (ap length is ∙ put-length (a .room .now) (a .text .now) (a .at) ∙ omega arith, is)
 
-add-result : tie.Need-add-result
-add-result c = search needs
-
-same-length-2 : tie.Need-same-length-2
-same-length-2 c = search needs
-
 returns-3 : tie.Need-returns-3
 returns-3 c = (omega arith, laid (c .before .before .before))
 
@@ -64,13 +40,13 @@ put-spec =
     tie.close
     (tie.spec
     returns
-    sub-left
-    sub-lay
-    part-lay-start
-    part-lay-end
-    lay-requires
-    same-length
+    (λ c. search needs)
+    (λ c. search needs)
+    (λ c. search needs)
+    (λ c. search needs)
+    (λ c κs. search needs)
+    (λ c. search needs)
     returns-2
-    add-result
-    same-length-2
+    (λ c. search needs)
+    (λ c. search needs)
     returns-3)

@@ -3,18 +3,6 @@ use borrow.Author.Needs.{needs}
 use Rattle.host.proofs.answers.told_wrote.Statement.{statement}
 use Rattle.host.proofs.answers.told_wrote.Tie as tie
 
-enum-known-w : tie.Need-enum-known-w
-enum-known-w c = search needs
-
-refused-requires : tie.Need-refused-requires
-refused-requires c κs = search needs
-
-enum-known-w-2 : tie.Need-enum-known-w-2
-enum-known-w-2 c = search needs
-
-pack-requires : tie.Need-pack-requires
-pack-requires c κs = search needs
-
 returns : tie.Need-returns
 returns c = simp (c .before .before .w .given .1, c .refused .ensures)
 
@@ -24,4 +12,4 @@ returns-2 c = simp (c .before .before .w2 .given .1, c .pack .ensures)
 pub told-wrote-spec : {M : Type 1} → statement M
 told-wrote-spec =
     tie.close
-    (tie.spec enum-known-w refused-requires enum-known-w-2 pack-requires returns returns-2)
+    (tie.spec (λ c. search needs) (λ c κs. search needs) (λ c. search needs) (λ c κs. search needs) returns returns-2)

@@ -2,7 +2,8 @@
 use Prim.Native.Nat.{_<_}
 use native.Mathlib.Omega.{arith}
 use borrow.Author.Needs.{needs}
-use Rattle.host.proofs.Told.{verdict-small, tells-below}
+use Rattle.lines.proofs.Sorts.{verdict-small}
+use Rattle.host.proofs.Told.{tells-below}
 use Rattle.host.proofs.machine.told_line.Statement.{statement}
 use Rattle.host.proofs.machine.told_line.Tie as tie
 

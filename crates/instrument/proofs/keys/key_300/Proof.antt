@@ -1,7 +1,7 @@
 -- `key_300` meets its contract: each arm has the key of the table's row at its place.
 use mathlib.Core.Path.{refl}
 use Rattle.figures.specs.Decimal.{placesBy, digitsOf}
-use Rattle.instrument.specs.Settings.{rows300, noRow}
+use Rattle.instrument.specs.Settings.{rows300}
 use Rattle.instrument.proofs.Ranges.{key-place, key-past}
 use Rattle.instrument.proofs.keys.key_300.Statement.{statement}
 use Rattle.instrument.proofs.keys.key_300.Tie as tie

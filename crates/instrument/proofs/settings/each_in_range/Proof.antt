@@ -6,8 +6,8 @@ use native.Mathlib.Omega.{arith}
 use borrow.Author.Needs.{needs}
 use lib.ListN.{take, drop, getD, length, length-drop}
 use lib.Seq.{take-all}
-use Rattle.instrument.specs.Settings.{places, noRow, inRange, inRanges, settingsN, settingsMost}
-use Rattle.instrument.proofs.Ranges.{settings-few, places-long, place-row, ranges-past, ranges-more, ranges-not}
+use Rattle.instrument.specs.Settings.{heldRows, noRow, inRange, inRanges, settingsN, settingsMost}
+use Rattle.instrument.proofs.Ranges.{settings-few, held-rows-long, place-row, ranges-past, ranges-more, ranges-not}
 use Rattle.figures.specs.Bytes.{within, every}
 use Rattle.figures.proofs.Tests.{passed, failed}
 use Rattle.instrument.proofs.settings.each_in_range.Statement.{statement}
@@ -18,7 +18,7 @@ Inv-loop series settings n i₀ i =
     (n ≡ settingsN series)
     × (i ≤ n)
     × (length settings ≡ settingsMost)
-    × (inRanges (places series) settings ≡ inRanges (drop i (places series)) (drop i settings))
+    × (inRanges (heldRows series) settings ≡ inRanges (drop i (heldRows series)) (drop i settings))
 
 abbrev μ-loop : tie.MeasureT-loop
 μ-loop series settings n i₀ i = n - i
@@ -34,7 +34,7 @@ array-read-wide c =
 -- what a turn found of its row and parameter
 found : (c : tie.After-in-range Inv-loop μ-loop) → let at = c .before .before .before .before in
     let a = at .before .before .args in
-    c .in-range .result ≡ inRange (getD (places (a .series)) (at .loop .i) noRow) (getD (a .t2) (at .loop .i) 0)
+    c .in-range .result ≡ inRange (getD (heldRows (a .series)) (at .loop .i) noRow) (getD (a .t2) (at .loop .i) 0)
 found c =
     let at = c .before .before .before .before in
     c .in-range .ensures ∙ rw (c .before .before .row-at .ensures ∙ sym (place-row (at .before .before .args .series) (at .loop .i)), c .before .wide .ensures)
@@ -46,9 +46,9 @@ returns c =
     let a = at .before .before .args in
     let k = a .series in
     let below = told .before .before .before .loop-test .taken in
-    let in-rows : at .loop .i < length (places k) = omega (arith, below, at .loop .inv .0, places-long k, settings-few k) in
+    let in-rows : at .loop .i < length (heldRows k) = omega (arith, below, at .loop .inv .0, held-rows-long k, settings-few k) in
     let in-held : at .loop .i < length (a .t2) = omega (arith, below, at .loop .inv .0, at .loop .inv .2, settings-few k) in
-    sym (at .loop .inv .3 ∙ ranges-not (places k) (a .t2) noRow (at .loop .i) in-rows in-held (failed (found told) (c .if1 .taken)))
+    sym (at .loop .inv .3 ∙ ranges-not (heldRows k) (a .t2) noRow (at .loop .i) in-rows in-held (failed (found told) (c .if1 .taken)))
 
 loop-again : tie.Need-loop-again Inv-loop μ-loop
 loop-again c =
@@ -57,12 +57,12 @@ loop-again c =
     let a = at .before .before .args in
     let k = a .series in
     let below = told .before .before .before .loop-test .taken in
-    let in-rows : at .loop .i < length (places k) = omega (arith, below, at .loop .inv .0, places-long k, settings-few k) in
+    let in-rows : at .loop .i < length (heldRows k) = omega (arith, below, at .loop .inv .0, held-rows-long k, settings-few k) in
     let in-held : at .loop .i < length (a .t2) = omega (arith, below, at .loop .inv .0, at .loop .inv .2, settings-few k) in (
       at .loop .inv .0,
       omega (arith, below),
       at .loop .inv .2,
-      at .loop .inv .3 ∙ ranges-more (places k) (a .t2) noRow (at .loop .i) in-rows in-held (passed (found told) (c .if1 .left)),
+      at .loop .inv .3 ∙ ranges-more (heldRows k) (a .t2) noRow (at .loop .i) in-rows in-held (passed (found told) (c .if1 .left)),
     )
 
 -- where the loop ended: as many as the series has are left behind
@@ -91,7 +91,7 @@ returns-2 c =
     c .all-within .ensures
     ∙ ap (every (within 0 0)) rest
     ∙ sym (at .loop .inv .3
-    ∙ ap (λ (j : ℕ). inRanges (drop j (places k)) (drop j (a .t2))) (ended done .0)
+    ∙ ap (λ (j : ℕ). inRanges (drop j (heldRows k)) (drop j (a .t2))) (ended done .0)
     ∙ ranges-past k (a .t2) (at .loop .inv .2))
 
 pub each-in-range-spec : {M : Type 1} → statement M

@@ -4,8 +4,8 @@ use mathlib.Core.Path.{_≡_, refl, sym, _∙_}
 use native.Mathlib.Omega.{arith}
 use borrow.Author.Needs.{needs}
 use lib.ListN.{take, length, length-set}
-use Rattle.instrument.specs.Settings.{places, noRow, factoryOf, factorySettings, settingsMost}
-use Rattle.instrument.proofs.Ranges.{places-long, place-row, map-more, map-all}
+use Rattle.instrument.specs.Settings.{heldRows, noRow, factoryOf, factorySettings, settingsMost}
+use Rattle.instrument.proofs.Ranges.{held-rows-long, place-row, map-more, map-all}
 use Rattle.instrument.proofs.settings.factory_settings.Statement.{statement}
 use Rattle.instrument.proofs.settings.factory_settings.Tie as tie
 
@@ -18,9 +18,6 @@ abbrev μ-loop : tie.MeasureT-loop
 loop-holds : tie.Need-loop-holds Inv-loop μ-loop
 loop-holds c = (omega arith, refl, refl)
 
-array-write-settings : tie.Need-array-write-settings Inv-loop μ-loop
-array-write-settings c = search needs
-
 loop-again : tie.Need-loop-again Inv-loop μ-loop
 loop-again c =
     let at = c .before .before .loop in
@@ -28,14 +25,14 @@ loop-again c =
       omega arith,
       rw length-set (at .inv .1),
       rw (c .row-at .ensures ∙ sym (place-row k (at .i)))
-          (map-more factoryOf (places k) (at .settings) noRow (at .i) (omega (arith, places-long k)) (omega arith) (at .inv .2)),
+          (map-more factoryOf (heldRows k) (at .settings) noRow (at .i) (omega (arith, held-rows-long k)) (omega arith) (at .inv .2)),
     )
 
 returns : tie.Need-returns Inv-loop μ-loop
 returns c =
     let at = c .before .loop in
     let k = c .before .before .args .series in
-    map-all factoryOf (places k) (at .settings) (at .i) (omega (arith, places-long k)) (omega arith) (at .inv .2)
+    map-all factoryOf (heldRows k) (at .settings) (at .i) (omega (arith, held-rows-long k)) (omega arith) (at .inv .2)
 
 pub factory-settings-spec : {M : Type 1} → statement M
 factory-settings-spec =
@@ -45,7 +42,7 @@ factory-settings-spec =
     μ-loop
     loop-holds
     (λ c κs. search needs)
-    array-write-settings
+    (λ c. search needs)
     (λ c. omega arith)
     (λ c. omega arith)
     loop-again

@@ -1,6 +1,4 @@
 -- `in_range` meets its contract.
-use mathlib.Core.Bool.{not}
-use mathlib.Core.Path.{ap, sym, _∙_}
 use borrow.Author.Needs.{needs}
 use borrow.Author.Tests.{lt-leb, le-leb}
 use Rattle.instrument.proofs.settings.in_range.Statement.{statement}

@@ -6,7 +6,6 @@ use borrow.Author.Needs.{needs}
 use lib.ListN.{drop, length}
 use Rattle.instrument.specs.Rows.{seek}
 use Rattle.instrument.specs.Settings.{rowsOf, noRow, settingNumber, settingPlace}
-use Rattle.instrument.proofs.Ranges.{rows-long}
 use Rattle.instrument.proofs.Seek.{turn-at, turn-on, seek-past}
 use Rattle.instrument.proofs.settings.seek.Statement.{statement}
 use Rattle.instrument.proofs.settings.seek.Tie as tie
@@ -21,7 +20,7 @@ abbrev μ-loop : tie.MeasureT-loop
 loop-holds : tie.Need-loop-holds Inv-loop μ-loop
 loop-holds c =
     let k = c .before .args .series in
-    (c .settings-of .ensures ∙ sym (rows-long k), omega arith, refl)
+    (c .settings-of .ensures, omega arith, refl)
 
 returns : tie.Need-returns Inv-loop μ-loop
 returns c =

@@ -5,8 +5,8 @@ use mathlib.Core.List.{_++_}
 use native.Mathlib.Omega.{arith}
 use borrow.Author.Needs.{needs}
 use lib.ListN.{length, length-append}
-use Rattle.lines.specs.Orders.{doneOf}
-use Rattle.lines.specs.Replies.{endsLf, isWide, replyEnd, bodyOf}
+use Rattle.lines.specs.Orders.{deedOf, doneOf}
+use Rattle.lines.specs.Replies.{endsLf, answersWide, replyEnd, bodyOf}
 use Rattle.lines.specs.declared.verdicts.Verdict.the-variants.{Accepted}
 use Rattle.lines.proofs.Replying.{end-long, body-most, body-short}
 use Rattle.lines.proofs.Calling.{ends-short, ends-fits}
@@ -28,14 +28,14 @@ add-n : tie.Need-add-n
 add-n c =
     let s = start c in
     let short = body-short (s .args .s) (s .args .text .now) (s .args .order) (s .pre .1 .0) (s .pre .1 .1 .0) (s .pre .1 .1 .1) in
-    omega (arith, c .before .body-length .ensures, c .end-length .ensures, end-long (endsLf (s .args .s)), short, body-most (isWide (s .args .s)))
+    omega (arith, c .before .body-length .ensures, c .end-length .ensures, end-long (endsLf (s .args .s)), short, body-most (answersWide (s .args .s)))
 
 returns : tie.Need-returns
 returns c =
     let n = c .before .before in
     let a = start n .args in
     let reply = bodyOf (a .s) (a .text .now) (a .order) ++ replyEnd (a .s) in
-    ends-short (a .s) Accepted reply (doneOf (a .s) (a .text .now) (a .order)) (a .room .now) (c .with-state .result)
+    ends-short (a .s) Accepted reply (doneOf (a .s) (deedOf (a .s .series) (a .text .now) (a .order))) (a .room .now) (c .with-state .result)
     (omega (arith, c .before .if1 .taken, long n))
     (c .with-state .ensures)
 
@@ -47,7 +47,7 @@ returns-2 c =
     let reply = bodyOf (a .s) (a .text .now) (a .order) ++ replyEnd (a .s) in
     let d = c .before .done in
     let p = c .before .before .before .before .put-reply in
-    ends-fits (a .s) Accepted reply (doneOf (a .s) (a .text .now) (a .order)) (a .room .now) (c .with-state2 .result)
+    ends-fits (a .s) Accepted reply (doneOf (a .s) (deedOf (a .s .series) (a .text .now) (a .order))) (a .room .now) (c .with-state2 .result)
     (p .last .1 .1 .1 .0) (n .before .body-length .result + n .end-length .result) (d .result)
     (long n) (d .ensures) (else1 .if1 .left) (c .with-state2 .ensures) (p .ensures)
 

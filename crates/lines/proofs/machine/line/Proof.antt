@@ -4,7 +4,7 @@ use mathlib.Core.Path.{sym, _∙_}
 use borrow.Author.Needs.{needs}
 use borrow.Author.Tests.{not-true}
 use Rattle.lines.proofs.Calling.{decoded-few, call-none, RanOn, call-some}
-use Rattle.lines.proofs.Runs.{call-refused, call-asks}
+use Rattle.lines.proofs.Leaves.{call-refused, call-asks}
 use Rattle.lines.proofs.machine.line.Statement.{statement}
 use Rattle.lines.proofs.machine.line.Tie as tie
 

@@ -6,23 +6,23 @@ use types.Run.{OneOf, miss}
 use denote.Enum.Declared.{tagOf}
 use borrow.Author.Needs.{needs}
 use Rattle.state.specs.declared.entries.State.{State}
-use Rattle.lines.specs.Orders.{doneOf}
+use Rattle.lines.specs.Orders.{deedOf, doneOf}
 use Rattle.commands.specs.declared.shapes.Order.{Order}
-use Rattle.commands.specs.declared.shapes.Order.the-variants.{Not, Set, Conf, Put, Get, Undo, Keep, Unknown}
+use Rattle.commands.specs.declared.shapes.Order.the-variants.{WrongShape, Set, Conf, Put, Get, Undo, Keep, NoKeyword}
 use Rattle.commands.proofs.Shape.{order-put}
 use Rattle.commands.proofs.shapes.Order.{the-type}
 use Rattle.lines.proofs.orders.done.Statement.{statement}
 use Rattle.lines.proofs.orders.done.Tie as tie
 
-rest : (s : State) (t : List ℕ) (o : Order) → OneOf (0 ∷ 2 ∷ 4 ∷ 7 ∷ []) (tagOf the-type o) → s ≡ doneOf s t o
-rest s t Not h = refl
+rest : (s : State) (t : List ℕ) (o : Order) → OneOf (0 ∷ 2 ∷ 4 ∷ 7 ∷ []) (tagOf the-type o) → s ≡ doneOf s (deedOf (s .series) t o)
+rest s t WrongShape h = refl
 rest s t (Set n p) h = absurd (miss (0 ∷ 2 ∷ 4 ∷ 7 ∷ []) 1 tt h)
 rest s t (Conf n) h = refl
 rest s t Put h = absurd (miss (0 ∷ 2 ∷ 4 ∷ 7 ∷ []) 3 tt h)
 rest s t Get h = refl
 rest s t Undo h = absurd (miss (0 ∷ 2 ∷ 4 ∷ 7 ∷ []) 5 tt h)
 rest s t Keep h = absurd (miss (0 ∷ 2 ∷ 4 ∷ 7 ∷ []) 6 tt h)
-rest s t Unknown h = refl
+rest s t NoKeyword h = refl
 
 set-done-requires : tie.Need-set-done-requires
 set-done-requires c κs = rw (c .before .order .given .1) at (c .before .before .before .before .pre .1 .1 .0)

@@ -1,5 +1,5 @@
 -- `lines::replies::put_reply` meets its contract: each arm's text is the reply of its orders, and the end is laid down behind it.
-use Prim.Native.Nat.{ℕ, _-_, _*_, _/_, _≤_}
+use Prim.Native.Nat.{ℕ, _-_, _/_, _≤_}
 use mathlib.Core.Path.{_≡_, refl, sym, ap, _∙_}
 use mathlib.Core.Bool.{Bool}
 use mathlib.Core.List.{List, [], _∷_}
@@ -11,11 +11,11 @@ use lib.ListN.{length, drop}
 use Rattle.figures.specs.Bytes.{laid}
 use Rattle.state.specs.declared.entries.State.{State}
 use Rattle.commands.specs.Shapes.{groupsIn}
-use Rattle.lines.specs.Replies.{isWide, getBody, done, bodyOf}
-use Rattle.lines.specs.Keeping.{getN}
+use Rattle.lines.specs.Replies.{answersWide, done, bodyOf}
+use Rattle.lines.specs.Keeping.{groupsBody, getN}
 use Rattle.figures.specs.Text.{endBytes}
 use Rattle.commands.specs.declared.shapes.Order.{Order}
-use Rattle.commands.specs.declared.shapes.Order.the-variants.{Not, Set, Conf, Put, Get, Undo, Keep, Unknown}
+use Rattle.commands.specs.declared.shapes.Order.the-variants.{WrongShape, Set, Conf, Put, Get, Undo, Keep, NoKeyword}
 use Rattle.commands.proofs.Shape.{to-end}
 use Rattle.lines.proofs.Replying.{laid-then, get-length, get-body, get-body-long, get-fits, reply-fits, reply-laid}
 use Rattle.commands.proofs.shapes.Order.{the-type}
@@ -24,14 +24,14 @@ use Rattle.lines.proofs.replies.put_reply.Tie as tie
 
 -- the last arm's orders
 rest : (s : State) (t : List ℕ) (o : Order) → OneOf (1 ∷ 3 ∷ 5 ∷ 6 ∷ []) (tagOf the-type o) → done ≡ bodyOf s t o
-rest s t Not h = absurd (miss (1 ∷ 3 ∷ 5 ∷ 6 ∷ []) 0 tt h)
+rest s t WrongShape h = absurd (miss (1 ∷ 3 ∷ 5 ∷ 6 ∷ []) 0 tt h)
 rest s t (Set n p) h = refl
 rest s t (Conf n) h = absurd (miss (1 ∷ 3 ∷ 5 ∷ 6 ∷ []) 2 tt h)
 rest s t Put h = refl
 rest s t Get h = absurd (miss (1 ∷ 3 ∷ 5 ∷ 6 ∷ []) 4 tt h)
 rest s t Undo h = refl
 rest s t Keep h = refl
-rest s t Unknown h = absurd (miss (1 ∷ 3 ∷ 5 ∷ 6 ∷ []) 7 tt h)
+rest s t NoKeyword h = absurd (miss (1 ∷ 3 ∷ 5 ∷ 6 ∷ []) 7 tt h)
 
 abbrev start : tie.After-ends-lf → tie.Start
 start c = c .before .before .before
@@ -142,7 +142,7 @@ returns-2 c =
     let t = a .text .now in
     let room = a .room .now in
     let w = bodyOf (a .s) t (a .order) in
-    let is : w ≡ getBody (isWide (a .s)) (a .s .values) (groupsIn (drop 5 t)) (drop 5 t) =
+    let is : w ≡ groupsBody (answersWide (a .s)) (a .s .values) (groupsIn (drop 5 t)) (drop 5 t) =
     get-body (a .s) t (a .order) (wide .before .before .enum-told .given .1) (s .pre .0 .0) (s .pre .0 .1 .0)
     in
     let g = words .put-words in

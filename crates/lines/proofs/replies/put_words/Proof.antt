@@ -5,7 +5,8 @@ use borrow.Author.Needs.{needs}
 use lib.ListN.{length, length-append}
 use Rattle.figures.proofs.Bytes.{length-mid}
 use Rattle.commands.specs.Shapes.{groupsIn}
-use Rattle.lines.specs.Replies.{star, getWords}
+use Rattle.lines.specs.Replies.{star}
+use Rattle.lines.specs.Keeping.{groupsWords}
 use Rattle.lines.proofs.Replying.{laid-then}
 use Rattle.lines.proofs.replies.put_words.Statement.{statement}
 use Rattle.lines.proofs.replies.put_words.Tie as tie
@@ -14,12 +15,12 @@ use Rattle.lines.proofs.replies.put_words.Tie as tie
 left : (c : tie.After-put-star) →
     let a = c .before .before .before .before .args in
     let g = a .groups .now in
-    c .put-star .result + length (getWords (a .wide) (a .values) (groupsIn g) g) ≤ length (c .put-star .last .1 .0)
+    c .put-star .result + length (groupsWords (a .wide) (a .values) (groupsIn g) g) ≤ length (c .put-star .last .1 .0)
 left c =
     let s = c .before .before .before .before in
     let a = s .args in
     let g = a .groups .now in
-    omega (arith, s .pre .fits, c .put-star .ensures .0, c .put-star .kept .1 .0, length-append (star (a .wide)) (getWords (a .wide) (a .values) (groupsIn g) g))
+    omega (arith, s .pre .fits, c .put-star .ensures .0, c .put-star .kept .1 .0, length-append (star (a .wide)) (groupsWords (a .wide) (a .values) (groupsIn g) g))
 
 sub-put-get : tie.Need-sub-put-get
 sub-put-get c = omega (arith, left (c .before .before))
@@ -45,7 +46,7 @@ returns c =
     let s = put .before .before .before .before in
     let a = s .args in
     let g = a .groups .now in
-    let words = getWords (a .wide) (a .values) (groupsIn g) g in
+    let words = groupsWords (a .wide) (a .values) (groupsIn g) g in
     laid-then (star (a .wide)) words (a .room .now) (put .put-star .last .1 .0) (c .before .before .put-get .last .1 .1 .1 .0) (put .put-star .result)
     (put .put-star .ensures .0) (omega (arith, s .pre .fits, length-append (star (a .wide)) words)) (put .put-star .ensures .1)
     (c .before .before .put-get .ensures)

@@ -7,7 +7,8 @@ use borrow.Author.Tests.{not-true, not-false}
 use lib.ListN.{length, getD, drop, drop-of-length-le}
 use Rattle.instrument.specs.declared.settings.Found.the-variants.{At}
 use Rattle.commands.specs.Shapes.{groupsIn}
-use Rattle.lines.specs.Verdicts.{placeNamed, getBy, getVerdict}
+use Rattle.lines.specs.Verdicts.{placeNamed, getBy}
+use Rattle.lines.specs.Keeping.{groupsVerdict}
 use Rattle.commands.proofs.Shape.{groups-length}
 use Rattle.lines.proofs.Lookups.{place-in, get-more, get-none}
 use Rattle.lines.proofs.verdicts.get_verdict.Statement.{statement}
@@ -16,7 +17,7 @@ use Rattle.lines.proofs.verdicts.get_verdict.Tie as tie
 abbrev Inv-loop : tie.InvT-loop
 Inv-loop groups values at₀ at =
     (at ≤ length groups) × (at % 5 ≡ 0) × (length groups % 5 ≡ 0)
-    × (getVerdict values (groupsIn groups) groups ≡ getVerdict values (groupsIn (drop at groups)) (drop at groups))
+    × (groupsVerdict values (groupsIn groups) groups ≡ groupsVerdict values (groupsIn (drop at groups)) (drop at groups))
 
 abbrev μ-loop : tie.MeasureT-loop
 μ-loop groups values at₀ at = length groups - at
@@ -51,7 +52,7 @@ step : (c : tie.After-place Inv-loop μ-loop)
     let a = turn .before .before .args in
     let g = a .groups .now in
     let next = drop (turn .loop .at + 5) g in
-    getVerdict (a .t1) (groupsIn g) g ≡ getBy (a .t1) (At (c .place .given .0 .0)) (getVerdict (a .t1) (groupsIn next) next)
+    groupsVerdict (a .t1) (groupsIn g) g ≡ getBy (a .t1) (At (c .place .given .0 .0)) (groupsVerdict (a .t1) (groupsIn next) next)
 step c =
     let turn = c .before .before .before .before .before .before in
     let a = turn .before .before .args in

@@ -1,6 +1,6 @@
 -- `verdict_byte` meets its contract: the last arm has every verdict but 26.
 use borrow.Author.Needs.{needs}
-use Rattle.lines.proofs.Broken.{not-word}
+use Rattle.lines.proofs.Sorts.{not-word}
 use Rattle.lines.proofs.verdicts.verdict_byte.Statement.{statement}
 use Rattle.lines.proofs.verdicts.verdict_byte.Tie as tie
 

@@ -1,7 +1,7 @@
 -- `verdict_which` meets its contract: the last arm has every verdict but 26.
 use borrow.Author.Needs.{needs}
 use Rattle.words.specs.Reading.{faultNumber}
-use Rattle.lines.proofs.Broken.{not-word}
+use Rattle.lines.proofs.Sorts.{not-word}
 use Rattle.lines.proofs.verdicts.verdict_which.Statement.{statement}
 use Rattle.lines.proofs.verdicts.verdict_which.Tie as tie
 

@@ -3,7 +3,7 @@ use mathlib.Core.Path.{refl, sym}
 use mathlib.Core.List.{[]}
 use borrow.Author.Needs.{needs}
 use Rattle.figures.proofs.Putting.{puts-as, puts-more}
-use Rattle.lines.proofs.Broken.{not-word}
+use Rattle.lines.proofs.Sorts.{not-word}
 use Rattle.port.specs.Why.{ruleText}
 use Rattle.port.proofs.why.put_rule.Statement.{statement}
 use Rattle.port.proofs.why.put_rule.Tie as tie

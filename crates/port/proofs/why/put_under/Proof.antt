@@ -3,7 +3,7 @@ use mathlib.Core.Path.{refl, sym}
 use mathlib.Core.List.{[]}
 use borrow.Author.Needs.{needs}
 use Rattle.figures.proofs.Putting.{puts-as}
-use Rattle.lines.proofs.Broken.{not-word}
+use Rattle.lines.proofs.Sorts.{not-word}
 use Rattle.port.specs.Why.{underText}
 use Rattle.port.proofs.why.put_under.Statement.{statement}
 use Rattle.port.proofs.why.put_under.Tie as tie

@@ -38,7 +38,7 @@ returns-2 c =
     let s = given .s .now in
     let place = given .place in
     let n : keyed .key-length .result ≡ length (valueKey place) =
-    keyed .key-length .ensures ∙ ap (λ (r : Stored). keyLength (r .3)) (keyed .before .before .stored-at .ensures) ∙ value-keyed place .long in
+    keyed .key-length .ensures ∙ ap (λ (r : Stored). keyLength (r .key)) (keyed .before .before .stored-at .ensures) ∙ value-keyed place .long in
     let k = keyed .key-length .result in
     let laidAs : List ℕ → List ℕ = λ l. laid l (replicate 16 0) in
     let word : c .before .if2 .word ≡ laidAs (drop k s) =

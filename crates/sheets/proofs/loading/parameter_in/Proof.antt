@@ -4,8 +4,7 @@ use mathlib.Core.Path.{_≡_, ap, _∙_}
 use borrow.Author.Needs.{needs}
 use lib.ListN.{length, drop}
 use Rattle.instrument.specs.Settings.{rowAt}
-use Rattle.sheets.specs.Sheet.{settingKey}
-use Rattle.sheets.specs.Loading.{saidBy}
+use Rattle.sheets.specs.Sheet.{settingKey, saidBy}
 use Rattle.sheets.specs.Keeping.{keyLength}
 use Rattle.sheets.proofs.Keyed.{setting-keyed}
 use Rattle.sheets.proofs.loading.parameter_in.Statement.{statement}

@@ -8,7 +8,7 @@ use Rattle.figures.specs.Decimal.{isDigit}
 use Rattle.figures.proofs.Bytes.{within-bounds}
 use Rattle.figures.proofs.Decimal.{one-digit-more}
 use Rattle.figures.proofs.Tests.{passed, failed}
-use Rattle.sheets.specs.Loading.{saidBy}
+use Rattle.sheets.specs.Sheet.{saidBy}
 use Rattle.sheets.proofs.Says.{said-past, said-other, said-more, said-all, said-small}
 use Rattle.sheets.proofs.loading.said_at.Statement.{statement}
 use Rattle.sheets.proofs.loading.said_at.Tie as tie

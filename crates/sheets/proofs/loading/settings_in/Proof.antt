@@ -10,25 +10,25 @@ use borrow.Author.Tests.{not-true, not-false}
 use lib.ListN.{length, drop, replicate, length-set}
 use lib.Seq.{drop-drop, drop-set-lt}
 use Rattle.figures.specs.Bytes.{startsWith}
-use Rattle.instrument.specs.Settings.{rowsOf, inRange, settingsN, settingsMost}
+use Rattle.instrument.specs.Settings.{rowAt, inRange, settingsN, settingsMost}
 use Rattle.instrument.specs.declared.settings.Series.{Series}
 use Rattle.instrument.specs.declared.settings.Row.{Row}
-use Rattle.instrument.proofs.Ranges.{settings-few}
+use Rattle.instrument.proofs.Ranges.{settings-few, range-byte}
+use Rattle.figures.proofs.Bytes.{starts-length}
 use Rattle.figures.proofs.Tests.{passed, failed}
 use Rattle.sheets.specs.Lines.{Part, wrongAt}
-use Rattle.sheets.specs.Sheet.{seriesLine, settingLine}
-use Rattle.sheets.specs.Loading.{settingSays, settingRight, settingsIn}
+use Rattle.sheets.specs.Sheet.{seriesLine, settingLines}
+use Rattle.sheets.specs.Loading.{settingsIn}
 use Rattle.sheets.specs.Keeping.{settingsAs}
 use Rattle.sheets.proofs.Linewise.{line-within, setting-few}
-use Rattle.sheets.proofs.Partwise.{starts-long, leftOf, Turned, part-unright, part-turned, part-ended}
-use Rattle.sheets.proofs.Says.{right-small}
+use Rattle.sheets.proofs.Partwise.{leftOf, Turned, part-unright, part-turned, part-ended}
 use Rattle.sheets.proofs.Sizes.{series-long}
 use Rattle.sheets.proofs.Loads.{settings-kept}
 use Rattle.sheets.proofs.loading.settings_in.Statement.{statement}
 use Rattle.sheets.proofs.loading.settings_in.Tie as tie
 
 abbrev settingsLeft : Series → ℕ → ℕ → List ℕ → List ℕ → Part ℕ
-settingsLeft k = leftOf (settingLine (rowsOf k)) (settingRight (rowsOf k)) (settingSays (rowsOf k)) (settingsN k)
+settingsLeft k = leftOf (settingLines k) (settingsN k)
 
 abbrev blanks : List ℕ
 blanks = replicate settingsMost 0
@@ -65,7 +65,7 @@ loop-holds c =
     rw (head .series-line .ensures) at (passed (told .starts .ensures) (c .before .if1 .left)) in
     let long = series-long (a .series) in
     let left : settingsIn (a .series) sheet ≡ settingsLeft (a .series) 0 14 sheet blanks = rw (yes, long, sub-zero) in
-    (c .settings-of .ensures, omega arith, omega (arith, starts-long (seriesLine (a .series)) sheet yes, long), refl, refl, left)
+    (c .settings-of .ensures, omega arith, omega (arith, starts-length (seriesLine (a .series)) sheet yes, long), refl, refl, left)
 
 -- where the loop began
 abbrev start : tie.At-loop Inv-loop μ-loop → tie.Start Inv-loop μ-loop
@@ -76,7 +76,7 @@ of c = start c .args .series
 
 -- the parameter is in its range, or not
 judged : (c : tie.After-in-range Inv-loop μ-loop) → let at = c .before .before .before .before .before in
-    c .in-range .result ≡ settingRight (rowsOf (of at)) (at .loop .i) (c .before .before .parameter-in .result)
+    c .in-range .result ≡ inRange (rowAt (of at) (at .loop .i)) (c .before .before .parameter-in .result)
 judged c = c .in-range .ensures ∙ ap (λ (r : Row). inRange r (c .before .before .parameter-in .result)) (c .before .row-at .ensures)
 
 -- a turn's place is one of the series'
@@ -91,16 +91,16 @@ returns-2 c =
     let at = turn .before in
     let loop = at .loop in
     let k = of at in
-    let wrong = part-unright (settingLine (rowsOf k)) (settingRight (rowsOf k)) (settingSays (rowsOf k)) (settingsN k) (loop .i) (loop .at) _ (loop .settings) _
+    let wrong = part-unright (settingLines k) (settingsN k) (loop .i) (loop .at) _ (loop .settings) _
     (below turn) (told .parameter-in .ensures) (failed (judged range) (c .before .if2 .taken)) in
     c .wrong-settings2 .ensures ∙ ap settingsAs (sym (loop .inv .5 ∙ wrong))
 
 in-range : (c : tie.Else2 Inv-loop μ-loop) → let at = c .before .before .before .before .before .before in
-    settingRight (rowsOf (of at)) (at .loop .i) (c .before .before .before .parameter-in .result) ≡ true
+    inRange (rowAt (of at) (at .loop .i)) (c .before .before .before .parameter-in .result) ≡ true
 in-range c = passed (judged (c .before)) (c .if2 .left)
 
 small : (c : tie.Else2 Inv-loop μ-loop) → c .before .before .before .parameter-in .result ≤ 255
-small c = let at = c .before .before .before .before .before .before in right-small (of at) (at .loop .i) _ (in-range c)
+small c = let at = c .before .before .before .before .before .before in range-byte (of at) (at .loop .i) _ (in-range c)
 
 -- whether the line of what was said stands
 turned : (c : tie.After-starts2 Inv-loop μ-loop)
@@ -108,7 +108,7 @@ turned : (c : tie.After-starts2 Inv-loop μ-loop)
     let told = line .before .before .before .before in
     let at = told .before .before .before in
     let k = of at in
-    Turned (settingLine (rowsOf k)) (settingRight (rowsOf k)) (settingSays (rowsOf k)) (settingsN k) (at .loop .i) (at .loop .at) (start at .args .sheet .now)
+    Turned (settingLines k) (settingsN k) (at .loop .i) (at .loop .at) (start at .args .sheet .now)
     (at .loop .settings) (told .parameter-in .result) (line .setting-line .result .n) (c .starts2 .result)
 turned c =
     let line = c .before .before .before .before in
@@ -118,7 +118,7 @@ turned c =
     let loop = at .loop in
     let k = of at in
     let p = told .parameter-in .result in
-    part-turned (settingLine (rowsOf k)) (settingRight (rowsOf k)) (settingSays (rowsOf k)) (settingsN k) (loop .i) (loop .at) _ (loop .settings) p (below turn)
+    part-turned (settingLines k) (settingsN k) (loop .i) (loop .at) _ (loop .settings) p (below turn)
     (told .parameter-in .ensures) (in-range (line .before)) (loop .inv .2) (omega (arith, loop .inv .3, below turn, settings-few k))
     (line .setting-line .result) (line .setting-line .ensures)
     (omega (arith, setting-few k (loop .i) p (omega (arith, small (line .before))))) (c .starts2 .ensures)
@@ -157,7 +157,7 @@ part-starts-end c =
     let line = c .before .before in
     let told = line .before .before .before .before in
     let at = told .before .before .before in
-    line-within (settingLine (rowsOf (of at)) (at .loop .i) (told .parameter-in .result)) _ (line .setting-line .ensures)
+    line-within (settingLines (of at) .write (at .loop .i) (told .parameter-in .result)) _ (line .setting-line .ensures)
 
 add-at : tie.Need-add-at Inv-loop μ-loop
 add-at c =
@@ -170,7 +170,7 @@ returns-4 c =
     let loop = at .loop in
     let k = of at in
     let i : loop .i ≡ settingsN k = omega (arith, c .loop-test .left, loop .inv .0, loop .inv .1) in
-    let done = part-ended (settingLine (rowsOf k)) (settingRight (rowsOf k)) (settingSays (rowsOf k)) (settingsN k) (loop .i) (loop .at) _ (loop .settings) i in
+    let done = part-ended (settingLines k) (settingsN k) (loop .i) (loop .at) _ (loop .settings) i in
     sym (ap settingsAs (loop .inv .5 ∙ done) ∙ settings-kept (loop .at) (loop .i) (loop .settings) (loop .inv .3) (loop .inv .4) (omega (arith, i, settings-few k)))
 
 pub settings-in-spec : {M : Type 1} → statement M

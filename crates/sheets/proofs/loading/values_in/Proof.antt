@@ -11,8 +11,8 @@ use Rattle.instrument.specs.Values.{valuesN}
 use Rattle.instrument.specs.declared.values.Value.{Value}
 use Rattle.figures.proofs.Tests.{passed, failed}
 use Rattle.sheets.specs.Lines.{Part}
-use Rattle.sheets.specs.Sheet.{keptLine, valueLine}
-use Rattle.sheets.specs.Loading.{valueSays, valueRight, valuesFrom}
+use Rattle.sheets.specs.Sheet.{keptLine, valueLines}
+use Rattle.sheets.specs.Loading.{valuesFrom}
 use Rattle.sheets.specs.Keeping.{valuesAs}
 use Rattle.sheets.proofs.Linewise.{line-within, kept-few}
 use Rattle.sheets.proofs.Partwise.{leftOf, Turned, part-unright, part-turned, part-done}
@@ -21,7 +21,7 @@ use Rattle.sheets.proofs.loading.values_in.Statement.{statement}
 use Rattle.sheets.proofs.loading.values_in.Tie as tie
 
 abbrev valuesLeft : ℕ → ℕ → List ℕ → List Value → Part Value
-valuesLeft = leftOf valueLine valueRight valueSays valuesN
+valuesLeft = leftOf valueLines valuesN
 
 abbrev Inv-loop : tie.InvT-loop
 Inv-loop sheet start values₀ at₀ i₀ values at i =
@@ -36,7 +36,7 @@ returns c =
     let turn = told .before .before .before in
     let loop = turn .before .loop in
     let said = ap valueOf (told .before .kept-in .ensures) in
-    let wrong = part-unright valueLine valueRight valueSays valuesN (loop .i) (loop .at) _ (loop .values) _ (turn .loop-test .taken) said
+    let wrong = part-unright valueLines valuesN (loop .i) (loop .at) _ (loop .values) _ (turn .loop-test .taken) said
     (failed (told .kept-right .ensures) (c .before .if1 .taken)) in
     c .wrong-values .ensures ∙ ap valuesAs (sym (loop .inv .3 ∙ wrong))
 
@@ -46,7 +46,7 @@ turned : (c : tie.After-starts Inv-loop μ-loop)
     let told = line .before .before .before in
     let loop = told .before .before .before .loop in
     let sheet = told .before .before .before .before .before .before .args .sheet .now in
-    Turned valueLine valueRight valueSays valuesN (loop .i) (loop .at) sheet (loop .values) (valueOf (told .kept-in .result)) (line .value-line .result .n)
+    Turned valueLines valuesN (loop .i) (loop .at) sheet (loop .values) (valueOf (told .kept-in .result)) (line .value-line .result .n)
     (c .starts .result)
 turned c =
     let line = c .before .before .before .before in
@@ -54,7 +54,7 @@ turned c =
     let told = judged .before in
     let turn = told .before .before in
     let loop = turn .before .loop in
-    part-turned valueLine valueRight valueSays valuesN (loop .i) (loop .at) _ (loop .values) (valueOf (told .kept-in .result)) (turn .loop-test .taken)
+    part-turned valueLines valuesN (loop .i) (loop .at) _ (loop .values) (valueOf (told .kept-in .result)) (turn .loop-test .taken)
     (ap valueOf (told .kept-in .ensures)) (passed (judged .kept-right .ensures) (line .before .if1 .left)) (loop .inv .1) (omega arith)
     (line .value-line .result) (line .value-line .ensures) (kept-few (loop .i) (told .kept-in .result)) (c .starts .ensures)
 
@@ -86,7 +86,7 @@ add-at c =
 returns-3 : tie.Need-returns-3 Inv-loop μ-loop
 returns-3 c =
     let loop = c .before .loop in
-    let done = part-done valueLine valueRight valueSays valuesN (loop .i) (loop .at) _ (loop .values) (omega arith) (loop .inv .2) in
+    let done = part-done valueLines valuesN (loop .i) (loop .at) _ (loop .values) (omega arith) (loop .inv .2) in
     sym (ap valuesAs (loop .inv .3 ∙ done) ∙ values-kept (loop .at) (loop .values) (loop .inv .2))
 
 pub values-in-spec : {M : Type 1} → statement M

@@ -1,12 +1,13 @@
 -- `sheets::playing::play` meets its contract.
-use Prim.Native.Nat.{ℕ}
+use Prim.Native.Nat.{ℕ, _+_}
 use mathlib.Core.Path.{_≡_, refl, sym, ap, _∙_}
-use mathlib.Core.List.{[], _∷_}
+use mathlib.Core.List.{List, [], _∷_}
 use types.Run.{OneOf, miss}
 use denote.Enum.Declared.{tagOf}
 use borrow.Author.Needs.{needs}
 use lib.ListN.{replicate}
-use Rattle.state.specs.Image.{imageOf, encodedIn}
+use Rattle.state.specs.Image.{restN, imageOf, encodedIn}
+use Rattle.state.proofs.Images.{image-100, encoded-fits}
 use Rattle.state.specs.declared.entries.State.{State}
 use Rattle.pieces.specs.Pieces.{pieces}
 use Rattle.sheets.specs.Playing.{Plays}
@@ -34,7 +35,9 @@ out w r er =
     let encode = run .before .before .before in
     let factory = encode .before .before in
     let a = factory .before .before .before .before .args in
-    let first : encode .encode .last .1 .0 ≡ imageOf factoryState = encode .encode .ensures ∙ ap (λ (s : State). encodedIn s (replicate 1039 0)) (factory .factory .ensures) in
+    let room : List ℕ = replicate (20 + restN) 0 in
+    let first : encode .encode .last .1 .0 ≡ imageOf factoryState =
+    encode .encode .ensures ∙ ap (λ (s : State). encodedIn s room) (factory .factory .ensures) ∙ encoded-fits factoryState room (sym image-100) in
     plays-printed (a .input .now) (run .run .last .1 .0) (a .room .now) (w .write .last .1 .0) (w .write .result) r (factory .before .if1 .left)
     (run .run .ensures ∙ ap (runBy (pieces (a .input .now))) first) (w .write .ensures) er
 

@@ -5,6 +5,7 @@ use native.Mathlib.Omega.{arith}
 use borrow.Author.Needs.{needs}
 use lib.ListN.{length, drop, replicate}
 use Rattle.pieces.specs.Pieces.{pieces}
+use Rattle.sheets.specs.Playing.{replyRoom}
 use Rattle.sheets.specs.Keeping.{runBy}
 use Rattle.sheets.proofs.Turns.{run-turn, run-none}
 use Rattle.sheets.proofs.playing.run.Statement.{statement}
@@ -32,7 +33,7 @@ turn : (c : tie.After-reply2 Inv-loop μ-loop)
 turn c =
     let a = c .before .before .before .before .before .before .before .before .before .before in
     let t = c .before .before .before .before .before .before .before in
-    run-turn (a .before .before .before .args .input .now) (a .loop .image) (replicate 306 0) (c .before .before .before .line .last .0) (a .loop .at)
+    run-turn (a .before .before .before .args .input .now) (a .loop .image) (replicate replyRoom 0) (c .before .before .before .line .last .0) (a .loop .at)
     (t .cut .result) (t .before .before .loop-test .taken) refl (t .cut .ensures .0) (c .before .before .before .line .ensures .1 .0)
 
 loop-less : tie.Need-loop-less Inv-loop μ-loop

@@ -10,18 +10,19 @@ use lib.ListN.{length, getD, take, replicate}
 use lib.Seq.{length-take-le, getD-take}
 use Rattle.figures.specs.Rooms.{Puts}
 use Rattle.figures.proofs.Putting.{puts-more, puts-long, puts-within}
-use Rattle.instrument.specs.Settings.{rowsOf, held, settingsN, settingsMost}
+use Rattle.instrument.specs.Settings.{held, settingsN, settingsMost}
 use Rattle.instrument.specs.declared.settings.Series.{Series}
 use Rattle.instrument.proofs.Ranges.{settings-few}
 use Rattle.sheets.specs.Lines.{linesBy}
-use Rattle.sheets.specs.Sheet.{seriesLine, settingLine}
+use Rattle.sheets.specs.Sheet.{seriesLine, settingLines}
+use Rattle.sheets.specs.Keeping.{sheetMost}
 use Rattle.sheets.proofs.Linewise.{lines-none, lines-put, lines-all, line-cut, line-within, sheet-put, setting-few}
 use Rattle.sheets.proofs.writing.put_settings.Statement.{statement}
 use Rattle.sheets.proofs.writing.put_settings.Tie as tie
 
 abbrev Inv-loop : tie.InvT-loop
 Inv-loop series settings count bytes₀ at₀ i₀ bytes at i =
-    (count ≡ settingsN series) × Puts bytes₀ at₀ (linesBy (settingLine (rowsOf series)) 0 (take i (held series settings))) at bytes
+    (count ≡ settingsN series) × Puts bytes₀ at₀ (linesBy (settingLines series) 0 (take i (held series settings))) at bytes
 
 abbrev μ-loop : tie.MeasureT-loop
 μ-loop series settings count bytes₀ at₀ i₀ bytes at i = count - i
@@ -50,7 +51,7 @@ below c = omega (arith, c .loop-test .taken, c .before .loop .inv .0)
 
 -- the first line as it was put
 head-put : (c : tie.After-put Inv-loop μ-loop) → let k = c .before .before .before .before .before .before .args .s .series in
-    Puts (replicate 441 0) 0 (seriesLine k) (c .put .result) (c .put .last .0)
+    Puts (replicate sheetMost 0) 0 (seriesLine k) (c .put .result) (c .put .last .0)
 head-put c = rw (c .before .before .before .before .series-line .ensures) at (c .put .ensures)
 
 loop-holds : tie.Need-loop-holds Inv-loop μ-loop
@@ -58,8 +59,8 @@ loop-holds c =
     let put = c .before .put in
     let s = c .before .before .before .before .before .before .before .args .s in (
       c .before .before .before .before .settings-of .ensures,
-      lines-none (settingLine (rowsOf (s .series))) (put .last .0) (put .result) (held (s .series) (s .settings))
-          (puts-within (replicate 441 0) 0 (seriesLine (s .series)) (head-put (c .before))),
+      lines-none (settingLines (s .series)) (put .last .0) (put .result) (held (s .series) (s .settings))
+          (puts-within (replicate sheetMost 0) 0 (seriesLine (s .series)) (head-put (c .before))),
     )
 
 array-read-setting-line : tie.Need-array-read-setting-line Inv-loop μ-loop
@@ -68,14 +69,14 @@ array-read-setting-line c = omega (arith, below c, settings-few (of (c .before))
 slice-aggregate-put-3 : tie.Need-slice-aggregate-put-3 Inv-loop μ-loop
 slice-aggregate-put-3 c =
     let at = c .before .before .before .before in
-    sym (puts-long _ _ _ (at .loop .inv .1) ∙ puts-long (replicate 441 0) 0 (seriesLine (of at)) (head-put (at .before .before)))
+    sym (puts-long _ _ _ (at .loop .inv .1) ∙ puts-long (replicate sheetMost 0) 0 (seriesLine (of at)) (head-put (at .before .before)))
 
 part-put-end : tie.Need-part-put-end Inv-loop μ-loop
 part-put-end c =
     let line = c .before .before .before in
     let at = line .before .before in
     let p = getD (start at .args .s .settings) (at .loop .i) 0 in
-    omega (arith, line-within (settingLine (rowsOf (of at)) (at .loop .i) p) (line .setting-line .result) (line .setting-line .ensures))
+    omega (arith, line-within (settingLines (of at) .write (at .loop .i) p) (line .setting-line .result) (line .setting-line .ensures))
 
 loop-again : tie.Need-loop-again Inv-loop μ-loop
 loop-again c =
@@ -90,9 +91,9 @@ loop-again c =
     let inside : i < length (own at) = omega (arith, own-long at, below turn) in
     let same : getD (own at) i 0 ≡ p = getD-take (settingsN k) settings i 0 (below turn) in
     let small : p < 1000 = omega (arith, byte (start at) i .fits) in
-    let cut = line-cut (settingLine (rowsOf k) i p) (line .setting-line .result) (omega (arith, setting-few k i p small)) (line .setting-line .ensures) in (
+    let cut = line-cut (settingLines k .write i p) (line .setting-line .result) (omega (arith, setting-few k i p small)) (line .setting-line .ensures) in (
       at .loop .inv .0,
-      lines-put (settingLine (rowsOf k)) (put .last .0) (put .result) (own at) i 0 inside (cut ∙ ap (settingLine (rowsOf k) i) (sym same)) (at .loop .inv .1)
+      lines-put (settingLines k) (put .last .0) (put .result) (own at) i 0 inside (cut ∙ ap (settingLines k .write i) (sym same)) (at .loop .inv .1)
           (c .before .put2 .ensures),
     )
 
@@ -102,9 +103,9 @@ returns c =
     let k = of at in
     let put = at .before .before .put in
     let past : length (own at) ≤ at .loop .i = omega (arith, own-long at, c .loop-test .left, at .loop .inv .0) in
-    let lines = lines-all (settingLine (rowsOf k)) (put .last .0) (put .result) (own at) (at .loop .i) past (at .loop .inv .1) in
-    let text = linesBy (settingLine (rowsOf k)) 0 (own at) in
-    sheet-put (seriesLine k ++ text) (puts-more (replicate 441 0) 0 (seriesLine k) text (head-put (at .before .before)) lines)
+    let lines = lines-all (settingLines k) (put .last .0) (put .result) (own at) (at .loop .i) past (at .loop .inv .1) in
+    let text = linesBy (settingLines k) 0 (own at) in
+    sheet-put (seriesLine k ++ text) (puts-more (replicate sheetMost 0) 0 (seriesLine k) text (head-put (at .before .before)) lines)
 
 pub put-settings-spec : {M : Type 1} → statement M
 put-settings-spec =

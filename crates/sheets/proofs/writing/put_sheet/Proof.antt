@@ -7,21 +7,21 @@ use borrow.Author.Needs.{needs}
 use lib.ListN.{length, getD, take, replicate}
 use Rattle.figures.specs.Rooms.{Puts}
 use Rattle.figures.proofs.Putting.{puts-more, puts-long, puts-within}
-use Rattle.instrument.specs.Settings.{rowsOf, held}
+use Rattle.instrument.specs.Settings.{held}
 use Rattle.state.specs.Entries.{valueOf}
 use Rattle.instrument.specs.Values.{valuesN}
 use Rattle.instrument.specs.declared.values.Kept.{Kept}
 use Rattle.instrument.specs.declared.values.Kept.the-variants.{Never}
 use Rattle.instrument.proofs.Ranges.{unmapped}
 use Rattle.sheets.specs.Lines.{linesBy}
-use Rattle.sheets.specs.Sheet.{seriesLine, settingLine, keptLine, valueLine}
-use Rattle.sheets.specs.Keeping.{sheetAs}
+use Rattle.sheets.specs.Sheet.{seriesLine, settingLines, keptLine, valueLines}
+use Rattle.sheets.specs.Keeping.{sheetMost, sheetAs}
 use Rattle.sheets.proofs.Linewise.{lines-none, lines-put, lines-all, line-cut, line-within, sheet-put, put-sheet, kept-few, sheet-halves}
 use Rattle.sheets.proofs.writing.put_sheet.Statement.{statement}
 use Rattle.sheets.proofs.writing.put_sheet.Tie as tie
 
 abbrev Inv-loop : tie.InvT-loop
-Inv-loop values bytes₀ at₀ i₀ bytes at i = Puts bytes₀ at₀ (linesBy valueLine 0 (take i values)) at bytes
+Inv-loop values bytes₀ at₀ i₀ bytes at i = Puts bytes₀ at₀ (linesBy valueLines 0 (take i values)) at bytes
 
 abbrev μ-loop : tie.MeasureT-loop
 μ-loop values bytes₀ at₀ i₀ bytes at i = valuesN - i
@@ -34,16 +34,16 @@ all c = search (needs, unmapped)
 abbrev front : (c : tie.After-put-settings Inv-loop μ-loop) → List ℕ
 front c =
     let s = c .before .args .s in
-    seriesLine (s .series) ++ linesBy (settingLine (rowsOf (s .series))) 0 (held (s .series) (s .settings))
+    seriesLine (s .series) ++ linesBy (settingLines (s .series)) 0 (held (s .series) (s .settings))
 
-front-put : (c : tie.After-put-settings Inv-loop μ-loop) → Puts (replicate 441 0) 0 (front c) (c .put-settings .result .n) (c .put-settings .result .bytes)
+front-put : (c : tie.After-put-settings Inv-loop μ-loop) → Puts (replicate sheetMost 0) 0 (front c) (c .put-settings .result .n) (c .put-settings .result .bytes)
 front-put c = put-sheet (front c) (c .put-settings .result) (c .put-settings .ensures)
 
 loop-holds : tie.Need-loop-holds Inv-loop μ-loop
 loop-holds c =
     let at = c .before .before in
     let start = at .put-settings .result in
-    lines-none valueLine (start .bytes) (start .n) (at .before .args .s .values) (puts-within (replicate 441 0) 0 (front at) (front-put at))
+    lines-none valueLines (start .bytes) (start .n) (at .before .args .s .values) (puts-within (replicate sheetMost 0) 0 (front at) (front-put at))
 
 -- the value of a turn
 
@@ -54,7 +54,7 @@ slice-aggregate-put : tie.Need-slice-aggregate-put Inv-loop μ-loop
 slice-aggregate-put c =
     let at = c .before .before .before .before .before in
     let start = at .before .before .before in
-    sym (puts-long _ _ _ (at .loop .inv) ∙ puts-long (replicate 441 0) 0 (front start) (front-put start))
+    sym (puts-long _ _ _ (at .loop .inv) ∙ puts-long (replicate sheetMost 0) 0 (front start) (front-put start))
 
 part-put-end : tie.Need-part-put-end Inv-loop μ-loop
 part-put-end c =
@@ -73,7 +73,7 @@ loop-again c =
     let i = at .loop .i in
     let inside : i < length values = omega (arith, all (start .before), turn .loop-test .taken) in
     let cut = line-cut (keptLine i (kept turn)) (line .value-line .result) (kept-few i (kept turn)) (line .value-line .ensures) in
-    lines-put valueLine (first .bytes) (first .n) values i (valueOf Never) inside cut (at .loop .inv) (c .before .put .ensures)
+    lines-put valueLines (first .bytes) (first .n) values i (valueOf Never) inside cut (at .loop .inv) (c .before .put .ensures)
 
 returns : tie.Need-returns Inv-loop μ-loop
 returns c =
@@ -82,9 +82,9 @@ returns c =
     let s = start .before .args .s in
     let first = start .put-settings .result in
     let past : length (s .values) ≤ at .loop .i = omega (arith, all (start .before), c .loop-test .left) in
-    let lines = lines-all valueLine (first .bytes) (first .n) (s .values) (at .loop .i) past (at .loop .inv) in
-    let text = linesBy valueLine 0 (s .values) in
-    sheet-put (front start ++ text) (puts-more (replicate 441 0) 0 (front start) text (front-put start) lines) ∙ ap sheetAs (sheet-halves s)
+    let lines = lines-all valueLines (first .bytes) (first .n) (s .values) (at .loop .i) past (at .loop .inv) in
+    let text = linesBy valueLines 0 (s .values) in
+    sheet-put (front start ++ text) (puts-more (replicate sheetMost 0) 0 (front start) text (front-put start) lines) ∙ ap sheetAs (sheet-halves s)
 
 pub put-sheet-spec : {M : Type 1} → statement M
 put-sheet-spec =

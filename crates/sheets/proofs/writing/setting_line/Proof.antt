@@ -6,6 +6,7 @@ use lib.ListN.{length, replicate}
 use Rattle.figures.specs.Decimal.{decimalOf}
 use Rattle.instrument.specs.Settings.{rowAt}
 use Rattle.sheets.specs.Sheet.{settingKey}
+use Rattle.sheets.specs.Keeping.{lineMost}
 use Rattle.sheets.proofs.Keyed.{key-most, setting-key-put}
 use Rattle.sheets.proofs.Linewise.{line-put}
 use Rattle.sheets.proofs.writing.setting_line.Statement.{statement}
@@ -25,7 +26,7 @@ returns c =
     let long = key .before .before .before .before in
     let row = long .before in
     let a = row .before .args in
-    let keyed = setting-key-put (a .series) (a .place) (long .key-length .result) (row .key-at .result) (replicate 20 0) 0 (row .key-at .ensures)
+    let keyed = setting-key-put (a .series) (a .place) (long .key-length .result) (row .key-at .result) (replicate lineMost 0) 0 (row .key-at .ensures)
     (long .key-length .ensures) (key .put .ensures) in
     line-put (settingKey (rowAt (a .series) (a .place))) (decimalOf (a .parameter)) keyed
     (rw (number .before .wide .ensures) at (number .put-decimal .ensures)) (end .put2 .ensures)

@@ -7,6 +7,7 @@ use lib.ListN.{replicate}
 use Rattle.figures.specs.Rooms.{Puts}
 use Rattle.figures.proofs.Putting.{puts-as, puts-nothing, puts-long, puts-within}
 use Rattle.sheets.specs.Sheet.{charactersOf, valueKey}
+use Rattle.sheets.specs.Keeping.{lineMost}
 use Rattle.sheets.proofs.Keyed.{key-most, value-key-put}
 use Rattle.sheets.proofs.Linewise.{line-put, characters-cut}
 use Rattle.sheets.proofs.writing.value_line.Statement.{statement}
@@ -14,15 +15,15 @@ use Rattle.sheets.proofs.writing.value_line.Tie as tie
 
 part-put-end : tie.Need-part-put-end
 part-put-end c =
-    let key = c .before .before .before .before .stored-at .result .3 in
+    let key = c .before .before .before .before .stored-at .result .key in
     omega (arith, c .before .before .key-length .ensures, key-most key, length-unmapped _ key 5 (search needs))
 
 key-put : (c : tie.After-put)
-    → Puts (replicate 20 0) 0 (valueKey (c .before .before .before .before .before .before .before .args .place)) (c .put .result) (c .put .last .0)
+    → Puts (replicate lineMost 0) 0 (valueKey (c .before .before .before .before .before .before .before .args .place)) (c .put .result) (c .put .last .0)
 key-put c =
     let length = c .before .before .before .before in
     let row = length .before .before in
-    value-key-put (row .before .args .place) (length .key-length .result) (row .stored-at .result) (replicate 20 0) 0 (row .stored-at .ensures)
+    value-key-put (row .before .args .place) (length .key-length .result) (row .stored-at .result) (replicate lineMost 0) 0 (row .stored-at .ensures)
     (length .key-length .ensures) (c .put .ensures)
 
 -- by either arm the characters were put
@@ -36,14 +37,14 @@ characters c =
     ⊎-elim
     (λ w. puts-as _ _ _ _ (characters-cut (a .place) (a .kept) (w .2 .result) (w .1 .given .1) (w .2 .ensures)) (w .8) (w .9) (w .6 .ensures))
     (λ w. puts-as _ _ _ _ (ap (charactersOf (a .place)) (w .1 .given .1)) (w .2) (w .3)
-    (puts-nothing _ _ (puts-within (replicate 20 0) 0 (valueKey (a .place)) (key-put key))))
+    (puts-nothing _ _ (puts-within (replicate lineMost 0) 0 (valueKey (a .place)) (key-put key))))
     (c .match .came)
 
 slice-aggregate-put-3 : tie.Need-slice-aggregate-put-3
 slice-aggregate-put-3 c =
     let key = c .before .before .before in
     let a = key .before .before .before .before .before .before .before .args in
-    sym (puts-long _ _ (charactersOf (a .place) (a .kept)) (characters (c .before)) ∙ puts-long (replicate 20 0) 0 (valueKey (a .place)) (key-put key))
+    sym (puts-long _ _ (charactersOf (a .place) (a .kept)) (characters (c .before)) ∙ puts-long (replicate lineMost 0) 0 (valueKey (a .place)) (key-put key))
 
 returns : tie.Need-returns
 returns c =

@@ -6,7 +6,8 @@ use native.Mathlib.Nat.{sub-zero}
 use native.Mathlib.Omega.{arith}
 use borrow.Author.Needs.{needs}
 use lib.ListN.{drop, length}
-use Rattle.state.specs.Entries.{entriesN, blankEntry, entriesRight}
+use Rattle.state.specs.Entries.{entriesN, blankEntry}
+use Rattle.state.specs.Keeping.{entriesRight}
 use Rattle.state.proofs.Standing.{stand-more, stand-not, blank-more, blank-not, entries-all}
 use Rattle.figures.proofs.Tests.{passed, failed}
 use Rattle.state.proofs.entries.entries_right.Statement.{statement}

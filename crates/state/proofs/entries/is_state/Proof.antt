@@ -1,15 +1,17 @@
 -- `is_state` meets its contract.
-use mathlib.Core.Path.{_≡_}
+use mathlib.Core.Path.{_≡_, _∙_}
 use mathlib.Core.Bool.{Bool, _&&_}
 use borrow.Author.Needs.{needs}
 use borrow.Author.Tests.{le-leb, lt-leb, eq-eqb}
 use lib.ListN.{length}
-use Rattle.instrument.specs.Settings.{places, inRanges}
-use Rattle.state.specs.Entries.{entriesN, putsOf, valuesRight, entriesRight, sound, isState}
+use Rattle.instrument.specs.Settings.{heldRows, inRanges}
+use Rattle.state.specs.Entries.{entriesN, valuesRight, isState}
+use Rattle.state.specs.Keeping.{putsOf, entriesRight, sound}
 use Rattle.state.specs.declared.entries.State.{State}
 use Rattle.instrument.specs.Values.{valuesN}
 use Rattle.instrument.proofs.Ranges.{unmapped}
 use Rattle.figures.proofs.Tests.{passed, failed}
+use Rattle.state.proofs.Judging.{state-by}
 use Rattle.state.proofs.entries.is_state.Statement.{statement}
 use Rattle.state.proofs.entries.is_state.Tie as tie
 
@@ -21,12 +23,12 @@ abbrev byValues : State → Bool
 byValues s = valuesRight 0 (s .values) && byEntries s
 
 -- the count is no more than there are entries
-few : (c : tie.Else1) → let s = c .before .before .before .before .args .s in isState s ≡ inRanges (places (s .series)) (s .settings) && byValues s
+few : (c : tie.Else1) → let s = c .before .before .before .before .args .s in isState s ≡ inRanges (heldRows (s .series)) (s .settings) && byValues s
 few c =
     let s = c .before .before .before .before .args .s in
     let hv : length (s .values) ≡ valuesN = search (needs, unmapped) in
     let hu : length (s .undo) ≡ entriesN = search (needs, unmapped) in
-    rw (eq-eqb _ valuesN hv, eq-eqb _ entriesN hu, le-leb _ entriesN (c .if1 .left))
+    state-by s ∙ rw (eq-eqb _ valuesN hv, eq-eqb _ entriesN hu, le-leb _ entriesN (c .if1 .left))
 
 -- the settings are right
 ranged : (c : tie.Else2) → let s = c .before .before .before .before .before .before .args .s in isState s ≡ byValues s

@@ -8,7 +8,8 @@ use lib.ListN.{take, length, length-set}
 use Rattle.instrument.specs.declared.values.Value.{Value}
 use Rattle.instrument.specs.declared.values.Kept.the-variants.{Never}
 use Rattle.instrument.specs.Values.{isPut, valuesN}
-use Rattle.state.specs.Entries.{valueOf, putsOf}
+use Rattle.state.specs.Entries.{valueOf}
+use Rattle.state.specs.Keeping.{putsOf}
 use Rattle.instrument.proofs.Ranges.{map-more, map-all}
 use Rattle.state.proofs.entries.puts_of.Statement.{statement}
 use Rattle.state.proofs.entries.puts_of.Tie as tie

@@ -9,13 +9,14 @@ use denote.Enum.Declared.{tagOf}
 use borrow.Author.Needs.{needs}
 use borrow.Author.Tests.{lt-ltb, le-ltb, not-true, not-false}
 use lib.ListN.{length, length-set, getD}
-use Rattle.state.specs.Entries.{entriesN, backRight, putsBack, sound}
+use Rattle.state.specs.Entries.{entriesN}
+use Rattle.state.specs.Keeping.{backRight, putsBack, sound}
 use Rattle.instrument.specs.Values.{valuesN}
 use Rattle.instrument.specs.declared.values.Kept.{Kept}
 use Rattle.state.specs.declared.entries.Item.{Item}
 use Rattle.state.specs.declared.entries.Item.the-variants.{Free, Setting, Stored}
 use Rattle.state.proofs.entries.Item.{the-type}
-use Rattle.state.proofs.Standing.{newest, sound-more, sound-not, sound-none}
+use Rattle.state.proofs.Standing.{newestOf, sound-more, sound-not, sound-none}
 use Rattle.state.proofs.entries.sound_back.Statement.{statement}
 use Rattle.state.proofs.entries.sound_back.Tie as tie
 
@@ -40,7 +41,7 @@ returns c =
     let at = turn .before .loop in
     let start = turn .before .before in
     let u = start .before .args .t2 in
-    let wrong : backRight (at .puts) (newest u (at .n) .item) ≡ false =
+    let wrong : backRight (at .puts) (newestOf u (at .n) .item) ≡ false =
     rw (named .before .before .item .given .1, le-ltb _ valuesN (rw (named .place-of .ensures) at (c .if1 .taken)))
     in
     sym (rw (start .puts-of .ensures) at (at .inv .2 ∙ sound-not (at .n) (at .puts) u (turn .loop-test .taken) wrong))
@@ -54,7 +55,7 @@ returns-2 c =
     let start = turn .before .before in
     let u = start .before .args .t2 in
     let unput = not-true (getD (at .puts) (named .place-of .result) false) (c .if2 .taken) in
-    let wrong : backRight (at .puts) (newest u (at .n) .item) ≡ false =
+    let wrong : backRight (at .puts) (newestOf u (at .n) .item) ≡ false =
     rw (named .before .before .item .given .1, lt-ltb _ valuesN (rw is at (c .before .if1 .left))) (rw is at unput)
     in
     sym (rw (start .puts-of .ensures) at (at .inv .2 ∙ sound-not (at .n) (at .puts) u (turn .loop-test .taken) wrong))
@@ -68,7 +69,7 @@ loop-again c =
     let at = turn .before .loop in
     let u = turn .before .before .before .args .t2 in
     let put = not-false (getD (at .puts) (named .place-of .result) false) (c .before .if2 .left) in
-    let right : backRight (at .puts) (newest u (at .n) .item) ≡ true =
+    let right : backRight (at .puts) (newestOf u (at .n) .item) ≡ true =
     rw (item, lt-ltb _ valuesN (rw is at (c .before .before .if1 .left))) (rw is at put)
     in (
       omega arith,
@@ -81,7 +82,7 @@ loop-again-2 c =
     let turn = c .before .before .before in
     let at = turn .before .loop in
     let u = turn .before .before .before .args .t2 in
-    let e = newest u (at .n) in
+    let e = newestOf u (at .n) in
     let other = rest (e .item) (c .match .keys2) (at .puts) (e .former .kept) in
     let more = sound-more (at .n) (at .puts) u (turn .loop-test .taken) (other .0) in
     (omega arith, at .inv .1, at .inv .2 ∙ more ∙ ap (λ (p : List Bool). sound (at .n - 1) p u) (other .1))

@@ -15,10 +15,10 @@ use Rattle.instrument.specs.Settings.{settingsMost}
 use Rattle.instrument.specs.declared.settings.Series.{Series}
 use Rattle.instrument.proofs.Ranges.{settings-few}
 use Rattle.state.specs.Entries.{isState}
-use Rattle.state.specs.Image.{restN, imageN, imageOf, encodedIn, seriesIn, stateAs, stateIn, isImage}
+use Rattle.state.specs.Image.{restN, imageN, imageOf, encodedIn, seriesIn, stateAsOf, stateAs, stateIn, isImage}
 use Rattle.state.specs.declared.entries.State.{State}
 use Rattle.figures.proofs.Tests.{passed, failed}
-use Rattle.state.proofs.Images.{refused, accepted}
+use Rattle.state.proofs.Images.{encoded-fits, refused, accepted}
 use Rattle.state.proofs.image.decode.Statement.{statement}
 use Rattle.state.proofs.image.decode.Tie as tie
 
@@ -52,13 +52,13 @@ module _ (l again : List ℕ) (s : State) (ea : again ≡ imageOf s) (es : s ≡
 
 -- a room as long as the image of that series is filled whole
 series-as : (k : Series) (l : List ℕ) → stateAs k l .series ≡ k
-unfolding stateAs
+unfolding stateAsOf
 series-as k l = refl
 
 encoded : (k : Series) (l room last : List ℕ) (s : State) → s ≡ stateAs k l → length room ≡ imageN k → last ≡ encodedIn s room → last ≡ imageOf s
 encoded k l room last s es hl e =
     let ek : s .series ≡ k = ap (λ (t : State). t .series) es ∙ series-as k l in
-    e ∙ rw (eq-eqb (length room) (imageN (s .series)) (hl ∙ ap imageN (sym ek)))
+    e ∙ encoded-fits s room (hl ∙ ap imageN (sym ek))
 
 -- the longest image there is
 abbrev most : ℕ
@@ -115,50 +115,20 @@ again-is c =
     take-at last (postOf 0 (part-long c) longest) (part-long c) (c .encode .kept .1 .0 ∙ lent-long c)
     ∙ encoded k (bytes (sized c)) (lent c) last (candidate c) (c .before .before .state-in .ensures) long (c .encode .ensures)
 
-blank-state-requires : tie.Need-blank-state-requires
-blank-state-requires c κs = search needs
-
-series-in-requires : tie.Need-series-in-requires
-series-in-requires c κs = search needs
-
-image-size-requires : tie.Need-image-size-requires
-image-size-requires c κs = search needs
-
 returns : tie.Need-returns
 returns c =
     let b = c .before .before .before .blank-state in
     let l = bytes (c .before) in
     refused l (b .result) (b .ensures) (not-long l (λ h. c .if1 .taken (h ∙ sym (sized-by (c .before)))))
 
-state-in-requires : tie.Need-state-in-requires
-state-in-requires c κs = search needs
-
-sub-encode : tie.Need-sub-encode
-sub-encode c = search needs
-
-part-again-start : tie.Need-part-again-start
-part-again-start c = search needs
-
 part-again-end : tie.Need-part-again-end
 part-again-end c = few (c .before .before)
-
-encode-requires : tie.Need-encode-requires
-encode-requires c κs = search needs
-
-sub-same : tie.Need-sub-same
-sub-same c = search needs
-
-part-same-start : tie.Need-part-same-start
-part-same-start c = search needs
 
 part-same-end : tie.Need-part-same-end
 part-same-end c =
     let laid = c .before .before in
     let same = same-len-mid 0 (part-long laid) longest (laid .encode .last .1 .0) (laid .encode .kept .1 .0) in
     omega (arith, few (sized laid), same)
-
-same-requires : tie.Need-same-requires
-same-requires c κs = search needs
 
 returns-2 : tie.Need-returns-2
 returns-2 c =
@@ -167,9 +137,6 @@ returns-2 c =
     let l = bytes (sized laid) in
     let differs = failed (c .before .same .ensures) (c .if2 .taken) in
     refused l (b .result) (b .ensures) (not-same l (again-of laid) (candidate laid) (again-is laid) (candidate-is laid) differs)
-
-is-state-requires : tie.Need-is-state-requires
-is-state-requires c κs = search needs
 
 returns-3 : tie.Need-returns-3
 returns-3 c =
@@ -194,20 +161,20 @@ pub decode-spec : {M : Type 1} → statement M
 decode-spec =
     tie.close
     (tie.spec
-    blank-state-requires
-    series-in-requires
-    image-size-requires
+    (λ c κs. search needs)
+    (λ c κs. search needs)
+    (λ c κs. search needs)
     returns
-    state-in-requires
-    sub-encode
-    part-again-start
+    (λ c κs. search needs)
+    (λ c. search needs)
+    (λ c. search needs)
     part-again-end
-    encode-requires
-    sub-same
-    part-same-start
+    (λ c κs. search needs)
+    (λ c. search needs)
+    (λ c. search needs)
     part-same-end
-    same-requires
+    (λ c κs. search needs)
     returns-2
-    is-state-requires
+    (λ c κs. search needs)
     returns-3
     returns-4)

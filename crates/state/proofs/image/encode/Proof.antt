@@ -82,46 +82,19 @@ laid-same c = same-len-mid 1 (at-of (formed c) - 1) (room (formed c)) (c .lay .l
 laid-long : (c : tie.After-lay) → length (with-settings c) ≡ at-of (formed c) + restN
 laid-long c = laid-same c ∙ room-long (formed c)
 
-image-size-requires : tie.Need-image-size-requires
-image-size-requires c κs = search needs
-
 returns : tie.Need-returns
 returns c =
     let a = c .before .before .before .args in
     rw (ne-eqb (length (a .image .now)) (imageN (a .s .series)) (λ h. c .if1 .taken (h ∙ sym (c .before .image-size .ensures))))
 
-values-at-requires : tie.Need-values-at-requires
-values-at-requires c κs = search needs
-
-form-of-requires : tie.Need-form-of-requires
-form-of-requires c κs = search needs
-
-slice-write-image : tie.Need-slice-write-image
-slice-write-image c = search needs
-
-slice-aggregate-lay : tie.Need-slice-aggregate-lay
-slice-aggregate-lay c = search needs
-
-sub-lay : tie.Need-sub-lay
-sub-lay c = search needs
-
-part-lay-start : tie.Need-part-lay-start
-part-lay-start c = search needs
-
 part-lay-end : tie.Need-part-lay-end
 part-lay-end c = omega (arith, room-long (c .before))
-
-lay-requires : tie.Need-lay-requires
-lay-requires c κs = search needs
 
 sub-put-rest : tie.Need-sub-put-rest
 sub-put-rest c = omega (arith, laid-long (c .before .before))
 
 part-put-rest-start : tie.Need-part-put-rest-start
 part-put-rest-start c = omega (arith, laid-long (c .before .before))
-
-part-put-rest-end : tie.Need-part-put-rest-end
-part-put-rest-end c = search needs
 
 put-rest-requires : tie.Need-put-rest-requires
 put-rest-requires c κs =
@@ -161,19 +134,19 @@ pub encode-spec : {M : Type 1} → statement M
 encode-spec =
     tie.close
     (tie.spec
-    image-size-requires
+    (λ c κs. search needs)
     returns
-    values-at-requires
-    form-of-requires
-    slice-write-image
-    slice-aggregate-lay
-    sub-lay
-    part-lay-start
+    (λ c κs. search needs)
+    (λ c κs. search needs)
+    (λ c. search needs)
+    (λ c. search needs)
+    (λ c. search needs)
+    (λ c. search needs)
     part-lay-end
-    lay-requires
+    (λ c κs. search needs)
     sub-put-rest
     part-put-rest-start
-    part-put-rest-end
+    (λ c. search needs)
     put-rest-requires
     same-length
     returns-2)

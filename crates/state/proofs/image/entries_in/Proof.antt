@@ -17,43 +17,13 @@ Inv-loop s undo₀ i₀ undo i = (length undo ≡ entriesN) × ((i ≤ entriesN)
 abbrev μ-loop : tie.MeasureT-loop
 μ-loop s undo₀ i₀ undo i = entriesN - i
 
-blank-entry-requires : tie.Need-blank-entry-requires Inv-loop μ-loop
-blank-entry-requires c κs = tt
-
 loop-holds : tie.Need-loop-holds Inv-loop μ-loop
 loop-holds c = (search needs, (omega arith, sym (rows-none entryIn 14 _)))
-
-mul-a : tie.Need-mul-a Inv-loop μ-loop
-mul-a c = omega arith
-
-add-z : tie.Need-add-z Inv-loop μ-loop
-add-z c = omega arith
-
-sub-entry-in : tie.Need-sub-entry-in Inv-loop μ-loop
-sub-entry-in c = omega arith
-
-part-entry-in-start : tie.Need-part-entry-in-start Inv-loop μ-loop
-part-entry-in-start c = omega arith
-
-part-entry-in-end : tie.Need-part-entry-in-end Inv-loop μ-loop
-part-entry-in-end c = omega arith
 
 entry-in-requires : tie.Need-entry-in-requires Inv-loop μ-loop
 entry-in-requires c κs =
     let i = c .before .before .loop .i in
     row-long 14 (i * 14) (c .before .before .before .before .before .args .s .now) (omega arith)
-
-mul-undo : tie.Need-mul-undo Inv-loop μ-loop
-mul-undo c = omega arith
-
-array-set-from-undo : tie.Need-array-set-from-undo Inv-loop μ-loop
-array-set-from-undo c = omega arith
-
-add-i : tie.Need-add-i Inv-loop μ-loop
-add-i c = omega arith
-
-loop-less : tie.Need-loop-less Inv-loop μ-loop
-loop-less c = omega arith
 
 loop-again : tie.Need-loop-again Inv-loop μ-loop
 loop-again c =
@@ -74,17 +44,17 @@ entries-in-spec =
     (tie.spec
     Inv-loop
     μ-loop
-    blank-entry-requires
+    (λ c κs. tt)
     loop-holds
-    mul-a
-    add-z
-    sub-entry-in
-    part-entry-in-start
-    part-entry-in-end
+    (λ c. omega arith)
+    (λ c. omega arith)
+    (λ c. omega arith)
+    (λ c. omega arith)
+    (λ c. omega arith)
     entry-in-requires
-    mul-undo
-    array-set-from-undo
-    add-i
-    loop-less
+    (λ c. omega arith)
+    (λ c. omega arith)
+    (λ c. omega arith)
+    (λ c. omega arith)
     loop-again
     returns)

@@ -4,12 +4,6 @@ use Rattle.state.specs.Image.{keptBytes}
 use Rattle.state.proofs.image.kept_bytes.Statement.{statement}
 use Rattle.state.proofs.image.kept_bytes.Tie as tie
 
-enum-told : tie.Need-enum-told
-enum-told c = search needs
-
-enum-known-kept : tie.Need-enum-known-kept
-enum-known-kept c = search needs
-
 returns : tie.Need-returns
 unfolding keptBytes
 returns c = rw (c .enum-told .given .1)
@@ -19,4 +13,4 @@ unfolding keptBytes
 returns-2 c = rw (c .before .kept .given .1)
 
 pub kept-bytes-spec : {M : Type 1} → statement M
-kept-bytes-spec = tie.close (tie.spec enum-told enum-known-kept returns returns-2)
+kept-bytes-spec = tie.close (tie.spec (λ c. search needs) (λ c. search needs) returns returns-2)

@@ -20,42 +20,6 @@ abbrev μ-loop : tie.MeasureT-loop
 loop-holds : tie.Need-loop-holds Inv-loop μ-loop
 loop-holds c = (refl, (omega arith, sym (flat-none entryBytes)))
 
-mul-entry : tie.Need-mul-entry Inv-loop μ-loop
-mul-entry c = omega arith
-
-array-copy-out-entry : tie.Need-array-copy-out-entry Inv-loop μ-loop
-array-copy-out-entry c = omega arith
-
-entry-bytes-requires : tie.Need-entry-bytes-requires Inv-loop μ-loop
-entry-bytes-requires c κs = tt
-
-mul-a : tie.Need-mul-a Inv-loop μ-loop
-mul-a c = omega arith
-
-add-z : tie.Need-add-z Inv-loop μ-loop
-add-z c = omega arith
-
-slice-aggregate-lay : tie.Need-slice-aggregate-lay Inv-loop μ-loop
-slice-aggregate-lay c = search needs
-
-sub-lay : tie.Need-sub-lay Inv-loop μ-loop
-sub-lay c = omega arith
-
-part-lay-start : tie.Need-part-lay-start Inv-loop μ-loop
-part-lay-start c = omega arith
-
-part-lay-end : tie.Need-part-lay-end Inv-loop μ-loop
-part-lay-end c = omega arith
-
-lay-requires : tie.Need-lay-requires Inv-loop μ-loop
-lay-requires c κs = tt
-
-add-i : tie.Need-add-i Inv-loop μ-loop
-add-i c = omega arith
-
-loop-less : tie.Need-loop-less Inv-loop μ-loop
-loop-less c = omega arith
-
 loop-again : tie.Need-loop-again Inv-loop μ-loop
 loop-again c =
     let at = c .before .before .before .before .before .before .before .before .loop in
@@ -86,18 +50,18 @@ put-entries-spec =
     Inv-loop
     μ-loop
     loop-holds
-    mul-entry
-    array-copy-out-entry
-    entry-bytes-requires
-    mul-a
-    add-z
-    slice-aggregate-lay
-    sub-lay
-    part-lay-start
-    part-lay-end
-    lay-requires
-    add-i
-    loop-less
+    (λ c. omega arith)
+    (λ c. omega arith)
+    (λ c κs. tt)
+    (λ c. omega arith)
+    (λ c. omega arith)
+    (λ c. search needs)
+    (λ c. omega arith)
+    (λ c. omega arith)
+    (λ c. omega arith)
+    (λ c κs. tt)
+    (λ c. omega arith)
+    (λ c. omega arith)
     loop-again
     same-length
     returns)

@@ -58,49 +58,16 @@ valued-long c = long-2 (lent c) (c .put-values .last .1 .0) (c .put-values .kept
 counted-long : (c : tie.After-put-values) (h l : ℕ) → length (in-3 (lent c) (c .put-values .last .1 .0) h l) ≡ length (lent c)
 counted-long c h l = long-3 (lent c) (c .put-values .last .1 .0) h l (c .put-values .kept .1 .0)
 
-sub-put-values : tie.Need-sub-put-values
-sub-put-values c = search needs
-
-part-put-values-start : tie.Need-part-put-values-start
-part-put-values-start c = search needs
-
-part-put-values-end : tie.Need-part-put-values-end
-part-put-values-end c = search needs
-
-put-values-requires : tie.Need-put-values-requires
-put-values-requires c κs = search needs
-
-cast-out : tie.Need-cast-out
-cast-out c = search needs
-
-slice-write-out : tie.Need-slice-write-out
-slice-write-out c = search needs
-
-cast-out-2 : tie.Need-cast-out-2
-cast-out-2 c = search needs
-
-add-out : tie.Need-add-out
-add-out c = search needs
-
 slice-write-out-2 : tie.Need-slice-write-out-2
 slice-write-out-2 c =
     let at = c .before .before in
     simp length-set (omega (arith, start at .pre, valued-long at))
-
-sub-put-entries : tie.Need-sub-put-entries
-sub-put-entries c = search needs
-
-part-put-entries-start : tie.Need-part-put-entries-start
-part-put-entries-start c = search needs
 
 part-put-entries-end : tie.Need-part-put-entries-end
 part-put-entries-end c =
     let at = c .before .before in
     let n = start at .args .count in
     omega (arith, start at .pre, counted-long at (n / 256 % 256) (n % 256))
-
-put-entries-requires : tie.Need-put-entries-requires
-put-entries-requires c κs = search needs
 
 same-length : tie.Need-same-length
 same-length c =
@@ -125,18 +92,18 @@ pub put-rest-spec : {M : Type 1} → statement M
 put-rest-spec =
     tie.close
     (tie.spec
-    sub-put-values
-    part-put-values-start
-    part-put-values-end
-    put-values-requires
-    cast-out
-    slice-write-out
-    cast-out-2
-    add-out
+    (λ c. search needs)
+    (λ c. search needs)
+    (λ c. search needs)
+    (λ c κs. search needs)
+    (λ c. search needs)
+    (λ c. search needs)
+    (λ c. search needs)
+    (λ c. search needs)
     slice-write-out-2
-    sub-put-entries
-    part-put-entries-start
+    (λ c. search needs)
+    (λ c. search needs)
     part-put-entries-end
-    put-entries-requires
+    (λ c κs. search needs)
     same-length
     returns)

@@ -22,42 +22,6 @@ abbrev μ-loop : tie.MeasureT-loop
 loop-holds : tie.Need-loop-holds Inv-loop μ-loop
 loop-holds c = (refl, (omega arith, sym (flat-none valueBytes)))
 
-mul-value : tie.Need-mul-value Inv-loop μ-loop
-mul-value c = omega arith
-
-array-copy-out-value : tie.Need-array-copy-out-value Inv-loop μ-loop
-array-copy-out-value c = omega arith
-
-kept-bytes-requires : tie.Need-kept-bytes-requires Inv-loop μ-loop
-kept-bytes-requires c κs = tt
-
-mul-a : tie.Need-mul-a Inv-loop μ-loop
-mul-a c = omega arith
-
-add-z : tie.Need-add-z Inv-loop μ-loop
-add-z c = omega arith
-
-slice-aggregate-lay : tie.Need-slice-aggregate-lay Inv-loop μ-loop
-slice-aggregate-lay c = search needs
-
-sub-lay : tie.Need-sub-lay Inv-loop μ-loop
-sub-lay c = omega arith
-
-part-lay-start : tie.Need-part-lay-start Inv-loop μ-loop
-part-lay-start c = omega arith
-
-part-lay-end : tie.Need-part-lay-end Inv-loop μ-loop
-part-lay-end c = omega arith
-
-lay-requires : tie.Need-lay-requires Inv-loop μ-loop
-lay-requires c κs = tt
-
-add-i : tie.Need-add-i Inv-loop μ-loop
-add-i c = omega arith
-
-loop-less : tie.Need-loop-less Inv-loop μ-loop
-loop-less c = omega arith
-
 loop-again : tie.Need-loop-again Inv-loop μ-loop
 loop-again c =
     let at = c .before .before .before .before .before .before .before .before .loop in
@@ -88,18 +52,18 @@ put-values-spec =
     Inv-loop
     μ-loop
     loop-holds
-    mul-value
-    array-copy-out-value
-    kept-bytes-requires
-    mul-a
-    add-z
-    slice-aggregate-lay
-    sub-lay
-    part-lay-start
-    part-lay-end
-    lay-requires
-    add-i
-    loop-less
+    (λ c. omega arith)
+    (λ c. omega arith)
+    (λ c κs. tt)
+    (λ c. omega arith)
+    (λ c. omega arith)
+    (λ c. search needs)
+    (λ c. omega arith)
+    (λ c. omega arith)
+    (λ c. omega arith)
+    (λ c κs. tt)
+    (λ c. omega arith)
+    (λ c. omega arith)
     loop-again
     same-length
     returns)

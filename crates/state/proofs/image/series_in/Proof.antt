@@ -18,9 +18,6 @@ none (x ∷ l) h = absurd (omega arith)
 returns : tie.Need-returns
 returns c = none (c .before .args .s .now) (c .if1 .taken)
 
-shared-slice-read-if2 : tie.Need-shared-slice-read-if2
-shared-slice-read-if2 c = search needs
-
 returns-2 : tie.Need-returns-2
 returns-2 c = rw (eq-eqb _ _ (c .if2 .taken))
 
@@ -28,4 +25,4 @@ returns-3 : tie.Need-returns-3
 returns-3 c = rw (ne-eqb _ _ (c .if2 .left))
 
 pub series-in-spec : {M : Type 1} → statement M
-series-in-spec = tie.close (tie.spec returns shared-slice-read-if2 returns-2 returns-3)
+series-in-spec = tie.close (tie.spec returns (λ c. search needs) returns-2 returns-3)

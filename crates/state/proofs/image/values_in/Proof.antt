@@ -21,37 +21,10 @@ abbrev μ-loop : tie.MeasureT-loop
 loop-holds : tie.Need-loop-holds Inv-loop μ-loop
 loop-holds c = (search needs, (omega arith, sym (rows-none valueIn 11 _)))
 
-mul-a : tie.Need-mul-a Inv-loop μ-loop
-mul-a c = omega arith
-
-add-z : tie.Need-add-z Inv-loop μ-loop
-add-z c = omega arith
-
-sub-kept-in : tie.Need-sub-kept-in Inv-loop μ-loop
-sub-kept-in c = omega arith
-
-part-kept-in-start : tie.Need-part-kept-in-start Inv-loop μ-loop
-part-kept-in-start c = omega arith
-
-part-kept-in-end : tie.Need-part-kept-in-end Inv-loop μ-loop
-part-kept-in-end c = omega arith
-
 kept-in-requires : tie.Need-kept-in-requires Inv-loop μ-loop
 kept-in-requires c κs =
     let i = c .before .before .loop .i in
     row-long 11 (i * 11) (c .before .before .before .before .args .s .now) (omega arith)
-
-mul-values : tie.Need-mul-values Inv-loop μ-loop
-mul-values c = omega arith
-
-array-set-from-values : tie.Need-array-set-from-values Inv-loop μ-loop
-array-set-from-values c = omega arith
-
-add-i : tie.Need-add-i Inv-loop μ-loop
-add-i c = omega arith
-
-loop-less : tie.Need-loop-less Inv-loop μ-loop
-loop-less c = omega arith
 
 loop-again : tie.Need-loop-again Inv-loop μ-loop
 loop-again c =
@@ -73,15 +46,15 @@ values-in-spec =
     Inv-loop
     μ-loop
     loop-holds
-    mul-a
-    add-z
-    sub-kept-in
-    part-kept-in-start
-    part-kept-in-end
+    (λ c. omega arith)
+    (λ c. omega arith)
+    (λ c. omega arith)
+    (λ c. omega arith)
+    (λ c. omega arith)
     kept-in-requires
-    mul-values
-    array-set-from-values
-    add-i
-    loop-less
+    (λ c. omega arith)
+    (λ c. omega arith)
+    (λ c. omega arith)
+    (λ c. omega arith)
     loop-again
     returns)

@@ -52,42 +52,6 @@ class-at three row h e =
     ∙ run-at classOf 0 ((0 + row) * 100) 100 (three % 100) (omega arith)
     ∙ ap classOf at
 
-returns : tie.Need-returns
-unfolding classes
-returns c = c .class-in .ensures ∙ class-at (c .before .before .args .three) 0 (omega arith) (c .before .match .keys1)
-
-returns-2 : tie.Need-returns-2
-unfolding classes
-returns-2 c = c .class-in2 .ensures ∙ class-at (c .before .before .args .three) 1 (omega arith) (c .before .match .keys2)
-
-returns-3 : tie.Need-returns-3
-unfolding classes
-returns-3 c = c .class-in3 .ensures ∙ class-at (c .before .before .args .three) 2 (omega arith) (c .before .match .keys3)
-
-returns-4 : tie.Need-returns-4
-unfolding classes
-returns-4 c = c .class-in4 .ensures ∙ class-at (c .before .before .args .three) 3 (omega arith) (c .before .match .keys4)
-
-returns-5 : tie.Need-returns-5
-unfolding classes
-returns-5 c = c .class-in5 .ensures ∙ class-at (c .before .before .args .three) 4 (omega arith) (c .before .match .keys5)
-
-returns-6 : tie.Need-returns-6
-unfolding classes
-returns-6 c = c .class-in6 .ensures ∙ class-at (c .before .before .args .three) 5 (omega arith) (c .before .match .keys6)
-
-returns-7 : tie.Need-returns-7
-unfolding classes
-returns-7 c = c .class-in7 .ensures ∙ class-at (c .before .before .args .three) 6 (omega arith) (c .before .match .keys7)
-
-returns-8 : tie.Need-returns-8
-unfolding classes
-returns-8 c = c .class-in8 .ensures ∙ class-at (c .before .before .args .three) 7 (omega arith) (c .before .match .keys8)
-
-returns-9 : tie.Need-returns-9
-unfolding classes
-returns-9 c = c .class-in9 .ensures ∙ class-at (c .before .before .args .three) 8 (omega arith) (c .before .match .keys9)
-
 -- what is none of nine rows is the tenth
 past-four : (n : ℕ) → (n ≡ 0 → ⊥) → (n ≡ 1 → ⊥) → (n ≡ 2 → ⊥) → (n ≡ 3 → ⊥) → (n ≡ 4 → ⊥) → 4 < n
 past-four n a b c d e = omega arith
@@ -107,6 +71,7 @@ returns-10 c =
     ∙ class-at three 9 (search needs) (tenth three (start .pre) past (rest .0 .0 .0 .1) (rest .0 .0 .1) (rest .0 .1) (rest .1))
 
 pub class-of-spec : {M : Type 1} → statement M
+unfolding classes
 class-of-spec =
     tie.close
     (tie.spec
@@ -120,13 +85,13 @@ class-of-spec =
     (λ c κs. search needs)
     (λ c κs. search needs)
     (λ c κs. search needs)
-    returns
-    returns-2
-    returns-3
-    returns-4
-    returns-5
-    returns-6
-    returns-7
-    returns-8
-    returns-9
+    (λ c. c .class-in .ensures ∙ class-at (c .before .before .args .three) 0 (omega arith) (c .before .match .keys1))
+    (λ c. c .class-in2 .ensures ∙ class-at (c .before .before .args .three) 1 (omega arith) (c .before .match .keys2))
+    (λ c. c .class-in3 .ensures ∙ class-at (c .before .before .args .three) 2 (omega arith) (c .before .match .keys3))
+    (λ c. c .class-in4 .ensures ∙ class-at (c .before .before .args .three) 3 (omega arith) (c .before .match .keys4))
+    (λ c. c .class-in5 .ensures ∙ class-at (c .before .before .args .three) 4 (omega arith) (c .before .match .keys5))
+    (λ c. c .class-in6 .ensures ∙ class-at (c .before .before .args .three) 5 (omega arith) (c .before .match .keys6))
+    (λ c. c .class-in7 .ensures ∙ class-at (c .before .before .args .three) 6 (omega arith) (c .before .match .keys7))
+    (λ c. c .class-in8 .ensures ∙ class-at (c .before .before .args .three) 7 (omega arith) (c .before .match .keys8))
+    (λ c. c .class-in9 .ensures ∙ class-at (c .before .before .args .three) 8 (omega arith) (c .before .match .keys9))
     returns-10)

@@ -4,15 +4,6 @@ use borrow.Author.Needs.{needs}
 use Rattle.units.proofs.counts.angle_at.Statement.{statement}
 use Rattle.units.proofs.counts.angle_at.Tie as tie
 
-returns : tie.Need-returns
-returns c = rw (c .before .match .keys1) (c .gon-at .ensures)
-
-returns-2 : tie.Need-returns-2
-returns-2 c = rw (c .before .match .keys2) (c .degree-at .ensures)
-
-returns-3 : tie.Need-returns-3
-returns-3 c = rw (c .before .match .keys3) (c .tenth-at .ensures)
-
 returns-4 : tie.Need-returns-4
 returns-4 c =
     let rest = c .before .match .rest in
@@ -26,7 +17,7 @@ angle-at-spec =
     (λ c κs. search needs)
     (λ c κs. search needs)
     (λ c κs. search needs)
-    returns
-    returns-2
-    returns-3
+    (λ c. rw (c .before .match .keys1) (c .gon-at .ensures))
+    (λ c. rw (c .before .match .keys2) (c .degree-at .ensures))
+    (λ c. rw (c .before .match .keys3) (c .tenth-at .ensures))
     returns-4)

@@ -3,12 +3,6 @@ use borrow.Author.Needs.{needs}
 use Rattle.units.proofs.counts.first_of.Statement.{statement}
 use Rattle.units.proofs.counts.first_of.Tie as tie
 
-returns : tie.Need-returns
-returns c = rw (c .enum-told .given .1)
-
-returns-2 : tie.Need-returns-2
-returns-2 c = rw (c .enum-told2 .given .1)
-
 pub first-of-spec : {M : Type 1} → statement M
 first-of-spec =
     tie.close
@@ -24,8 +18,8 @@ first-of-spec =
     (λ c. search needs)
     (λ c. search needs)
     (λ c. search needs)
-    returns
-    returns-2
+    (λ c. rw (c .enum-told .given .1))
+    (λ c. rw (c .enum-told2 .given .1))
     (λ c. search needs)
     (λ c. search needs)
     (λ c. search needs)

@@ -23,18 +23,6 @@ rest Length i u m n h = absurd (miss (0 ∷ 1 ∷ 2 ∷ 6 ∷ []) 4 tt h)
 rest Constant i u m n h = absurd (miss (0 ∷ 1 ∷ 2 ∷ 6 ∷ []) 5 tt h)
 rest Pair i u m n h = refl
 
-returns : tie.Need-returns
-returns c = rw (c .before .enum-told .given .1) (c .angle-at .ensures)
-
-returns-2 : tie.Need-returns-2
-returns-2 c = rw (c .before .enum-told2 .given .1, c .length-of .ensures)
-
-returns-3 : tie.Need-returns-3
-returns-3 c = rw (c .before .enum-told3 .given .1, c .constant-of .ensures)
-
-returns-4 : tie.Need-returns-4
-returns-4 c = let a = c .before .args in rest (a .kind) (a .index) (a .unit) (a .minus) (a .n) (c .match .keys4)
-
 pub number-at-spec : {M : Type 1} → statement M
 number-at-spec =
     tie.close
@@ -45,7 +33,7 @@ number-at-spec =
     (λ c κs. search needs)
     (λ c. search needs)
     (λ c κs. search needs)
-    returns
-    returns-2
-    returns-3
-    returns-4)
+    (λ c. rw (c .before .enum-told .given .1) (c .angle-at .ensures))
+    (λ c. rw (c .before .enum-told2 .given .1, c .length-of .ensures))
+    (λ c. rw (c .before .enum-told3 .given .1, c .constant-of .ensures))
+    (λ c. let a = c .before .args in rest (a .kind) (a .index) (a .unit) (a .minus) (a .n) (c .match .keys4)))

@@ -4,29 +4,17 @@ use borrow.Author.Needs.{needs}
 use Rattle.units.proofs.counts.tenth_at.Statement.{statement}
 use Rattle.units.proofs.counts.tenth_at.Tie as tie
 
-returns : tie.Need-returns
-returns c = rw (le-ltb _ _ (c .if1 .taken))
-
-returns-2 : tie.Need-returns-2
-returns-2 c = rw (lt-ltb _ _ (c .before .if1 .left), le-ltb _ _ (c .if2 .taken))
-
-returns-3 : tie.Need-returns-3
-returns-3 c = rw (lt-ltb _ _ (c .before .before .if1 .left), lt-ltb _ _ (c .before .if2 .left), le-ltb _ _ (c .if3 .taken))
-
-returns-4 : tie.Need-returns-4
-returns-4 c = rw (lt-ltb _ _ (c .before .before .if1 .left), lt-ltb _ _ (c .before .if2 .left), lt-ltb _ _ (c .if3 .left))
-
 pub tenth-at-spec : {M : Type 1} → statement M
 tenth-at-spec =
     tie.close
     (tie.spec
-    returns
-    returns-2
-    returns-3
+    (λ c. rw (le-ltb _ _ (c .if1 .taken)))
+    (λ c. rw (lt-ltb _ _ (c .before .if1 .left), le-ltb _ _ (c .if2 .taken)))
+    (λ c. rw (lt-ltb _ _ (c .before .before .if1 .left), lt-ltb _ _ (c .before .if2 .left), le-ltb _ _ (c .if3 .taken)))
     (λ c. search needs)
     (λ c. search needs)
     (λ c. search needs)
     (λ c. search needs)
     (λ c. search needs)
     (λ c. search needs)
-    returns-4)
+    (λ c. rw (lt-ltb _ _ (c .before .before .if1 .left), lt-ltb _ _ (c .before .if2 .left), lt-ltb _ _ (c .if3 .left))))

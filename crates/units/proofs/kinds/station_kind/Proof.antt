@@ -10,124 +10,50 @@ use Rattle.units.proofs.Positions.{none-above}
 use Rattle.units.proofs.kinds.station_kind.Statement.{statement}
 use Rattle.units.proofs.kinds.station_kind.Tie as tie
 
-returns : tie.Need-returns
-unfolding among
-returns c = ⊎-elim (λ is. rw is) (λ is. rw is) (c .match .keys1)
-
-returns-2 : tie.Need-returns-2
-unfolding among
-returns-2 c = rw (c .match .keys4)
-
-returns-3 : tie.Need-returns-3
-unfolding among
-returns-3 c = along stationKind 31 35 refl (c .before .if8 .left) (c .if9 .taken)
-
 returns-4 : tie.Need-returns-4
 unfolding among
 returns-4 c =
     let low = c .before .before .before .before .before in
     along-but stationKind 41 50 41 refl (c .if10 .left) (low .if1 .taken) (λ is. low .before .match .rest .0 .0 .0 .1 (inr is))
 
-returns-5 : tie.Need-returns-5
-unfolding among
-returns-5 c = along stationKind 58 60 refl (c .before .if13 .left) (c .if14 .taken)
-
-returns-6 : tie.Need-returns-6
-unfolding among
-returns-6 c = along stationKind 71 80 refl (c .before .if15 .left) (c .if16 .taken)
-
-returns-7 : tie.Need-returns-7
-unfolding among
-returns-7 c = along stationKind 81 89 refl (c .before .if17 .left) (c .if18 .taken)
-
-returns-8 : tie.Need-returns-8
-unfolding among
-returns-8 c = along stationKind 0 11 refl zero-le (c .if3 .taken)
-
 returns-9 : tie.Need-returns-9
 unfolding among
 returns-9 c = along-but stationKind 14 18 16 refl (c .before .if4 .left) (c .if5 .taken) (c .before .before .before .before .before .match .rest .0 .0 .1)
 
-returns-10 : tie.Need-returns-10
-unfolding among
-returns-10 c = along stationKind 20 21 refl (c .if6 .left) (c .before .before .before .before .if2 .taken)
-
 returns-11 : tie.Need-returns-11
 unfolding among
 returns-11 c = along-but stationKind 23 31 24 refl (c .before .if7 .left) (c .if8 .taken) (c .before .before .before .before .match .rest .0 .1)
-
-returns-12 : tie.Need-returns-12
-unfolding among
-returns-12 c = along stationKind 35 41 refl (c .before .if9 .left) (c .if10 .taken)
-
-returns-13 : tie.Need-returns-13
-unfolding among
-returns-13 c = along stationKind 50 51 refl (c .before .if1 .left) (c .if11 .taken)
-
-returns-14 : tie.Need-returns-14
-unfolding among
-returns-14 c = along stationKind 54 58 refl (c .before .if12 .left) (c .if13 .taken)
-
-returns-15 : tie.Need-returns-15
-unfolding among
-returns-15 c = along stationKind 60 71 refl (c .before .if14 .left) (c .if15 .taken)
-
-returns-16 : tie.Need-returns-16
-unfolding among
-returns-16 c = along stationKind 80 81 refl (c .before .if16 .left) (c .if17 .taken)
-
-returns-17 : tie.Need-returns-17
-returns-17 c = sym (none-above _ (c .if18 .left))
-
-returns-18 : tie.Need-returns-18
-unfolding among
-returns-18 c = rw (c .match .keys3)
-
-returns-19 : tie.Need-returns-19
-unfolding among
-returns-19 c = along stationKind 21 23 refl (c .before .if2 .left) (c .if7 .taken)
-
-returns-20 : tie.Need-returns-20
-unfolding among
-returns-20 c = rw (c .match .keys2)
 
 returns-21 : tie.Need-returns-21
 unfolding among
 returns-21 c = along-but stationKind 11 14 11 refl (c .before .if3 .left) (c .if4 .taken)
     (λ is. c .before .before .before .before .match .rest .0 .0 .0 .1 (inl is))
 
-returns-22 : tie.Need-returns-22
-unfolding among
-returns-22 c = along stationKind 18 20 refl (c .before .if5 .left) (c .if6 .taken)
-
-returns-23 : tie.Need-returns-23
-unfolding among
-returns-23 c = along-but stationKind 51 54 51 refl (c .before .if11 .left) (c .if12 .taken) (c .before .before .before .match .rest .1)
-
 pub station-kind-spec : {M : Type 1} → statement M
+unfolding among
 station-kind-spec =
     tie.close
     (tie.spec
-    returns
-    returns-2
-    returns-3
+    (λ c. ⊎-elim (λ is. rw is) (λ is. rw is) (c .match .keys1))
+    (λ c. rw (c .match .keys4))
+    (λ c. along stationKind 31 35 refl (c .before .if8 .left) (c .if9 .taken))
     returns-4
-    returns-5
-    returns-6
-    returns-7
-    returns-8
+    (λ c. along stationKind 58 60 refl (c .before .if13 .left) (c .if14 .taken))
+    (λ c. along stationKind 71 80 refl (c .before .if15 .left) (c .if16 .taken))
+    (λ c. along stationKind 81 89 refl (c .before .if17 .left) (c .if18 .taken))
+    (λ c. along stationKind 0 11 refl zero-le (c .if3 .taken))
     returns-9
-    returns-10
+    (λ c. along stationKind 20 21 refl (c .if6 .left) (c .before .before .before .before .if2 .taken))
     returns-11
-    returns-12
-    returns-13
-    returns-14
-    returns-15
-    returns-16
-    returns-17
-    returns-18
-    returns-19
-    returns-20
+    (λ c. along stationKind 35 41 refl (c .before .if9 .left) (c .if10 .taken))
+    (λ c. along stationKind 50 51 refl (c .before .if1 .left) (c .if11 .taken))
+    (λ c. along stationKind 54 58 refl (c .before .if12 .left) (c .if13 .taken))
+    (λ c. along stationKind 60 71 refl (c .before .if14 .left) (c .if15 .taken))
+    (λ c. along stationKind 80 81 refl (c .before .if16 .left) (c .if17 .taken))
+    (λ c. sym (none-above _ (c .if18 .left)))
+    (λ c. rw (c .match .keys3))
+    (λ c. along stationKind 21 23 refl (c .before .if2 .left) (c .if7 .taken))
+    (λ c. rw (c .match .keys2))
     returns-21
-    returns-22
-    returns-23)
+    (λ c. along stationKind 18 20 refl (c .before .if5 .left) (c .if6 .taken))
+    (λ c. along-but stationKind 51 54 51 refl (c .before .if11 .left) (c .if12 .taken) (c .before .before .before .match .rest .1)))

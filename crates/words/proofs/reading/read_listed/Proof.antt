@@ -24,7 +24,7 @@ use Rattle.words.proofs.reading.read_listed.Statement.{statement}
 use Rattle.words.proofs.reading.read_listed.Tie as tie
 
 -- what each return is, by what the checks answered
-module _ (f : Family) (wide : Bool) (i : ℕ) (k : Kind) (s : List ℕ) {lead : ℕ} {a : Informed} (led : lead ≡ leadOf f i (pos 3 s))
+module _ (f : Family) (wide : Bool) (i : ℕ) (k : Kind) (s : List ℕ) {lead : ℕ} {a : Informed} (led : lead ≡ leadOf i (pos 3 s))
     (e : a ≡ cond (allRight (infoMarks f i k lead (pos 4 s) (pos 5 s) (pos 6 s))) informed.Right informed.Not) where
   information : {n : ℕ} {r : OneWord} → a ≡ informed.Not → n ≡ firstWrong (infoMarks f i k lead (pos 4 s) (pos 5 s) (pos 6 s))
       → r ≡ faulty Information (2 + n) → r ≡ listedWord f wide i k s

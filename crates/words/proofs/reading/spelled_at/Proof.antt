@@ -22,33 +22,6 @@ use Rattle.words.proofs.reading.spelled_at.Tie as tie
 enum-told : tie.Need-enum-told
 enum-told c = search needs
 
-enum-told-2 : tie.Need-enum-told-2
-enum-told-2 c = search needs
-
-pair-at-requires : tie.Need-pair-at-requires
-pair-at-requires c κs = search needs
-
-enum-told-3 : tie.Need-enum-told-3
-enum-told-3 c = search needs
-
-digits-at-requires : tie.Need-digits-at-requires
-digits-at-requires c κs = search needs
-
-enum-told-4 : tie.Need-enum-told-4
-enum-told-4 c = search needs
-
-digits-at-requires-2 : tie.Need-digits-at-requires-2
-digits-at-requires-2 c κs = search needs
-
-enum-told-5 : tie.Need-enum-told-5
-enum-told-5 c = search needs
-
-digits-at-requires-3 : tie.Need-digits-at-requires-3
-digits-at-requires-3 c κs = search needs
-
-all-within-requires : tie.Need-all-within-requires
-all-within-requires c κs = search needs
-
 -- the kinds of the last arm are those that hold text
 texts : (k : Kind) (d : List ℕ) → (tagOf the-type k ≡ 1) ⊎ (tagOf the-type k ≡ 2)
     → spelledAt k d ≡ cond (every isGraphic d) (spelled.Says figures.Text) spelled.Not
@@ -65,21 +38,6 @@ returns c =
     let a = c .before .before .before .before .args in
     sym (texts (a .kind) (a .s .now) (c .before .before .match .keys6) ∙ rw (failed (c .before .all-within .ensures) (c .if1 .taken)))
 
-returns-2 : tie.Need-returns-2
-returns-2 c = rw (c .enum-told .given .1)
-
-returns-3 : tie.Need-returns-3
-returns-3 c = rw (c .before .enum-told2 .given .1) (c .pair-at .ensures)
-
-returns-4 : tie.Need-returns-4
-returns-4 c = rw (c .before .enum-told3 .given .1) (c .digits-at .ensures)
-
-returns-5 : tie.Need-returns-5
-returns-5 c = rw (c .before .enum-told4 .given .1) (c .digits-at2 .ensures)
-
-returns-6 : tie.Need-returns-6
-returns-6 c = rw (c .before .enum-told5 .given .1) (c .digits-at3 .ensures)
-
 returns-7 : tie.Need-returns-7
 returns-7 c =
     let a = c .before .before .before .before .args in
@@ -90,19 +48,19 @@ spelled-at-spec =
     tie.close
     (tie.spec
     enum-told
-    enum-told-2
-    pair-at-requires
-    enum-told-3
-    digits-at-requires
-    enum-told-4
-    digits-at-requires-2
-    enum-told-5
-    digits-at-requires-3
-    all-within-requires
+    (λ c. search needs)
+    (λ c κs. search needs)
+    (λ c. search needs)
+    (λ c κs. search needs)
+    (λ c. search needs)
+    (λ c κs. search needs)
+    (λ c. search needs)
+    (λ c κs. search needs)
+    (λ c κs. search needs)
     returns
-    returns-2
-    returns-3
-    returns-4
-    returns-5
-    returns-6
+    (λ c. rw (c .enum-told .given .1))
+    (λ c. rw (c .before .enum-told2 .given .1) (c .pair-at .ensures))
+    (λ c. rw (c .before .enum-told3 .given .1) (c .digits-at .ensures))
+    (λ c. rw (c .before .enum-told4 .given .1) (c .digits-at2 .ensures))
+    (λ c. rw (c .before .enum-told5 .given .1) (c .digits-at3 .ensures))
     returns-7)

@@ -18,24 +18,6 @@ use Rattle.words.proofs.records.right.Tie as tie
 abbrev infoIs : Family → Word → Bool
 infoIs f w = infoRight f (w .index) (kindIn f w) (getD (w .info) 0 0) (getD (w .info) 1 0) (getD (w .info) 2 0) (unitIn w)
 
-kind-of-requires : tie.Need-kind-of-requires
-kind-of-requires c κs = search needs
-
-array-read-info-right : tie.Need-array-read-info-right
-array-read-info-right c = search needs
-
-array-read-info-right-2 : tie.Need-array-read-info-right-2
-array-read-info-right-2 c = search needs
-
-array-read-info-right-3 : tie.Need-array-read-info-right-3
-array-read-info-right-3 c = search needs
-
-array-read-info-right-4 : tie.Need-array-read-info-right-4
-array-read-info-right-4 c = search needs
-
-info-right-requires : tie.Need-info-right-requires
-info-right-requires c κs = search needs
-
 -- a record's two arrays are as long as its type says
 long : (c : tie.Start) → eqb (length (c .args .w .info)) 4 && eqb (length (c .args .w .text)) 16 ≡ true
 long c = rw (eq-eqb (length (c .args .w .info)) 4 (search needs), eq-eqb (length (c .args .w .text)) 16 (search needs))
@@ -88,22 +70,10 @@ same-first c = passed (firsts (c .before)) (c .if3 .left)
 returns : tie.Need-returns
 returns c = rw (long (c .before .before .before .before .before), failed (informs (c .before)) (c .if1 .taken))
 
-count-by-requires : tie.Need-count-by-requires
-count-by-requires c κs = search needs
-
-count-right-requires : tie.Need-count-right-requires
-count-right-requires c κs = search needs
-
 returns-2 : tie.Need-returns-2
 returns-2 c =
     let info = c .before .before .before in
     rw (long (by-info info), informed info, failed (counts (c .before)) (c .if2 .taken))
-
-first-of-requires : tie.Need-first-of-requires
-first-of-requires c κs = search needs
-
-same-whole-requires : tie.Need-same-whole-requires
-same-whole-requires c κs = search needs
 
 returns-3 : tie.Need-returns-3
 returns-3 c =
@@ -111,21 +81,12 @@ returns-3 c =
     let info = by-count count in
     rw (long (by-info info), informed info, counted count, failed (firsts (c .before)) (c .if3 .taken))
 
-second-of-requires : tie.Need-second-of-requires
-second-of-requires c κs = search needs
-
-same-whole-requires-2 : tie.Need-same-whole-requires-2
-same-whole-requires-2 c κs = search needs
-
 returns-4 : tie.Need-returns-4
 returns-4 c =
     let first = c .before .before .before in
     let count = by-first first in
     let info = by-count count in
     rw (long (by-info info), informed info, counted count, same-first first, failed (seconds (c .before)) (c .if4 .taken))
-
-text-right-requires : tie.Need-text-right-requires
-text-right-requires c κs = search needs
 
 returns-5 : tie.Need-returns-5
 returns-5 c =
@@ -141,21 +102,21 @@ pub right-spec : {M : Type 1} → statement M
 right-spec =
     tie.close
     (tie.spec
-    kind-of-requires
-    array-read-info-right
-    array-read-info-right-2
-    array-read-info-right-3
-    array-read-info-right-4
-    info-right-requires
+    (λ c κs. search needs)
+    (λ c. search needs)
+    (λ c. search needs)
+    (λ c. search needs)
+    (λ c. search needs)
+    (λ c κs. search needs)
     returns
-    count-by-requires
-    count-right-requires
+    (λ c κs. search needs)
+    (λ c κs. search needs)
     returns-2
-    first-of-requires
-    same-whole-requires
+    (λ c κs. search needs)
+    (λ c κs. search needs)
     returns-3
-    second-of-requires
-    same-whole-requires-2
+    (λ c κs. search needs)
+    (λ c κs. search needs)
     returns-4
-    text-right-requires
+    (λ c κs. search needs)
     returns-5)

@@ -6,24 +6,9 @@ use Rattle.figures.proofs.Tests.{failed, passed}
 use Rattle.words.proofs.records.text_right.Statement.{statement}
 use Rattle.words.proofs.records.text_right.Tie as tie
 
-textual-requires : tie.Need-textual-requires
-textual-requires c κs = search needs
-
-slice-aggregate-all-within : tie.Need-slice-aggregate-all-within
-slice-aggregate-all-within c = search needs
-
-all-within-requires : tie.Need-all-within-requires
-all-within-requires c κs = search needs
-
 returns : tie.Need-returns
 returns c =
     rw (failed (c .before .before .before .textual .ensures) (c .before .before .if1 .taken)) (c .all-within .ensures)
-
-slice-aggregate-all-within-2 : tie.Need-slice-aggregate-all-within-2
-slice-aggregate-all-within-2 c = search needs
-
-all-within-requires-2 : tie.Need-all-within-requires-2
-all-within-requires-2 c κs = search needs
 
 returns-2 : tie.Need-returns-2
 returns-2 c =
@@ -31,34 +16,10 @@ returns-2 c =
     let text = passed (c .before .before .before .before .textual .ensures) (c .before .before .before .if1 .left) in
     rw (c .before .before .if2 .taken) (c .all-within2 .ensures ∙ sym (text-wide (a .kind) (a .t2) text (search needs)))
 
-sub-all-within : tie.Need-sub-all-within
-sub-all-within c = search needs
-
-part-all-within-start : tie.Need-part-all-within-start
-part-all-within-start c = search needs
-
-part-all-within-end : tie.Need-part-all-within-end
-part-all-within-end c = search needs
-
-all-within-requires-3 : tie.Need-all-within-requires-3
-all-within-requires-3 c κs = search needs
-
 returns-3 : tie.Need-returns-3
 returns-3 c =
     let text = passed (c .before .before .before .before .before .before .textual .ensures) (c .before .before .before .before .before .if1 .left) in
     rw (c .before .before .before .before .if2 .left, text, failed (c .before .all-within3 .ensures) (c .if3 .taken))
-
-sub-all-within-2 : tie.Need-sub-all-within-2
-sub-all-within-2 c = search needs
-
-part-all-within-start-2 : tie.Need-part-all-within-start-2
-part-all-within-start-2 c = search needs
-
-part-all-within-end-2 : tie.Need-part-all-within-end-2
-part-all-within-end-2 c = search needs
-
-all-within-requires-4 : tie.Need-all-within-requires-4
-all-within-requires-4 c κs = search needs
 
 returns-4 : tie.Need-returns-4
 returns-4 c =
@@ -73,20 +34,20 @@ pub text-right-spec : {M : Type 1} → statement M
 text-right-spec =
     tie.close
     (tie.spec
-    textual-requires
-    slice-aggregate-all-within
-    all-within-requires
+    (λ c κs. search needs)
+    (λ c. search needs)
+    (λ c κs. search needs)
     returns
-    slice-aggregate-all-within-2
-    all-within-requires-2
+    (λ c. search needs)
+    (λ c κs. search needs)
     returns-2
-    sub-all-within
-    part-all-within-start
-    part-all-within-end
-    all-within-requires-3
+    (λ c. search needs)
+    (λ c. search needs)
+    (λ c. search needs)
+    (λ c κs. search needs)
     returns-3
-    sub-all-within-2
-    part-all-within-start-2
-    part-all-within-end-2
-    all-within-requires-4
+    (λ c. search needs)
+    (λ c. search needs)
+    (λ c. search needs)
+    (λ c κs. search needs)
     returns-4)

@@ -21,9 +21,6 @@ figures-of-requires c κs =
 wide-enough : (c : tie.After-width-of) → (8 ≤ c .width-of .result) × (c .width-of .result ≤ 16)
 wide-enough c = rw (c .width-of .ensures) (width-bounds (c .before .before .before .before .before .args .wide))
 
-add-end : tie.Need-add-end
-add-end c = omega (arith, wide-enough c)
-
 info-length : (c : tie.Start) → length (c .args .w .info) ≡ 4
 info-length c = search needs
 
@@ -38,17 +35,11 @@ room-length c = let head = c .before .before .lay in headed-length (replicate 24
 abbrev sized : tie.After-sign-byte → tie.After-width-of
 sized c = c .before .before .before .before .before .before
 
-part-bytes-end-2 : tie.Need-part-bytes-end-2
-part-bytes-end-2 c = omega (arith, room-length c, wide-enough (sized c))
-
 put-figures-requires : tie.Need-put-figures-requires
 put-figures-requires c κs =
     let wide = wide-enough (sized (c .before)) in
     let n = sized (c .before) .width-of .result in
     omega (arith, data-room (room (c .before)) n (omega (arith, room-length (c .before), wide)), wide)
-
-array-write-bytes-2 : tie.Need-array-write-bytes-2
-array-write-bytes-2 c = omega (arith, wide-enough (sized (c .before .before .before)))
 
 returns : tie.Need-returns
 returns c =
@@ -69,7 +60,7 @@ returns c =
     ∙ ap (λ x. dataOf n x (w .text)) (says .ensures ∙ ap figuresOf (width .before .before .count-of .ensures)) in
     let sign = at .sign-byte .result in
     let put = figures .last .1 .1 .0 in
-    let six = ap length (head .ensures) ∙ head-length f (w .index) (w .info) (info-length start) in
+    let six = ap length (head .ensures) ∙ head-length (w .index) (w .info) (info-length start) in
     word-on (replicate 24 0) (laid .last .1 .0) (head .result) put sign n (omega arith) six (laid .ensures) (figures .kept .1 .1 .0 ∙ fits)
     ∙ word-is f (start .args .wide) w sign n (head .result) put (head .ensures) (at .sign-byte .ensures) (width .width-of .ensures) is
 
@@ -80,7 +71,7 @@ bytes-of-spec =
     (λ c κs. search needs)
     figures-of-requires
     (λ c κs. search needs)
-    add-end
+    (λ c. omega (arith, wide-enough c))
     (λ c κs. search needs)
     (λ c. search needs)
     (λ c. search needs)
@@ -91,7 +82,7 @@ bytes-of-spec =
     (λ c. search needs)
     (λ c. search needs)
     (λ c. search needs)
-    part-bytes-end-2
+    (λ c. omega (arith, room-length c, wide-enough (sized c)))
     put-figures-requires
-    array-write-bytes-2
+    (λ c. omega (arith, wide-enough (sized (c .before .before .before))))
     returns)

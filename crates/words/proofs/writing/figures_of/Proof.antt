@@ -31,27 +31,6 @@ rest (Pair p q) h = absurd (miss (2 ∷ 3 ∷ 5 ∷ 6 ∷ 7 ∷ 8 ∷ 9 ∷ []) 
 small : (c : tie.After-w) → c .before .before .count .given .0 .0 .0 .size < 10 ^ 16
 small c = rw (c .before .before .count .given .1) at (c .before .before .before .before .pre)
 
-mul-t10 : tie.Need-mul-t10
-mul-t10 c = omega (arith, small c)
-
-add-t14 : tie.Need-add-t14
-add-t14 c = omega (arith, small c)
-
-add-t18 : tie.Need-add-t18
-add-t18 c = omega (arith, small c)
-
-add-t20 : tie.Need-add-t20
-add-t20 c = omega (arith, small c)
-
-returns-3 : tie.Need-returns-3
-returns-3 c = rw (c .before .before .count .given .1)
-
-returns-4 : tie.Need-returns-4
-returns-4 c = rw (c .before .count2 .given .1)
-
-returns-5 : tie.Need-returns-5
-returns-5 c = rw (c .first-of .ensures) (rest (c .before .before .args .count) (c .before .match .keys5))
-
 pub figures-of-spec : {M : Type 1} → statement M
 figures-of-spec =
     tie.close
@@ -59,16 +38,16 @@ figures-of-spec =
     (λ c. search needs)
     (λ c. search needs)
     (λ c. search needs)
-    mul-t10
+    (λ c. omega (arith, small c))
     (λ c. search needs)
-    add-t14
+    (λ c. omega (arith, small c))
     (λ c. search needs)
-    add-t18
-    add-t20
+    (λ c. omega (arith, small c))
+    (λ c. omega (arith, small c))
     (λ c. search needs)
     (λ c κs. search needs)
     (λ c. search needs)
     (λ c. search needs)
-    returns-3
-    returns-4
-    returns-5)
+    (λ c. rw (c .before .before .count .given .1))
+    (λ c. rw (c .before .count2 .given .1))
+    (λ c. rw (c .first-of .ensures) (rest (c .before .before .args .count) (c .before .match .keys5))))

@@ -13,45 +13,6 @@ use Rattle.words.proofs.writing.put_figures.Tie as tie
 enum-told : tie.Need-enum-told
 enum-told c = search needs
 
-slice-aggregate-lay : tie.Need-slice-aggregate-lay
-slice-aggregate-lay c = search needs
-
-lay-requires : tie.Need-lay-requires
-lay-requires c κs = search needs
-
-enum-known-says : tie.Need-enum-known-says
-enum-known-says c = search needs
-
-put-number-requires : tie.Need-put-number-requires
-put-number-requires c κs = search needs
-
-enum-known-says-2 : tie.Need-enum-known-says-2
-enum-known-says-2 c = search needs
-
-sub-at : tie.Need-sub-at
-sub-at c = search needs
-
-add-from : tie.Need-add-from
-add-from c = search needs
-
-sub-put-number : tie.Need-sub-put-number
-sub-put-number c = search needs
-
-part-put-number-start : tie.Need-part-put-number-start
-part-put-number-start c = search needs
-
-part-put-number-end : tie.Need-part-put-number-end
-part-put-number-end c = search needs
-
-put-number-requires-2 : tie.Need-put-number-requires-2
-put-number-requires-2 c κs = search needs
-
-sign-byte-requires : tie.Need-sign-byte-requires
-sign-byte-requires c κs = search needs
-
-slice-write-out : tie.Need-slice-write-out
-slice-write-out c = search needs
-
 -- the room is as long as it was once the ppm and the sign stand in it
 kept : (c : tie.After-sign-byte) →
     let out = c .before .before .before .before .before .before .before .before .before .args .out .now in
@@ -67,23 +28,11 @@ sub-put-number-2 c = omega (arith, kept c, c .before .before .before .before .be
 part-put-number-start-2 : tie.Need-part-put-number-start-2
 part-put-number-start-2 c = omega (arith, kept c, c .before .before .before .before .before .before .before .before .before .pre)
 
-part-put-number-end-2 : tie.Need-part-put-number-end-2
-part-put-number-end-2 c = search needs
-
-put-number-requires-3 : tie.Need-put-number-requires-3
-put-number-requires-3 c κs = search needs
-
-same-length : tie.Need-same-length
-same-length c = search needs
-
 returns : tie.Need-returns
 returns c =
     let a = c .before .before .before .before .before .before .before .before .args in
     let long : length (a .t2) ≡ 16 = search needs in
     rw (c .before .before .before .before .before .enum-told .given .1) (c .before .before .lay .ensures ∙ laid-cut (a .t2) (a .out .now) (omega arith))
-
-same-length-2 : tie.Need-same-length-2
-same-length-2 c = search needs
 
 returns-2 : tie.Need-returns-2
 returns-2 c =
@@ -113,26 +62,26 @@ put-figures-spec =
     tie.close
     (tie.spec
     enum-told
-    slice-aggregate-lay
-    lay-requires
-    enum-known-says
-    put-number-requires
-    enum-known-says-2
-    sub-at
-    add-from
-    sub-put-number
-    part-put-number-start
-    part-put-number-end
-    put-number-requires-2
-    sign-byte-requires
-    slice-write-out
+    (λ c. search needs)
+    (λ c κs. search needs)
+    (λ c. search needs)
+    (λ c κs. search needs)
+    (λ c. search needs)
+    (λ c. search needs)
+    (λ c. search needs)
+    (λ c. search needs)
+    (λ c. search needs)
+    (λ c. search needs)
+    (λ c κs. search needs)
+    (λ c κs. search needs)
+    (λ c. search needs)
     sub-put-number-2
     part-put-number-start-2
-    part-put-number-end-2
-    put-number-requires-3
-    same-length
+    (λ c. search needs)
+    (λ c κs. search needs)
+    (λ c. search needs)
     returns
-    same-length-2
+    (λ c. search needs)
     returns-2
     same-length-3
     returns-3)

@@ -1,12 +1,12 @@
--- `readings::send_often` ends, and its count is at most the number of turns.
+-- `benchreadings::send_often` ends, and its count is at most the number of turns.
 use Prim.Native.Nat.{_≤_, _-_}
 use mathlib.Core.Path.{_≡_, refl, _∙_}
 use mathlib.Core.Logic.{⊎-elim}
 use native.Mathlib.Omega.{arith}
 use borrow.Author.Needs.{needs}
 use lib.ListN.{length}
-use Rattle.readings.proofs.send_often.Statement.{statement}
-use Rattle.readings.proofs.send_often.Tie as tie
+use Rattle.benchreadings.proofs.send_often.Statement.{statement}
+use Rattle.benchreadings.proofs.send_often.Tie as tie
 
 abbrev Inv-loop : tie.InvT-loop
 Inv-loop image₀ text accepted₀ i₀ image accepted i = (length image ≡ length image₀) × ((i ≤ 64) × (accepted ≤ i))

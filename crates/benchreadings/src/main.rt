@@ -87,7 +87,7 @@ fn judge_block(family: Family, block: &[u8]) {
     put(b"\n");
 }
 
-// The line on the image, with room for the longest reply.
+// Runs the line on the image, with room for a TPS100's longest reply.
 fn answer(image: &mut [u8], text: &[u8]) -> Told {
     let mut reply = [0; 306];
     line(image, text, &mut reply)
@@ -105,7 +105,7 @@ fn renew(image: &mut [u8]) {
     encode(factory(Series::Tps100), image);
 }
 
-// How often the line was accepted, of 64 times.
+// Sends the line 64 times and counts how often it is accepted.
 fn send_often(image: &mut [u8], text: &[u8]) -> u64 {
     let mut accepted = 0;
     let mut i: u64 = 0;
@@ -148,7 +148,7 @@ fn run_row(image: &mut [u8], row: &[u8]) {
     run(image, row[0], &row[bar + 1..]);
 }
 
-// Where the row that starts there ends.
+// Tells where the row that starts at a place ends.
 fn row_end(table: &[u8], at: usize) -> usize
     requires { ⌜ at ≤ length (now table) ⌝ }
     ensures { λ r. ⌜ (at ≤ r) × (r ≤ length (now (table .entry))) ⌝ }
@@ -165,13 +165,13 @@ fn run_rows(image: &mut [u8], table: &[u8]) {
     }
 }
 
-// The table has an image of its own, which is no state until a row renews it.
+// Runs a table on an image of its own, which is no state until a row renews it.
 fn run_table(table: &[u8]) {
     let mut image = [0; IMAGE_100];
     run_rows(&mut image, table);
 }
 
-// P1 to P11.
+// Runs P1 to P11.
 fn readings() {
     run_table(
         b"S P1|110014+00000003 21.324+27952530 22.324+27000430 31..01+00265965 51..1.+0009+000 \r\n;\
@@ -193,7 +193,7 @@ fn readings() {
     );
 }
 
-// A level's: a backsight, a difference below zero, a ground height; inches, a unit that there isn't, a wide word.
+// Reads a level's words: a backsight, a difference below zero, a ground height; inches, a unit that doesn't exist, a wide word.
 fn level_words() {
     run_table(
         b"L 331106|331106+00010198 \r;\
@@ -206,7 +206,7 @@ fn level_words() {
     );
 }
 
-// A level's indexes at their edges.
+// Reads words whose index is just inside or just outside what a level has.
 fn level_edges() {
     run_table(
         b"L 330|330..0+00000001 \r;\
@@ -225,7 +225,7 @@ fn level_edges() {
     );
 }
 
-// 003's listing of a level.
+// Reads 003's listing of a level.
 fn level_listing() {
     run_table(
         b"L block 1|410001+00000020 42....+10842V02 \r\n;\
@@ -245,8 +245,8 @@ fn level_listing() {
     );
 }
 
-// Minus nought: a level's difference, an angle in seconds, the halves of a pair, a wide word; an angle out of its range; minus nought put over
-// nought and taken back.
+// Reads minus nought: a level's difference, an angle in seconds, the halves of a pair, a wide word; then an angle out of its range; then minus
+// nought is put over nought and taken back.
 fn noughts() {
     run_table(
         b"L 573..0 minus nought|573..0-00000000 \r;\
@@ -261,8 +261,8 @@ fn noughts() {
     );
 }
 
-// The byte that each refusal of a word tells, 5 to 10 and 15. Then what a line is refused for: no keyword, a keyword with a wrong remainder, a PUT
-// word by each of its rules.
+// Shows the byte that each refusal of a word tells, 5 to 10 and 15, and then what a line is refused for: no keyword, a keyword with a wrong
+// remainder, a PUT word by each of its rules.
 fn told() {
     run_table(
         b"S 1A....|1A....+00000001 \r;\
@@ -288,7 +288,7 @@ fn told() {
     );
 }
 
-// The list of changes full, and the longest GET and one that is longer.
+// Fills the undo list, and sends the longest GET and one that is longer.
 fn longest() {
     run_table(
         b"M 64 times SET/30/1|SET/30/1\r;\

@@ -1,9 +1,9 @@
--- `readings::put_values` ends: it goes through the 32 places.
+-- `benchreadings::put_values` ends: it goes through the 32 places.
 use Prim.Native.Nat.{_≤_, _-_}
 use native.Mathlib.Omega.{arith}
 use borrow.Author.Needs.{needs}
-use Rattle.readings.proofs.put_values.Statement.{statement}
-use Rattle.readings.proofs.put_values.Tie as tie
+use Rattle.benchreadings.proofs.put_values.Statement.{statement}
+use Rattle.benchreadings.proofs.put_values.Tie as tie
 
 abbrev Inv-loop : tie.InvT-loop
 Inv-loop n words i₀ i = i ≤ 32

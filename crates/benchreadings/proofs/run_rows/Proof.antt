@@ -1,11 +1,11 @@
--- `readings::run_rows` ends: each turn starts past the row before it.
+-- `benchreadings::run_rows` ends: each turn starts past the row before it.
 use Prim.Native.Nat.{_≤_, _+_, _-_}
 use mathlib.Core.Path.{_≡_, refl, _∙_}
 use native.Mathlib.Omega.{arith}
 use borrow.Author.Needs.{needs}
 use lib.ListN.{length}
-use Rattle.readings.proofs.run_rows.Statement.{statement}
-use Rattle.readings.proofs.run_rows.Tie as tie
+use Rattle.benchreadings.proofs.run_rows.Statement.{statement}
+use Rattle.benchreadings.proofs.run_rows.Tie as tie
 
 abbrev Inv-loop : tie.InvT-loop
 Inv-loop image₀ table at₀ image at = (length image ≡ length image₀) × (at ≤ length table + 1)
