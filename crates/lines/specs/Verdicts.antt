@@ -1,12 +1,11 @@
 -- Refusals 20 to 31, 38 and 39: "Order: 31, then 20 to 29 as refuses (GET judges its first index by 25 then 27, then the next likewise), then 30", with
 -- 39 right after 22 and 38 right after 23.
 use Prim.Native.Nat.{ℕ, _+_}
-use mathlib.Core.Bool.{Bool, cond, _&&_}
+use mathlib.Core.Bool.{Bool, cond}
 use mathlib.Core.List.{List, foldr}
 use lib.Dec.{eqb, leb}
 use lib.ListN.{length, drop}
-use Rattle.figures.specs.Decimal.{isDigit}
-use Rattle.units.specs.Kinds.{indexOf}
+use Rattle.units.specs.Kinds.{indexOf, areDigits}
 use Rattle.words.specs.Reading.{faultNumber, pos}
 use Rattle.words.specs.declared.reading.Fault.{Fault}
 use Rattle.words.specs.declared.reading.Judged as one
@@ -97,7 +96,7 @@ confVerdict k n = confBy (settingPlace k n)
 
 -- the place of the stored value that two characters name
 abbrev pub placeNamed : ℕ → ℕ → Found
-placeNamed tens ones = cond (isDigit tens && isDigit ones) (valuePlace (indexOf tens ones)) Nothing
+placeNamed tens ones = cond (areDigits tens ones) (valuePlace (indexOf tens ones)) Nothing
 
 -- 26 tells a byte of the line: the word starts after `PUT/`
 abbrev pub wordVerdict : ℕ → one.Judged → Verdict

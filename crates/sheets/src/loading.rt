@@ -10,6 +10,7 @@ ghost use Rattle.sheets.specs.Sheet.{saidBy, settingLines, keptSaid};
 ghost use Rattle.sheets.specs.Loading.{settingsIn, valuesFrom, Loads};
 ghost use Rattle.sheets.specs.Keeping.{settingsAs, valuesAs};
 use crate::answers::Sheeted;
+use crate::writing::HEAD;
 use crate::writing::key_length;
 use crate::writing::series_line;
 use crate::writing::setting_line;
@@ -122,7 +123,7 @@ fn settings_in(series: Series, sheet: &[u8]) -> Settings
     }
     let count = settings_of(series);
     let mut settings = [0; SETTINGS];
-    let mut at = 14;
+    let mut at = HEAD;
     let mut i = 0;
     while i < count {
         let rest = &sheet[at..];

@@ -21,9 +21,15 @@ use state::image::decode;
 // The length of the longest sheet of either series.
 pub const LONGEST: usize = 441;
 
-// A line from the start of 20 bytes, the longest, and its length; the rest is 0.
+// The length of the first line, which names the series.
+pub(crate) const HEAD: usize = 14;
+
+// The length of the longest line: a value's key, its 15 characters and LF.
+const LINE: usize = 20;
+
+// A line from the start of the longest, and its length; the rest is 0.
 pub struct Line {
-    pub bytes: [u8; 20],
+    pub bytes: [u8; LINE],
     pub n: usize,
 }
 
@@ -47,7 +53,7 @@ pub(crate) fn key_length(key: [u8; 5]) -> usize
 }
 
 // Gives the line that names the series.
-pub(crate) fn series_line(series: Series) -> [u8; 14]
+pub(crate) fn series_line(series: Series) -> [u8; HEAD]
     ensures { λ r. ⌜ r ≡ seriesLine series ⌝ }
 {
     match series {
@@ -62,7 +68,7 @@ pub(crate) fn setting_line(series: Series, place: usize, parameter: u8) -> Line
 {
     let key = key_at(series, place);
     let n = key_length(key);
-    let mut bytes = [0; 20];
+    let mut bytes = [0; LINE];
     let after_key = put(&mut bytes, 0, &key[0..n]);
     let after_number = put_decimal(&mut bytes, after_key, wide(parameter));
     let end = put(&mut bytes, after_number, b"\n");
@@ -79,7 +85,7 @@ pub(crate) fn value_line(place: usize, kept: Kept) -> Line
     let row = stored_at(place);
     let key = row.key;
     let n = key_length(key);
-    let mut bytes = [0; 20];
+    let mut bytes = [0; LINE];
     let mut at = put(&mut bytes, 0, &key[0..n]);
     if let Kept::Put(_, _, _) = kept {
         let word = get_word(place, kept);
