@@ -10,25 +10,25 @@ use Rattle.instrument.specs.Values.{stored}
 use Rattle.commands.specs.Shapes.{groupsRight, indexesIn}
 use Rattle.units.specs.declared.kinds.Family.the-variants.{Station, Level}
 use Rattle.bench.specs.Readings.{All}
-use Rattle.bench.specs.Told.{station, level, lines}
+use Rattle.bench.specs.Told.{stationTold, levelTold, linesTold}
 
-pub station-told : All Station station
+pub station-told : All Station stationTold
 unfolding among every runOf numberFrom blockFrom
 station-told =
-    let from16 : All Station (drop 16 station) = ((refl, refl), ((refl, refl), ((refl, refl), ((refl, refl), tt)))) in
-    let from8 : All Station (drop 8 station) =
+    let from16 : All Station (drop 16 stationTold) = ((refl, refl), ((refl, refl), ((refl, refl), ((refl, refl), tt)))) in
+    let from8 : All Station (drop 8 stationTold) =
     ((refl, refl), ((refl, refl), ((refl, refl), ((refl, refl), ((refl, refl), ((refl, refl), ((refl, refl), ((refl, refl), from16)))))))) in
     ((refl, refl), ((refl, refl), ((refl, refl), ((refl, refl), ((refl, refl), ((refl, refl), ((refl, refl), ((refl, refl), from8))))))))
 
-pub level-told : All Level level
+pub level-told : All Level levelTold
 unfolding among every runOf numberFrom blockFrom
 level-told = ((refl, refl), ((refl, refl), ((refl, refl), ((refl, refl), ((refl, refl), ((refl, refl), ((refl, refl), ((refl, refl), tt))))))))
 
-pub lines-told : All Station lines
+pub lines-told : All Station linesTold
 unfolding among every runOf startsWith numberFrom seek rows100 stored groupsRight indexesIn
 lines-told =
-    let from10 : All Station (drop 10 lines) =
+    let from10 : All Station (drop 10 linesTold) =
     ((refl, refl, refl), ((refl, refl, refl), ((refl, refl, refl), ((refl, refl, refl), ((refl, refl, refl), tt))))) in
-    let from5 : All Station (drop 5 lines) =
+    let from5 : All Station (drop 5 linesTold) =
     ((refl, refl, refl), ((refl, refl, refl), ((refl, refl, refl), ((refl, refl, refl), ((refl, refl, refl), from10))))) in
     ((refl, refl, refl), ((refl, refl, refl), ((refl, refl, refl), ((refl, refl, refl), ((refl, refl, refl), from5)))))

@@ -5,20 +5,17 @@ use mathlib.Core.Bool.{true, false}
 use mathlib.Core.List.{List, [], _∷_, _++_, map}
 use lib.ListN.{length, take, drop}
 use Rattle.figures.specs.Text.{codes}
-use Rattle.units.specs.Counts.{whole}
+use Rattle.units.specs.Counts.{whole, metres, feet}
 use Rattle.units.specs.declared.counts.Count.{Count}
-use Rattle.units.specs.declared.counts.Count.the-variants.{Text, Metre, Feet, Inch}
+use Rattle.units.specs.declared.counts.Count.the-variants.{Text, Inch}
 use Rattle.bench.specs.Readings.{Trial, Given, accepted, refused, read, one, word, givenWord, textWord, countWord, mm, minus-mm}
 
--- the last of so many decimals of a metre or a foot, and 1/2000 inch
-abbrev pub metres : ℕ → ℕ → Count
-metres d n = Metre (record { 0 = whole 0 n; 1 = d })
-
+-- 1/10 mm, the last of so many decimals of a foot, and 1/2000 inch
 abbrev pub tenth-mm : ℕ → Count
-tenth-mm n = metres 4 n
+tenth-mm n = metres 4 (whole 0 n)
 
 abbrev pub foot : ℕ → ℕ → Count
-foot d n = Feet (record { 0 = whole 0 n; 1 = d })
+foot d n = feet d (whole 0 n)
 
 abbrev pub inch : ℕ → Count
 inch n = Inch (record { 0 = whole 0 n })
@@ -89,10 +86,10 @@ levels =
     ++ (eachGives 3 "" (foot 3 1) ("331111" ∷ [])
     ++ (eachGives 3 "" (tenth-mm 1) ("331126" ∷ [])
     ++ (eachGives 3 "" (foot 4 1) ("331147" ∷ [])
-    ++ (eachGives 3 "" (metres 5 1) ("331178" ∷ [])
+    ++ (eachGives 3 "" (metres 5 (whole 0 1)) ("331178" ∷ [])
     ++ (eachGives 3 "" (inch 1) ("331.59" ∷ [])
     -- "6 and 10 by the level's rules": a level has no angle, and so no 10
-    ++ (wordGives "331106-99999999 " (countWord "331" "106" (Metre (record { 0 = whole 1 99999999; 1 = 4 })))
+    ++ (wordGives "331106-99999999 " (countWord "331" "106" (metres 4 (whole 1 99999999)))
     ∷ refused (word "521...-00000001 ") 7 6
     ∷ refused (word "331106+0001019a ") 8 14
     ∷ accepted (word "*331106+0000000000010198 ") (read true false 1 26) (countWord "331" "106" (tenth-mm 10198) ∷ [])

@@ -7,10 +7,10 @@ use mathlib.Core.Bool.{Bool, false}
 use mathlib.Core.List.{List, [], _∷_, _++_, map}
 use lib.ListN.{replicate}
 use Rattle.figures.specs.Text.{codes}
-use Rattle.units.specs.Counts.{whole, zeroWhole}
+use Rattle.units.specs.Counts.{whole, metres, feet, zeroWhole}
 use Rattle.units.specs.declared.counts.Whole.{Whole}
 use Rattle.units.specs.declared.counts.Count.{Count}
-use Rattle.units.specs.declared.counts.Count.the-variants.{Gon, Degree, Tenth, Mil, Metre, Feet, Inch, Ppm, Pair}
+use Rattle.units.specs.declared.counts.Count.the-variants.{Gon, Degree, Tenth, Mil, Inch, Ppm, Pair}
 use Rattle.words.specs.Records.{width}
 use Rattle.words.specs.Reading.{wordSize}
 use Rattle.blocks.specs.Judging.{firstAt}
@@ -48,18 +48,18 @@ pairGives wide ppm mm c =
     (countWord "51" "..1." c ∷ [])
 
 -- a total station's: each unit, the constants, either half of a pair
-abbrev pub station : Bool → List Trial
-station wide =
+abbrev pub stationNoughts : Bool → List Trial
+stationNoughts wide =
     gives wide "21" ".102" (Gon (record { 0 = minusNought }))
     ∷ gives wide "21" ".103" (Degree (record { 0 = minusNought }))
     ∷ gives wide "21" ".104" (Tenth (record { 0 = minusNought }))
     ∷ gives wide "21" ".105" (Mil (record { 0 = minusNought }))
     ∷ gives wide "31" "..00" (minus-mm 0)
-    ∷ gives wide "31" "..01" (Feet (record { 0 = minusNought; 1 = 3 }))
-    ∷ gives wide "31" "..06" (Metre (record { 0 = minusNought; 1 = 4 }))
-    ∷ gives wide "31" "..07" (Feet (record { 0 = minusNought; 1 = 4 }))
-    ∷ gives wide "31" "..08" (Metre (record { 0 = minusNought; 1 = 5 }))
-    ∷ gives wide "58" "..16" (Metre (record { 0 = minusNought; 1 = 4 }))
+    ∷ gives wide "31" "..01" (feet 3 minusNought)
+    ∷ gives wide "31" "..06" (metres 4 minusNought)
+    ∷ gives wide "31" "..07" (feet 4 minusNought)
+    ∷ gives wide "31" "..08" (metres 5 minusNought)
+    ∷ gives wide "58" "..16" (metres 4 minusNought)
     ∷ gives wide "59" "..16" (Ppm (record { 0 = minusNought }))
     ∷ pairGives wide "-" "+" (Pair minusNought zeroWhole)
     ∷ pairGives wide "+" "-" (Pair zeroWhole minusNought)
@@ -67,15 +67,15 @@ station wide =
     ∷ []
 
 -- a level's: each unit after three digits, and after two
-abbrev pub level : Bool → List Trial
-level wide =
+abbrev pub levelNoughts : Bool → List Trial
+levelNoughts wide =
     gives wide "573" "..0" (minus-mm 0)
-    ∷ gives wide "573" "..1" (Feet (record { 0 = minusNought; 1 = 3 }))
-    ∷ gives wide "573" "..6" (Metre (record { 0 = minusNought; 1 = 4 }))
-    ∷ gives wide "573" "..7" (Feet (record { 0 = minusNought; 1 = 4 }))
-    ∷ gives wide "573" "..8" (Metre (record { 0 = minusNought; 1 = 5 }))
+    ∷ gives wide "573" "..1" (feet 3 minusNought)
+    ∷ gives wide "573" "..6" (metres 4 minusNought)
+    ∷ gives wide "573" "..7" (feet 4 minusNought)
+    ∷ gives wide "573" "..8" (metres 5 minusNought)
     ∷ gives wide "573" "..9" (Inch (record { 0 = minusNought }))
-    ∷ gives wide "83" "..16" (Metre (record { 0 = minusNought; 1 = 4 }))
+    ∷ gives wide "83" "..16" (metres 4 minusNought)
     ∷ []
 
 -- a minus before mm of nought alone; and what is refused as before, an angle out of its range and text with a minus

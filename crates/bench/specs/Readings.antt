@@ -9,11 +9,11 @@ use lib.ListN.{length, replicate}
 use Rattle.figures.specs.Text.{codes}
 use Rattle.figures.specs.Bytes.{laid}
 use Rattle.figures.specs.Decimal.{numberOf}
-use Rattle.units.specs.Counts.{whole}
+use Rattle.units.specs.Counts.{whole, metres, feet}
 use Rattle.words.specs.Records.{typedOf}
 use Rattle.units.specs.declared.kinds.Family.{Family}
 use Rattle.units.specs.declared.counts.Count.{Count}
-use Rattle.units.specs.declared.counts.Count.the-variants.{Text, Gon, Tenth, Metre, Feet, Pair}
+use Rattle.units.specs.declared.counts.Count.the-variants.{Text, Gon, Tenth, Pair}
 use Rattle.words.specs.declared.records.Word.{Word}
 use Rattle.blocks.specs.Answers.{refusalNumber, refusalTells}
 use Rattle.blocks.specs.Judging.{Judgement, isWide, judged}
@@ -109,16 +109,12 @@ gon n = Gon (record { 0 = whole 0 n })
 abbrev pub tenth : ℕ → Count
 tenth n = Tenth (record { 0 = whole 0 n })
 
--- 1/1000 ft
-abbrev pub feet : ℕ → Count
-feet n = Feet (record { 0 = whole 0 n; 1 = 3 })
-
 -- 1 mm, and below zero
 abbrev pub mm : ℕ → Count
-mm n = Metre (record { 0 = whole 0 n; 1 = 3 })
+mm n = metres 3 (whole 0 n)
 
 abbrev pub minus-mm : ℕ → Count
-minus-mm n = Metre (record { 0 = whole 1 n; 1 = 3 })
+minus-mm n = metres 3 (whole 1 n)
 
 abbrev pub pair : ℕ → ℕ → Count
 pair ppm mm = Pair (whole 0 ppm) (whole 0 mm)
@@ -136,7 +132,7 @@ table =
     (textWord "11" "0014" "00000003"
     ∷ countWord "21" ".324" (tenth 10075730)
     ∷ countWord "22" ".324" (tenth 9720430)
-    ∷ countWord "31" "..01" (feet 265965)
+    ∷ countWord "31" "..01" (feet 3 (whole 0 265965))
     ∷ countWord "51" "..1." (pair 9 0)
     ∷ [])
     ∷ refused (codes "\r") 3 0  -- P2

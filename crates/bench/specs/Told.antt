@@ -10,8 +10,8 @@ abbrev pub at : String → ℕ → ℕ → Trial
 at w number byte = refused (word w) number byte
 
 -- a total station's
-abbrev pub station : List Trial
-station =
+abbrev pub stationTold : List Trial
+stationTold =
     at "A1....+00000001 " 5 0
     ∷ at "1A....+00000001 " 5 1
     ∷ at "14....+00000001 " 15 0
@@ -36,8 +36,8 @@ station =
     ∷ []
 
 -- a level's
-abbrev pub level : List Trial
-level =
+abbrev pub levelTold : List Trial
+levelTold =
     at "3A1106+00010198 " 5 1
     ∷ at "337106+00010198 " 15 0
     ∷ at "33x106+00010198 " 15 0
@@ -49,8 +49,8 @@ level =
     ∷ []
 
 -- a line to a fresh stand-in: its number, and of 26 which rule and the byte
-abbrev pub lines : List Trial
-lines =
+abbrev pub linesTold : List Trial
+linesTold =
     tells (word "") 22 0 0
     ∷ tells (word "set/30/1") 22 0 0
     ∷ tells (word "UND") 22 0 0

@@ -9,7 +9,7 @@ use borrow.Author.Tests.{lt-ltb, le-ltb, lt-leb, le-leb, eq-eqb, ne-eqb}
 use lib.ListN.{length, set, take, drop, replicate, length-append}
 use lib.Seq.{take-at}
 use Rattle.figures.specs.Bytes.{laid}
-use Rattle.figures.proofs.Bytes.{laid-fits}
+use Rattle.figures.proofs.Bytes.{laid-fits, end-long}
 use Rattle.words.specs.Records.{blank}
 use Rattle.units.specs.declared.kinds.Family.{Family}
 use Rattle.words.specs.declared.records.Word.{Word}
@@ -102,10 +102,6 @@ module _ (star words room bytes : List ℕ) (at : ℕ) (crlf : Bool) (ea : at �
       let size : at + 1 + 1 ≡ length (cr ++ (10 ∷ [])) = omega (arith, past, length-append cr (10 ∷ [])) in
       rw (ec, ← all) (wrote-as (at + 1 + 1) (set (set bytes at 13) (at + 1) 10) (cr ++ (10 ∷ [])) room size both)
 
-pub end-small : (crlf : Bool) → length (endBytes crlf) ≤ 2
-end-small true = omega arith
-end-small false = omega arith
-
 -- what is laid in a room is taken from its start
 laid-whole : (bytes room all : List ℕ) (n : ℕ) → n ≡ length bytes → n ≤ length room → all ≡ laid bytes room → take n all ≡ bytes
 laid-whole bytes room all n en fits e = rw (e, laid-fits bytes room (omega arith)) (take-at bytes (drop (length bytes) room) n (sym en))
@@ -158,7 +154,7 @@ module _ (f : Family) (wide crlf : Bool) (ws : List Word) (few : length ws ≤ 3
             let words = wordsBytes f wide ws in
             let sizes : length all ≡ length (star ++ words) + length (endBytes crlf) =
             omega (arith, length-append star words, length-append star (words ++ endBytes crlf), length-append words (endBytes crlf)) in
-            let small : n ≤ 771 = omega (arith, told .1, words-end f wide ws few (told .0), end-small crlf) in
+            let small : n ≤ 771 = omega (arith, told .1, words-end f wide ws few (told .0), end-long crlf) in
             (told .1, told .2, small, written-some some-words ∙ unless-right f wide ws _ _ (told .0))
 
     -- what is composed, put in the room, is what is written

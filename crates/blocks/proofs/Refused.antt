@@ -9,6 +9,7 @@ use lib.Dec.{eqb, ltb}
 use lib.ListN.{length, length-append}
 use Rattle.figures.specs.Bytes.{laid}
 use Rattle.figures.specs.Text.{endBytes}
+use Rattle.figures.proofs.Bytes.{end-long}
 use Rattle.units.specs.declared.kinds.Family.{Family}
 use Rattle.words.specs.declared.records.Word.{Word}
 use Rattle.blocks.specs.Answers.{refusalTells}
@@ -24,7 +25,6 @@ use Rattle.blocks.specs.declared.answers.Wrote.the-variants as wrote
 use Rattle.blocks.proofs.Counts.{judged-by}
 use Rattle.blocks.proofs.Rooms.{wrong-by, words-fit, star-small}
 use Rattle.blocks.proofs.Steps.{apart, cond-by}
-use Rattle.blocks.proofs.Composes.{end-small}
 use Rattle.blocks.proofs.Written.{neither}
 
 -- what holds of each refusal that tells no more than a block's bytes, and of a block of no more, holds of what is written
@@ -46,7 +46,7 @@ module _ (f : Family) (ws : List Word) (wide crlf : Bool) (room : List ℕ) (P :
         length-append words end,
         words-fit f wide ws most right,
         star-small wide,
-        end-small crlf,
+        end-long crlf,
       ) in
       cond-by P (ltb (length room) (length all)) _ _ (λ _. refuses (Room (length all)) small) (λ _. writes small)))
 

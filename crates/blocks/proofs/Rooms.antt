@@ -62,11 +62,11 @@ pub unless-by : (f : Family) {A : Type 0} (wide : Bool) (i : ℕ) (ws : List Wor
 unfolding unlessWrong
 unless-by f wide i [] wrong next = refl
 unless-by f {A} wide i (w ∷ ws) wrong next =
-    both (isRight f wide w) (unlessWrong f wide (i + 1) ws wrong next) (firstWrong f wide (i + 1) ws) (unless-by f wide (i + 1) ws wrong next)
+    one-more (isRight f wide w) (unlessWrong f wide (i + 1) ws wrong next) (firstWrong f wide (i + 1) ws) (unless-by f wide (i + 1) ws wrong next)
   where
-    both : (t : Bool) (a : A) (o : Option ℕ) → a ≡ byFirst wrong next o → cond t a (wrong i) ≡ byFirst wrong next (cond t o (some i))
-    both true a o e = e
-    both false a o e = refl
+    one-more : (t : Bool) (a : A) (o : Option ℕ) → a ≡ byFirst wrong next o → cond t a (wrong i) ≡ byFirst wrong next (cond t o (some i))
+    one-more true a o e = e
+    one-more false a o e = refl
 
 module _ {A : Type 0} (f : Family) (wide : Bool) (ws : List Word) (wrong : ℕ → A) (next : A) where
   pub unless-right : firstWrong f wide 0 ws ≡ none → unlessWrong f wide 0 ws wrong next ≡ next

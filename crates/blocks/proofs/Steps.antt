@@ -44,11 +44,11 @@ pub is-past : (b : ℕ) (s : List ℕ) (at : ℕ) → length s ≤ at → isAt b
 is-past b s at h = rw (drop-of-length-le s h)
 
 pub is-inside : (b : ℕ) (s : List ℕ) (at : ℕ) → isAt b (drop at s) ≡ true → at < length s
-is-inside b s at e = omega (arith, ltb-true 0 (length (drop at s)) (both (ltb 0 (length (drop at s))) (eqb (getD (drop at s) 0 0) b) e), length-drop at s)
+is-inside b s at e = omega (arith, ltb-true 0 (length (drop at s)) (is-on (ltb 0 (length (drop at s))) (eqb (getD (drop at s) 0 0) b) e), length-drop at s)
   where
-    both : (t u : Bool) → cond t u false ≡ true → t ≡ true
-    both true u e = refl
-    both false u e = e
+    is-on : (t u : Bool) → cond t u false ≡ true → t ≡ true
+    is-on true u e = refl
+    is-on false u e = e
 
 -- whether LF follows the CR at a place
 pub ended-by : (wide : Bool) (at : ℕ) (s : List ℕ) (n : ℕ) (t : Bool) → isAt 10 (drop (at + 1) s) ≡ t

@@ -10,7 +10,7 @@ use lib.ListN.{length, getD, take, drop, length-append}
 use lib.Seq.{drop-at, take-at}
 use Rattle.figures.specs.Bytes.{laid}
 use Rattle.figures.specs.Decimal.{isDigit}
-use Rattle.figures.proofs.Bytes.{within-bounds, laid-fits}
+use Rattle.figures.proofs.Bytes.{laid-fits}
 use Rattle.words.specs.Records.{isRight}
 use Rattle.words.specs.Reading.{wordSize, wordOf, rightWord}
 use Rattle.words.specs.Writing.{bytesOf}
@@ -21,6 +21,7 @@ use Rattle.words.proofs.RoundTrip.{write-read, bytes-length, first-written}
 use Rattle.blocks.specs.Judging.{isAt, isWide, firstAt, blockFrom, judged}
 use Rattle.blocks.specs.Composing.{starBytes, wordsBytes, blockBytes, unlessWrong, Written·room, refusedRoom, blockInRoom, written}
 use Rattle.figures.specs.Text.{endBytes}
+use Rattle.figures.proofs.Decimal.{digit-not}
 use Rattle.blocks.specs.declared.answers.Refusal.{Refusal}
 use Rattle.blocks.specs.declared.answers.Refusal.the-variants.{Count, Record, Room}
 use Rattle.blocks.specs.declared.answers.Wrote.the-variants.{Refused, Written}
@@ -40,11 +41,8 @@ digit-some : (s : List ℕ) → isDigit (getD s 0 0) ≡ true → 0 < length s
 digit-some [] e = absurd (false≢true e)
 digit-some (x ∷ s) e = omega arith
 
-digit-not : (s : List ℕ) (b : ℕ) → isDigit (getD s 0 0) ≡ true → b < 48 → eqb (getD s 0 0) b ≡ false
-digit-not s b e h = let d = within-bounds 48 57 (getD s 0 0) e in ne-eqb (getD s 0 0) b (λ q. omega arith)
-
 no-end : (s : List ℕ) → isDigit (getD s 0 0) ≡ true → isAt 13 s ≡ false
-no-end s e = rw (lt-ltb 0 (length s) (digit-some s e), digit-not s 13 e (omega arith))
+no-end s e = rw (lt-ltb 0 (length s) (digit-some s e), digit-not (getD s 0 0) 13 e (omega arith))
 
 -- a step of the walk through a block, at a word
 goes : (f : Family) (more : ℕ) (wide : Bool) (places at : ℕ) (s rest : List ℕ) (done : List Word) (w : Word) → isAt 13 s ≡ false
@@ -102,7 +100,7 @@ words-digit f wide (w ∷ ws) rest l =
 
 star-wide : (wide : Bool) (t : List ℕ) → isDigit (getD t 0 0) ≡ true → isWide (starBytes wide ++ t) ≡ wide
 star-wide true t e = refl
-star-wide false t e = digit-not t 42 e (omega arith)
+star-wide false t e = digit-not (getD t 0 0) 42 e (omega arith)
 
 -- past `*`, where the words begin
 opens : (f : Family) (wide : Bool) (t : List ℕ) (places : ℕ) → isDigit (getD t 0 0) ≡ true

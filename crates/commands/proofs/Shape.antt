@@ -13,6 +13,7 @@ use Rattle.figures.specs.Bytes.{startsWith, sameBytes}
 use Rattle.figures.specs.Decimal.{numberFrom, numberOf}
 use Rattle.figures.specs.declared.Said.the-variants as said
 use Rattle.figures.proofs.Bytes.{same-true, starts-length}
+use Rattle.figures.proofs.Tests.{either}
 use Rattle.commands.specs.Shapes.{slashAt, numberRight, numberShape, groupRight, groupsRight, groupsIn, indexesIn, hasKeyword, orderOf}
 use Rattle.commands.specs.Shapes.{set-slash, conf-slash, put-slash, get-i, undo-word, keep-word}
 use Rattle.commands.specs.declared.shapes.Order.{Order}
@@ -77,10 +78,6 @@ pub number-not : (s : List ℕ) → said.Not ≡ numberShape s → numberRight s
 number-not s e = number-none (numberRight s) (numberOf s) e
 
 -- what holds of an order holds of the line's, if it holds of each that the line may be
-
-either : (P : Order → Type 0) (b : Bool) (x y : Order) → (b ≡ true → P x) → P y → P (cond b x y)
-either P true x y px py = px refl
-either P false x y px py = py
 
 pub order-by : (P : Order → Type 0) (t : List ℕ) → P WrongShape → P NoKeyword → (startsWith set-slash t ≡ true → (n p : ℕ) → P (Set n p)) → ((n : ℕ) → P (Conf n))
     → (startsWith put-slash t ≡ true → length t ≡ 20 → P Put)

@@ -17,11 +17,11 @@ use Rattle.words.proofs.Places.{spread}
 use Rattle.units.specs.declared.kinds.Family.the-variants.{Station}
 use Rattle.words.specs.declared.records.Word.{Word}
 use Rattle.words.specs.declared.reading.OneWord.{OneWord}
-use Rattle.instrument.specs.Values.{storedAt, putRight, putKept, eightOf}
+use Rattle.instrument.specs.Values.{isText, storedAt, putRight, putKept, eightOf}
 use Rattle.instrument.specs.declared.values.Eight.{Eight}
 use Rattle.instrument.proofs.Kept.{word-back, put-kept-right}
-use Rattle.controller.specs.Given.{isText, zeros, given}
-use Rattle.controller.proofs.Words.{places, rowGiven, place-reads, kept-small}
+use Rattle.controller.specs.Given.{zeros, given}
+use Rattle.controller.proofs.Words.{positions, rowGiven, place-reads, kept-small}
 
 -- w is given for what b left at the place
 pub record PutGiven (wide : Bool) (place : ℕ) (b : List ℕ) (w : Word) : Type 0 where
@@ -50,7 +50,7 @@ module _ (place : ℕ) (b : List ℕ) (long : length b ≡ 16) (named : storedAt
       let m = signOf (pos 7 b) in
       let kept = put-kept-right place b long named first second right in
       let small = kept-small place u m d kept in
-      let is : b ≡ spread (places false false u m d small (storedAt place)) [] =
+      let is : b ≡ spread (positions false false u m d small (storedAt place)) [] =
       sym (word-back place b long named first second right) ∙ rw (same-cond (eqb (storedAt place .first) 46) 46) in
       ap (wordOf Station false) is ∙ place-reads false false u m d small place kept
 

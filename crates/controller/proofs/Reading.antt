@@ -5,15 +5,15 @@ use mathlib.Core.Bool.{Bool, true, false, cond}
 use mathlib.Core.List.{List, [], _∷_, _++_, flatMap, append-assoc}
 use native.Mathlib.Nat.{add-zero, zero-add}
 use native.Mathlib.Omega.{arith}
-use borrow.Author.Tests.{ne-eqb, leb-true}
-use lib.Dec.{eqb, leb}
+use borrow.Author.Tests.{leb-true}
+use lib.Dec.{leb}
 use lib.ListN.{length, drop, length-drop}
 use lib.Seq.{getD-set-same}
 use Rattle.figures.specs.Text.{codes, endBytes}
 use Rattle.figures.specs.Bytes.{every, startsWith}
 use Rattle.figures.specs.Decimal.{isDigit, numberFrom}
-use Rattle.figures.proofs.Bytes.{within-bounds}
 use Rattle.figures.proofs.Tests.{both}
+use Rattle.figures.proofs.Decimal.{digit-not}
 use Rattle.units.specs.Kinds.{indexOf}
 use Rattle.words.specs.Reading.{pos, wordOf}
 use Rattle.units.specs.declared.kinds.Family.the-variants.{Station}
@@ -21,21 +21,21 @@ use Rattle.blocks.specs.Judging.{Judgement, judged}
 use Rattle.blocks.specs.Rules.{readAs, readingOf}
 use Rattle.instrument.specs.Values.{isPut, keptRight, valuePlace, putKept}
 use Rattle.instrument.specs.declared.settings.Found.{Found}
-use Rattle.instrument.specs.declared.settings.Found.the-variants.{Nothing, At}
+use Rattle.instrument.specs.declared.settings.Found.the-variants.{At}
 use Rattle.instrument.specs.declared.values.Kept.{Kept}
 use Rattle.instrument.specs.declared.values.Kept.the-variants.{Never}
 use Rattle.instrument.specs.declared.values.Value.{Value}
 use Rattle.state.specs.Entries.{valueOf, valueHeld, isState, valuesRight}
 use Rattle.state.specs.declared.entries.State.{State}
 use Rattle.commands.specs.Shapes.{textOf, isPlain, isEnded, groupsRight, groupsIn, indexesIn, indexesOf, orderOf}
-use Rattle.lines.specs.Verdicts.{isAccepted, placeNamed, putVerdict, getBy, getVerdict, orderVerdict, lineVerdict}
+use Rattle.lines.specs.Verdicts.{isAccepted, placeNamed, putVerdict, getVerdict, orderVerdict, lineVerdict}
 use Rattle.lines.specs.Orders.{putTo, changedBy, changeAt, deedOf, lineDeed, doneOf}
 use Rattle.lines.specs.Replies.{endsLf, answersWide, star, wordAt, getWords, replyEnd, replyOf}
 use Rattle.lines.specs.Machine.{Outcome, run}
 use Rattle.commands.specs.declared.shapes.Order.{Order}
 use Rattle.commands.specs.declared.shapes.Order.the-variants.{Put, Get}
 use Rattle.lines.specs.declared.verdicts.Verdict.{Verdict}
-use Rattle.lines.specs.declared.verdicts.Verdict.the-variants.{Accepted, NeverPut}
+use Rattle.lines.specs.declared.verdicts.Verdict.the-variants.{Accepted}
 use Rattle.lines.proofs.Deeds.{state-right}
 use Rattle.commands.proofs.Shape.{order-put, order-get, groups-length, indexes-many}
 use Rattle.lines.proofs.Lookups.{value-found, named, place-in}
@@ -43,6 +43,7 @@ use Rattle.lines.proofs.Runs as runs
 use Rattle.lines.proofs.Runs.{PutRuns, put-runs}
 use Rattle.lines.proofs.States.{step-state}
 use Rattle.lines.proofs.Longest.{fits-459}
+use Rattle.lines.proofs.Replying.{names-put}
 use Rattle.controller.specs.Given.{given}
 use Rattle.controller.specs.Gotten.{recordAt, gotten}
 use Rattle.controller.proofs.Blocks.{Held, heldBytes, heldWords, held-length, words-read}
@@ -57,19 +58,6 @@ values-at k (v ∷ vs) (suc i) e =
     let q : k + suc i ≡ k + 1 + i = omega arith in
     rw q (values-at (k + 1) vs i (both (keptRight k (v .kept)) (valuesRight (k + 1) vs) e .1))
 
--- an index that isn't refused names a value that was put
-
-abbrev Named : List Value → Found → Type 0
-Named values f = (i : ℕ) × ((f ≡ At i) × (isPut (valueHeld values i .kept) ≡ true))
-
-one-named : (values : List Value) (f : Found) (next : Verdict) → getBy values f next ≡ Accepted → (next ≡ Accepted) × Named values f
-one-named values Nothing next e = let z : _≡_ {A = ℕ} 0 1 = cc in absurd (omega arith)
-one-named values (At i) next e = let p = put (isPut (valueHeld values i .kept)) e in (p .0, (i, (refl, p .1)))
-  where
-    put : (b : Bool) → cond b next NeverPut ≡ Accepted → (next ≡ Accepted) × (b ≡ true)
-    put true e = (e, refl)
-    put false e = let z : _≡_ {A = ℕ} 0 1 = cc in absurd (omega arith)
-
 -- what indexes get: their values, whose words are the reply's and whose records are those that are given
 pub record Gets (wide : Bool) (values : List Value) (indexes : List ℕ) : Type 0 where
   pub held : List Held
@@ -82,7 +70,7 @@ pub gets : (wide : Bool) (values : List Value) → valuesRight 0 values ≡ true
 unfolding flatMap heldBytes heldWords
 gets wide values right [] e = record { held = []; many = refl; bytes = refl; words = refl }
 gets wide values right (n ∷ ns) e =
-    let r = one-named values (valuePlace n) (getVerdict values ns) e in
+    let r = names-put values (valuePlace n) (getVerdict values ns) e in
     let i = r .1 .0 in
     let kept : keptRight i (valueHeld values i .kept) ≡ true = rw zero-add at (values-at 0 values i right) in
     let h : Held = record { place = i; kept = valueHeld values i .kept; put = r .1 .1 .1; right = kept } in
@@ -168,13 +156,10 @@ ask-index : (a b : ℕ) → indexesOf (codes "GET/I/WI" ++ (a ∷ b ∷ [])) ≡
 unfolding indexesIn numberFrom
 ask-index a b = rw zero-add
 
-digit-not : (a : ℕ) → isDigit a ≡ true → (n : ℕ) → n ≤ 47 → eqb a n ≡ false
-digit-not a p n h = let d = within-bounds 48 57 a p in ne-eqb a n (λ e. omega arith)
-
 ask-plain : (a b : ℕ) → isDigit a ≡ true → isDigit b ≡ true → isPlain (codes "GET/I/WI" ++ (a ∷ b ∷ [])) ≡ true
 unfolding every
 ask-plain a b p q =
-    rw (digit-not a p 13 (omega arith), digit-not a p 10 (omega arith), digit-not b q 13 (omega arith), digit-not b q 10 (omega arith))
+    rw (digit-not a 13 p (omega arith), digit-not a 10 p (omega arith), digit-not b 13 q (omega arith), digit-not b 10 q (omega arith))
 
 ask-ended : (a b : ℕ) (crlf : Bool) → isDigit a ≡ true → isDigit b ≡ true → isEnded (askOf a b crlf) ≡ true
 ask-ended a b true p q = ask-plain a b p q

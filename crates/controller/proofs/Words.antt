@@ -15,7 +15,7 @@ use Rattle.figures.proofs.Bytes.{within-bounds}
 use Rattle.figures.proofs.Tests.{both, by-test, Even, along}
 use Rattle.units.specs.Kinds.{stationKind, isListed, isTextual}
 use Rattle.units.specs.Information.{stationMarks, allRight, signByte, signRight}
-use Rattle.units.specs.Counts.{whole, zeroWhole, degrees, minutes, seconds, tenthsOf, counted, angleAt, lengthOf, valueAt, firstOf, secondOf}
+use Rattle.units.specs.Counts.{whole, zeroWhole, degrees, minutes, seconds, tenthsOf, counted, angleAt, lengthOf, valueAt, firstOf, secondOf, gonLimit, degreeLimit}
 use Rattle.units.proofs.Positions.{tensOf, onesOf, index-on, index-below, tens-digit, ones-digit, sign-on, sign-right}
 use Rattle.words.specs.Records.{width, isGraphic, isRight, recordOf}
 use Rattle.words.proofs.Letters.{one-right, text-right}
@@ -72,9 +72,9 @@ counted-sized false c x p q e = absurd (false≢true e)
 -- units 2, 3 and 4
 angle-sized : (u m n : ℕ) → 50 ≤ u → u ≤ 52 → isCounted (angleAt u m n) ≡ true → Sized (angleAt u m n) (whole m (sizeIn u n))
 angle-sized u m n low high =
-    by-test (eqb u 50) (λ q. rw (eqb-true u 50 q) (counted-sized (ltb n 40000000) (Gon (record { 0 = whole m n })) (whole m n) refl refl))
+    by-test (eqb u 50) (λ q. rw (eqb-true u 50 q) (counted-sized (ltb n gonLimit) (Gon (record { 0 = whole m n })) (whole m n) refl refl))
     (λ q.
-    by-test (eqb u 51) (λ s. rw (eqb-true u 51 s) (counted-sized (ltb n 36000000) (Degree (record { 0 = whole m n })) (whole m n) refl refl))
+    by-test (eqb u 51) (λ s. rw (eqb-true u 51 s) (counted-sized (ltb n degreeLimit) (Degree (record { 0 = whole m n })) (whole m n) refl refl))
     (λ s.
     let is : u ≡ 52 = omega (arith, eqb-false u 50 q, eqb-false u 51 s) in
     let range = ltb (degrees n) 360 && (ltb (minutes n) 60 && ltb (seconds n) 60) in
@@ -122,8 +122,8 @@ module _ (get wide : Bool) (u m : ℕ) (d : Eight) (small : m ≤ 1) where
   abbrev letters : List ℕ
   letters = zeros wide ++ eightBytes d
 
-  abbrev pub places : Stored → Places
-  places r = record {
+  abbrev pub positions : Stored → Places
+  positions r = record {
     tens = tensOf (r .index);
     ones = onesOf (r .index);
     first = 46;
@@ -152,7 +152,7 @@ module _ (get wide : Bool) (u m : ℕ) (d : Eight) (small : m ≤ 1) where
 
   -- a value that the row holds
   abbrev Reads : Stored → Type 0
-  Reads r = r .first ≤ u → u ≤ r .last → heldBy r u m (eightBytes d) ≡ true → wordBy Station wide (places r) ≡ rightWord (rowGiven r)
+  Reads r = r .first ≤ u → u ≤ r .last → heldBy r u m (eightBytes d) ≡ true → wordBy Station wide (positions r) ≡ rightWord (rowGiven r)
 
   abbrev Units : Stored → Type 0
   Units r = Even (informs (stationKind (r .index)) (modeIn get r)) true (r .first) (suc (r .last))
@@ -161,7 +161,7 @@ module _ (get wide : Bool) (u m : ℕ) (d : Eight) (small : m ≤ 1) where
       → signRight (stationKind (r .index)) (signByte m) ≡ true → dataRight (stationKind (r .index)) letters ≡ true
       → valueAt (stationKind (r .index)) (r .index) u m (figuresIn (stationKind (r .index)) letters) ≡ Counted c
       → recordOf (r .index) (info r) c (textField (stationKind (r .index)) letters) ≡ rowGiven r
-      → wordBy Station wide (places r) ≡ rightWord (rowGiven r)
+      → wordBy Station wide (positions r) ≡ rightWord (rowGiven r)
   row-reads r c listed units low high sign right value same =
       let i = r .index in
       let k = stationKind i in
@@ -208,14 +208,14 @@ module _ (get wide : Bool) (u m : ℕ) (d : Eight) (small : m ≤ 1) where
       (λ low high held. absurd (false≢true (sym (and-false (every isDigit (eightBytes d))) ∙ held)))
 
   pub place-reads : (place : ℕ) → keptRight place (Put u m d) ≡ true
-      → wordOf Station wide (spread (places (storedAt place)) []) ≡ rightWord (rowGiven (storedAt place))
+      → wordOf Station wide (spread (positions (storedAt place)) []) ≡ rightWord (rowGiven (storedAt place))
   place-reads place right =
       let r = storedAt place in
       by-test (within (r .first) (r .last) u)
       (λ q.
       let unit = within-bounds (r .first) (r .last) u q in
       let held = sym (kept-held u m d small place (Put u m d) refl (unit .0) (unit .1)) ∙ right in
-      word-spread wide (places r) (zeros-length wide d) Station [] ∙ each place (unit .0) (unit .1) held)
+      word-spread wide (positions r) (zeros-length wide d) Station [] ∙ each place (unit .0) (unit .1) held)
       (λ q. absurd (false≢true (sym (kept-outside u m d small place (Put u m d) refl q) ∙ right)))
 
 pub kept-small : (place u m : ℕ) (d : Eight) → keptRight place (Put u m d) ≡ true → m ≤ 1
@@ -223,7 +223,7 @@ kept-small place u m d right = leb-true m 1 (both (leb m 1) (putRight place (val
 
 -- the word of GET, place by place
 word-places : (wide : Bool) (place u m : ℕ) (d : Eight) (small : m ≤ 1)
-    → wordIn wide (getWord place (Put u m d)) ≡ spread (places true wide u m d small (storedAt place)) []
+    → wordIn wide (getWord place (Put u m d)) ≡ spread (positions true wide u m d small (storedAt place)) []
 word-places true place u m d small = refl
 word-places false place u m d small = refl
 

@@ -4,19 +4,16 @@ use mathlib.Core.Bool.{Bool, cond}
 use mathlib.Core.List.{List, [], _∷_, _++_}
 use lib.Dec.{eqb}
 use lib.ListN.{replicate}
-use Rattle.figures.specs.Text.{codes}
+use Rattle.figures.specs.Text.{codes, byte}
 use Rattle.figures.specs.Bytes.{laid}
 use Rattle.figures.specs.Decimal.{numberOf}
 use Rattle.units.specs.Counts.{tenthsOf}
 use Rattle.words.specs.Records.{blank}
 use Rattle.words.specs.declared.records.Word.{Word}
-use Rattle.instrument.specs.Values.{storedAt, indexNumber, eightBytes}
+use Rattle.instrument.specs.Values.{storedAt, indexNumber, isText, eightBytes}
 use Rattle.instrument.specs.declared.values.Eight.{Eight}
 use Rattle.instrument.specs.declared.values.Kept.{Kept}
 use Rattle.instrument.specs.declared.values.Kept.the-variants.{Never, Put}
-
-abbrev pub isText : ℕ → Bool
-isText place = eqb (storedAt place .first) 46
 
 -- "zeros added on the left of the data"
 abbrev pub zeros : Bool → List ℕ
@@ -28,7 +25,7 @@ textGiven wide d = laid (zeros wide ++ eightBytes d) (replicate 16 0)
 
 -- the size that digits of that unit say: unit 4 counts tenths of a second
 abbrev pub sizeIn : ℕ → ℕ → ℕ
-sizeIn u n = cond (eqb u 52) (tenthsOf n) n
+sizeIn u n = cond (eqb u (byte "4")) (tenthsOf n) n
 
 -- a text as it was put, with the zeros before it in a wide word; a number as it was put, whatever the width; and the information that GET answers
 abbrev pub given : Bool → ℕ → Kept → Word
@@ -36,7 +33,7 @@ given wide place Never = blank
 given wide place (Put u m d) =
     record {
       index = indexNumber (storedAt place);
-      info = 46 ∷ 46 ∷ cond (isText place) 46 49 ∷ u ∷ [];
+      info = byte "." ∷ byte "." ∷ cond (isText place) (byte ".") (byte "1") ∷ u ∷ [];
       minus = m;
       mmminus = 0;
       size = cond (isText place) 0 (sizeIn u (numberOf (eightBytes d)));

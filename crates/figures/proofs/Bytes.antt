@@ -10,6 +10,7 @@ use borrow.Rule.Slice.PartMut.{putMid, midOf}
 use lib.Dec.{eqb, leb}
 use lib.ListN.{length, getD, set, take, drop, drop-of-length-le, length-drop, length-append}
 use lib.Seq.{drop-cons, take-suc, set-at, append-snoc, length-take-le, take-at, drop-at, take-all, drop-drop, take-nil, take-length, drop-length}
+use Rattle.figures.specs.Text.{endBytes}
 use Rattle.figures.specs.Bytes.{within, every, runOf, isOther, laid, startsWith, sameBytes}
 
 -- every byte
@@ -101,10 +102,18 @@ run-all p s = by (every p s) refl
     by true e = eq-eqb (runOf p s) (length s) (run-every p s e)
     by false e = ne-eqb (runOf p s) (length s) (λ q. omega (arith, run-other p s e))
 
+-- CR LF or CR
+pub end-long : (crlf : Bool) → length (endBytes crlf) ≤ 2
+end-long true = omega arith
+end-long false = omega arith
+
 -- laid down
 
 pub laid-fits : (w room : List ℕ) → length w ≤ length room → laid w room ≡ w ++ drop (length w) room
 laid-fits w room h = rw (take-all (length room) w h)
+
+pub laid-start : (w room : List ℕ) → length w ≤ length room → take (length w) (laid w room) ≡ w
+laid-start w room h = rw (laid-fits w room h) (take-at w (drop (length w) room) (length w) refl)
 
 pub laid-cut : (w room : List ℕ) → length room ≤ length w → laid w room ≡ take (length room) w
 laid-cut w room h = rw (drop-of-length-le room h, append-nil)

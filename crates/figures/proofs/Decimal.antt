@@ -1,19 +1,24 @@
 -- Laws of decimal digits: a number and its digits say each other.
 use Prim.Native.Nat.{ℕ, zero, suc, _+_, _-_, _*_, _/_, _%_, _^_, _<_, _≤_}
 use mathlib.Core.Path.{_≡_, refl, _∙_}
-use mathlib.Core.Bool.{true, and-eq-true-iff}
+use mathlib.Core.Bool.{true, false, and-eq-true-iff}
 use mathlib.Core.List.{List, [], _∷_, _++_, append-nil}
 use native.Mathlib.Nat.{add-zero, zero-add, pow-suc, pow-succ', mul-assoc, mul-le-mul-right, lt-of-lt-of-le, one-mul, div-lt-iff-lt-mul, pow-le-pow-right}
 use native.Mathlib.Numerals.{add-one}
 use native.Mathlib.Omega.{arith}
-use borrow.Author.Tests.{le-leb}
+use borrow.Author.Tests.{le-leb, ne-eqb}
 use borrow.Rule.Slice.PartMut.{putMid, midOf}
+use lib.Dec.{eqb}
 use lib.ListN.{length, getD, set, take, drop, length-append, drop-of-length-le}
 use lib.Seq.{drop-cons, set-split, append-snoc, drop-at, length-take-le}
 use Rattle.figures.specs.Bytes.{every}
 use Rattle.figures.specs.Decimal.{isDigit, numberFrom, numberOf, digitsOf, numberIn}
 use Rattle.figures.specs.declared.Said.the-variants.{Number}
 use Rattle.figures.proofs.Bytes.{within-bounds, bounds-within, every-append, length-on, length-mid, fill-on}
+
+-- a digit is none of the bytes below `0`
+pub digit-not : (b n : ℕ) → isDigit b ≡ true → n < 48 → eqb b n ≡ false
+digit-not b n e h = let d = within-bounds 48 57 b e in ne-eqb b n (λ q. omega arith)
 
 pub digits-length : (k n : ℕ) → length (digitsOf k n) ≡ k
 unfolding digitsOf

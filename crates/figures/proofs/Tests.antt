@@ -38,6 +38,11 @@ pub by-test : {A : Type 0} (b : Bool) → (b ≡ true → A) → (b ≡ false �
 by-test true f g = f refl
 by-test false f g = g refl
 
+-- what holds of both holds of the one that a test chooses
+pub either : {A : Type 0} (P : A → Type 0) (b : Bool) (x y : A) → (b ≡ true → P x) → P y → P (cond b x y)
+either P true x y px py = px refl
+either P false x y px py = py
+
 -- f at k numbers from low on
 abbrev pub run : {A : Type 0} → (ℕ → A) → ℕ → ℕ → List A
 run f low zero = []

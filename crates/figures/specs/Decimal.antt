@@ -30,13 +30,13 @@ abbrev pub numberIn : List ℕ → Said
 numberIn s = cond (leb (length s) 16 && every isDigit s) (Number (numberOf s)) Not
 
 -- how many digits a number has; one below 2^64 has 20 at most
-unfoldable pub placesBy : ℕ → ℕ → ℕ
-placesBy zero n = 1
-placesBy (suc k) n = cond (ltb n 10) 1 (suc (placesBy k (n / 10)))
+unfoldable pub digitsNBy : ℕ → ℕ → ℕ
+digitsNBy zero n = 1
+digitsNBy (suc k) n = cond (ltb n 10) 1 (suc (digitsNBy k (n / 10)))
 
-abbrev pub places : ℕ → ℕ
-places = placesBy 19
+abbrev pub digitsN : ℕ → ℕ
+digitsN = digitsNBy 19
 
 -- a number in its fewest digits
 abbrev pub decimalOf : ℕ → List ℕ
-decimalOf n = digitsOf (places n) n
+decimalOf n = digitsOf (digitsN n) n

@@ -1,7 +1,7 @@
 // Text put into a room from a place on, one part after the other, as far as there is room.
 ghost use mathlib.Core.Path.{_≡_};
 ghost use Prim.Native.Nat.{_≤_};
-ghost use Rattle.figures.specs.Decimal.{places, decimalOf};
+ghost use Rattle.figures.specs.Decimal.{digitsN, decimalOf};
 ghost use Rattle.figures.specs.Rooms.{Puts};
 
 // Puts a text, and answers where the next part begins.
@@ -21,7 +21,7 @@ pub fn put(room: &mut [u8], at: usize, text: &[u8]) -> usize
 
 // Counts the digits of n.
 fn digits_in(n: u64) -> usize
-    ensures { λ r. ⌜ (r ≡ places n) × (r ≤ 20) ⌝ }
+    ensures { λ r. ⌜ (r ≡ digitsN n) × (r ≤ 20) ⌝ }
 {
     let mut left = n / 10;
     let mut k = 1;

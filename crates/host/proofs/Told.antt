@@ -49,7 +49,7 @@ tells-below t =
     let byte : verdictByte (t .verdict) % 256 < 256 = mod-lt (verdictByte (t .verdict)) (omega arith) in
     omega arith
 
-pub sheet-small : (a : Sheeted) → sheetNumber a ≤ 40
+pub sheet-small : (a : Sheeted) → sheetNumber a ≤ 99
 sheet-small sheet.NoState = omega arith
 sheet-small sheet.Room = omega arith
 sheet-small (sheet.Wrong at) = omega arith

@@ -13,9 +13,9 @@ use blocks::composing::emit;
 use blocks::judging::Block;
 use units::kinds::Family;
 
-// The number over what is told; what would be more than 2^32 - 1 is told as that.
+// Packs an answer: the number over what is told; what would be more than 2^32 - 1 is told as that.
 pub(crate) fn pack(number: u64, told: usize) -> u64
-    requires { ⌜ number ≤ 40 ⌝ }
+    requires { ⌜ number ≤ 99 ⌝ }
     ensures { λ r. ⌜ r ≡ packed number told ⌝ }
 {
     if told < 4294967295 {

@@ -131,8 +131,8 @@ each-stored P number text angle length none =
     each-at P noStored stored (number, (text, (angle 21 refl, (angle 24 refl, lengths))))
 
 module _ (u m : ℕ) (d : Eight) (small : m ≤ 1) where
-  abbrev places : ℕ → Places
-  places i = record {
+  abbrev positions : ℕ → Places
+  positions i = record {
     tens = tensOf i;
     ones = onesOf i;
     first = 46;
@@ -150,14 +150,14 @@ module _ (u m : ℕ) (d : Eight) (small : m ≤ 1) where
 
   -- the word of a value with a unit of the row is read where its parts hold
   abbrev Judged : Stored → Type 0
-  Judged r = r .first ≤ u → u ≤ r .last → isRightWord (wordOf Station false (spread (places (r .index)) []) .answer) ≡ heldBy r u m (eightBytes d)
+  Judged r = r .first ≤ u → u ≤ r .last → isRightWord (wordOf Station false (spread (positions (r .index)) []) .answer) ≡ heldBy r u m (eightBytes d)
 
   row-read : (r : Stored) → isListed (stationKind (r .index)) ≡ true → Units r → r .first ≤ u → u ≤ r .last
-      → isRightWord (wordOf Station false (spread (places (r .index)) []) .answer) ≡ partsRight (stationKind (r .index)) (r .index) u m (eightBytes d)
+      → isRightWord (wordOf Station false (spread (positions (r .index)) []) .answer) ≡ partsRight (stationKind (r .index)) (r .index) u m (eightBytes d)
   row-read r listed units low high =
       let i = r .index in
       let k = stationKind i in
-      let p = places i in
+      let p = positions i in
       let l = eightBytes d in
       let value = valueAt k i u m (figuresIn k l) in
       let word = recordBy Station i p (countOr value) in

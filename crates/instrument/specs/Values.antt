@@ -3,9 +3,9 @@ use Prim.Native.Nat.{ℕ, _+_, _/_, _%_}
 use Prim.Native.String.{String}
 use mathlib.Core.Bool.{Bool, true, false, cond, _&&_}
 use mathlib.Core.List.{List, [], _∷_, _++_}
-use lib.Dec.{eqb, leb}
+use lib.Dec.{leb}
 use lib.ListN.{getD, take, drop, replicate}
-use Rattle.figures.specs.Text.{codes}
+use Rattle.figures.specs.Text.{codes, byte}
 use Rattle.figures.specs.Bytes.{within}
 use Rattle.units.specs.Information.{isDot, marks, allRight, firstWrong, signByte, signOf}
 use Rattle.units.specs.declared.information.Marks.{Marks}
@@ -22,7 +22,7 @@ use Rattle.instrument.specs.declared.values.Kept.the-variants.{Never, Pu
 
 -- index, first and last unit as they stand at position 6; the unit of text is a dot
 abbrev pub unitsOf : ℕ → String → String → Stored
-unitsOf index first last = record { index = index; first = getD (codes first) 0 0; last = getD (codes last) 0 0; key = keyBytes "v" index }
+unitsOf index first last = record { index = index; first = byte first; last = byte last; key = keyBytes "v" index }
 
 abbrev pub indexNumber : Stored → ℕ
 indexNumber r = r .index
@@ -55,6 +55,10 @@ storedAt i = getD stored i noStored
 -- the place of the stored value of that index
 abbrev pub valuePlace : ℕ → Found
 valuePlace i = seek indexNumber stored 0 i
+
+-- "11, 16 text"
+abbrev pub isText : ℕ → Bool
+isText place = isDot (storedAt place .first)
 
 abbrev pub isPut : Kept → Bool
 isPut Never = false
@@ -95,12 +99,12 @@ valueWord mark place u m d =
 -- "each value never put or as a PUT can leave it"
 abbrev pub keptRight : ℕ → Kept → Bool
 keptRight place Never = true
-keptRight place (Put u m d) = leb m 1 && putRight place (valueWord 46 place u m d)
+keptRight place (Put u m d) = leb m 1 && putRight place (valueWord (byte ".") place u m d)
 
 -- "GET/I answers text words with four dots, others as dot, dot, `1`, the unit; sign and data as put."
 abbrev pub getWord : ℕ → Kept → List ℕ
 getWord place Never = replicate 16 32
-getWord place (Put u m d) = valueWord (cond (eqb (storedAt place .first) 46) 46 49) place u m d
+getWord place (Put u m d) = valueWord (cond (isText place) (byte ".") (byte "1")) place u m d
 
 -- "wide words, with zeros added on the left of the data" (request 103)
 abbrev pub widened : List ℕ → List ℕ

@@ -19,7 +19,7 @@ use Rattle.state.proofs.Images.{image-of, decoded-is, decoded-series, decoded-n
 use Rattle.commands.specs.Shapes.{fromEnd, endOf, textOf, isPlain, isEnded, orderOf}
 use Rattle.lines.specs.Verdicts.{isAccepted, orderVerdict, lineVerdict}
 use Rattle.lines.specs.Orders.{takenBack, newest, setTo, putTo, Deed, asks, changes, undoes, keeps, deedOf, lineDeed, doneOf}
-use Rattle.lines.specs.Replies.{replyEnd, wrong, bodyOf}
+use Rattle.lines.specs.Replies.{replyEnd, warning, bodyOf}
 use Rattle.lines.specs.Machine.{Outcome, outcome, run, step, told, Calls}
 use Rattle.lines.specs.Keeping.{ranOf, Ends}
 use Rattle.commands.specs.declared.shapes.Order.{Order}
@@ -62,14 +62,14 @@ end-in (x ∷ y ∷ l) = omega (arith, two (eqb (fromEnd 1 (x ∷ y ∷ l)) 13) 
     two false false = omega arith
 
 module _ (s : State) (line : List ℕ) where
-  run-unended : isEnded line ≡ false → run s line ≡ outcome Unended (wrong ++ replyEnd s) s
+  run-unended : isEnded line ≡ false → run s line ≡ outcome Unended (warning ++ replyEnd s) s
   run-unended e = rw e
 
-  run-long : isEnded line ≡ true → 100 < length (textOf line) → run s line ≡ outcome Long (wrong ++ replyEnd s) s
+  run-long : isEnded line ≡ true → 100 < length (textOf line) → run s line ≡ outcome Long (warning ++ replyEnd s) s
   run-long e h = rw (e, lt-leb (length (textOf line)) 100 h)
 
   run-judged : isEnded line ≡ true → length (textOf line) ≤ 100 → (v : Verdict) → v ≡ orderVerdict s (textOf line) (orderOf (textOf line))
-      → isAccepted v ≡ false → run s line ≡ outcome v (wrong ++ replyEnd s) s
+      → isAccepted v ≡ false → run s line ≡ outcome v (warning ++ replyEnd s) s
   run-judged e h v q n = rw (e, le-leb (length (textOf line)) 100 h, ← q, n)
 
   run-accepted : isEnded line ≡ true → length (textOf line) ≤ 100 → orderVerdict s (textOf line) (orderOf (textOf line)) ≡ Accepted
@@ -87,17 +87,17 @@ module _ (s : State) (line : List ℕ) where
     text-length : length (textOf line) ≡ length line - e
     text-length = length-take-le (length line - endOf line) line (omega arith) ∙ omega arith
 
-    pub found-none : e ≡ 0 → run s line ≡ outcome Unended (wrong ++ replyEnd s) s
+    pub found-none : e ≡ 0 → run s line ≡ outcome Unended (warning ++ replyEnd s) s
     found-none z = run-unended (ap (λ (b : Bool). b && isPlain (textOf line)) (le-ltb 0 (endOf line) (omega arith)))
 
     module _ (some : e ≡ 0 → ⊥) (plain : Bool) (is : plain ≡ isPlain (part e)) where
       ended : isEnded line ≡ plain
       ended = ap (λ (b : Bool). b && isPlain (textOf line)) (lt-ltb 0 (endOf line) (omega arith)) ∙ sym (is ∙ ap isPlain text-is)
 
-      pub found-broken : plain ≡ false → run s line ≡ outcome Unended (wrong ++ replyEnd s) s
+      pub found-broken : plain ≡ false → run s line ≡ outcome Unended (warning ++ replyEnd s) s
       found-broken z = run-unended (ended ∙ z)
 
-      pub found-long : plain ≡ true → 100 < length line - e → run s line ≡ outcome Long (wrong ++ replyEnd s) s
+      pub found-long : plain ≡ true → 100 < length line - e → run s line ≡ outcome Long (warning ++ replyEnd s) s
       found-long y h = run-long (ended ∙ y) (omega (arith, text-length))
 
   -- a line that is ended, plain and short enough, as the code finds it: the length of its end, its order and its verdict
@@ -119,7 +119,7 @@ module _ (s : State) (line : List ℕ) where
     judged : v ≡ orderVerdict s (textOf line) (orderOf (textOf line))
     judged = j .verdict ∙ rw (j .order, text-is e (j .ends))
 
-    pub found-refused : isAccepted v ≡ false → run s line ≡ outcome v (wrong ++ replyEnd s) s
+    pub found-refused : isAccepted v ≡ false → run s line ≡ outcome v (warning ++ replyEnd s) s
     found-refused n = run-judged is-ended is-short v judged n
 
     pub found-accepts : isAccepted v ≡ true → (orderVerdict s (part e) o ≡ Accepted) × (length (part e) ≤ 100)

@@ -6,11 +6,9 @@ use mathlib.Core.List.{List, map}
 use native.Mathlib.Omega.{arith}
 use borrow.Author.Tests.{leb-true}
 use lib.Dec.{leb}
-use lib.ListN.{length, take, drop}
-use lib.Seq.{take-at}
-use Rattle.figures.specs.Bytes.{laid}
-use Rattle.figures.proofs.Bytes.{laid-fits}
+use lib.ListN.{length, take}
 use Rattle.figures.proofs.Tests.{by-test}
+use Rattle.figures.proofs.Bytes.{laid-start}
 use Rattle.state.specs.Entries.{contentsOf, isState}
 use Rattle.state.specs.Image.{imageOf, stateIn}
 use Rattle.state.specs.declared.entries.State.{State}
@@ -34,10 +32,6 @@ call-is s line room e =
 abbrev pub ImageOf : List ℕ → State → Type 0
 ImageOf image s = (image ≡ imageOf s) × (isState s ≡ true)
 
--- the bytes that are written of the room are the reply
-written : (reply room : List ℕ) → length reply ≤ length room → take (length reply) (laid reply room) ≡ reply
-written reply room h = rw (laid-fits reply room h) (take-at reply (drop (length reply) room) (length reply) refl)
-
 step-fits : (s : State) (line : List ℕ) (n : ℕ) → length (step s line n .reply) ≤ n
 step-fits s line n = by-test (leb (length (run s line .reply)) n) (λ q. rw q (leb-true (length (run s line .reply)) n q)) (λ q. rw q (omega arith))
 
@@ -47,7 +41,7 @@ call-steps image s c h =
     let o = step s (c .line) (length (c .room)) in
     let is : call image (c .line) (c .room) ≡ played o (c .room) = ap (λ (i : List ℕ). call i (c .line) (c .room)) (h .0) ∙ call-is s (c .line) (c .room) (h .1) in (
       (ap (λ (r : Called). r .image) is, step-state s (c .line) (length (c .room)) (h .1)),
-      ap (λ (r : Called). take (r .answer .count) (r .room)) is ∙ written (o .reply) (c .room) (step-fits s (c .line) (length (c .room))),
+      ap (λ (r : Called). take (r .answer .count) (r .room)) is ∙ laid-start (o .reply) (c .room) (step-fits s (c .line) (length (c .room))),
     )
 
 -- a host's session is one on the state: the image that it leaves, and each reply

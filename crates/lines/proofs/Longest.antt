@@ -7,6 +7,7 @@ use native.Mathlib.Omega.{arith}
 use borrow.Author.Tests.{leb-true, le-leb}
 use lib.Dec.{leb, eqb}
 use lib.ListN.{length, length-append}
+use Rattle.figures.proofs.Bytes.{end-long}
 use Rattle.instrument.specs.Rows.{seek}
 use Rattle.instrument.specs.Settings.{rows100, parameterOf}
 use Rattle.instrument.specs.declared.settings.Series.{Series}
@@ -14,15 +15,15 @@ use Rattle.instrument.specs.declared.settings.Series.the-variants.{Tps100}
 use Rattle.state.specs.declared.entries.State.{State}
 use Rattle.commands.specs.Shapes.{isEnded, textOf, orderOf}
 use Rattle.lines.specs.Verdicts.{isAccepted, orderVerdict, lineVerdict}
-use Rattle.lines.specs.Replies.{endsLf, answersWide, replyEnd, wrong, bodyOf}
+use Rattle.lines.specs.Replies.{endsLf, answersWide, replyEnd, warning, bodyOf}
 use Rattle.lines.specs.Machine.{run, step}
-use Rattle.lines.proofs.Replying.{end-long, bodyMost, body-most, body-short}
+use Rattle.lines.proofs.Replying.{bodyMost, body-most, body-short}
 use Rattle.lines.proofs.Sorts.{accepted-is}
 use Rattle.lines.proofs.Runs.{judged}
 
-ended-most : (s : State) (body : List ℕ) (b : Bool) (n : ℕ) → 5 ≤ n → (b ≡ true → length body ≤ n) → length (cond b body wrong ++ replyEnd s) ≤ n + 2
+ended-most : (s : State) (body : List ℕ) (b : Bool) (n : ℕ) → 5 ≤ n → (b ≡ true → length body ≤ n) → length (cond b body warning ++ replyEnd s) ≤ n + 2
 ended-most s body true n few h = omega (arith, h refl, length-append body (replyEnd s), end-long (endsLf s))
-ended-most s body false n few h = omega (arith, length-append wrong (replyEnd s), end-long (endsLf s))
+ended-most s body false n few h = omega (arith, length-append warning (replyEnd s), end-long (endsLf s))
 
 most-some : (wide : Bool) → 5 ≤ bodyMost wide
 most-some true = omega arith

@@ -28,6 +28,7 @@ use Rattle.lines.specs.Verdicts.{confBy, confVerdict, placeNamed, getBy,
 use Rattle.lines.specs.Replies.{endsLf, answersWide, replyEnd, confBody, star, bodyOf}
 use Rattle.lines.specs.Keeping.{groupsVerdict, groupsWords, groupsBody, GetFits, getN}
 use Rattle.figures.specs.Text.{endBytes}
+use Rattle.figures.proofs.Tests.{clash}
 use Rattle.commands.specs.declared.shapes.Order.{Order}
 use Rattle.commands.specs.declared.shapes.Order.the-variants as order
 use Rattle.lines.specs.declared.verdicts.Verdict.{Verdict}
@@ -42,10 +43,6 @@ pub not-both : (f : Found) (i : ℕ) → f ≡ At i → f ≡ Nothing → ⊥
 not-both f i p q = let z : _≡_ {A = ℕ} 0 1 = cc in omega arith
 
 -- a text and its end
-
-pub end-long : (lf : Bool) → length (endBytes lf) ≤ 2
-end-long true = omega arith
-end-long false = omega arith
 
 pub laid-none : (room : List ℕ) → laid [] room ≡ room
 laid-none room = rw (take-nil {A = ℕ} (length room))
@@ -64,22 +61,22 @@ word-long true i (Put u m d) = refl
 word-long false i Never = refl
 word-long false i (Put u m d) = refl
 
--- a group that isn't refused names a value
-abbrev Named : Found → Type 0
-Named f = (i : ℕ) × (f ≡ At i)
+-- an index that isn't refused names a value that was put
+abbrev pub NamesPut : List Value → Found → Type 0
+NamesPut values f = (i : ℕ) × ((f ≡ At i) × (isPut (valueHeld values i .kept) ≡ true))
 
-one-right : (values : List Value) (f : Found) (next : Verdict) → getBy values f next ≡ Accepted → (next ≡ Accepted) × Named f
-one-right values Nothing next e = let z : _≡_ {A = ℕ} 0 1 = cc in absurd (omega arith)
-one-right values (At i) next e = (put (isPut (valueHeld values i .kept)) e, (i, refl))
+pub names-put : (values : List Value) (f : Found) (next : Verdict) → getBy values f next ≡ Accepted → (next ≡ Accepted) × NamesPut values f
+names-put values Nothing next e = absurd (clash (cc))
+names-put values (At i) next e = let p = put (isPut (valueHeld values i .kept)) e in (p .0, (i, (refl, p .1)))
   where
-    put : (b : Bool) → cond b next NeverPut ≡ Accepted → next ≡ Accepted
-    put true e = e
-    put false e = let z : _≡_ {A = ℕ} 0 1 = cc in absurd (omega arith)
+    put : (b : Bool) → cond b next NeverPut ≡ Accepted → (next ≡ Accepted) × (b ≡ true)
+    put true e = (e, refl)
+    put false e = absurd (clash (cc))
 
 first-right : (values : List Value) (n : ℕ) (g : List ℕ) → groupsVerdict values (suc n) g ≡ Accepted
-    → (groupsVerdict values n (drop 5 g) ≡ Accepted) × Named (placeNamed (getD g 3 0) (getD g 4 0))
+    → (groupsVerdict values n (drop 5 g) ≡ Accepted) × NamesPut values (placeNamed (getD g 3 0) (getD g 4 0))
 unfolding groupsVerdict
-first-right values n g e = one-right values (placeNamed (getD g 3 0) (getD g 4 0)) (groupsVerdict values n (drop 5 g)) e
+first-right values n g e = names-put values (placeNamed (getD g 3 0) (getD g 4 0)) (groupsVerdict values n (drop 5 g)) e
 
 pub words-long : (wide : Bool) (values : List Value) (n : ℕ) (g : List ℕ) → groupsVerdict values n g ≡ Accepted
     → length (groupsWords wide values n g) ≡ n * wordSize wide
@@ -89,7 +86,7 @@ words-long wide values (suc n) g e =
     let r = first-right values n g e in
     let i = r .1 .0 in
     let w = wordIn wide (getWord i (valueHeld values i .kept)) in
-    rw (r .1 .1)
+    rw (r .1 .1 .0)
     (length-append w (groupsWords wide values n (drop 5 g))
     ∙ rw (word-long wide i (valueHeld values i .kept), words-long wide values n (drop 5 g) (r .0), suc-mul n (wordSize wide), add-comm (n * wordSize wide) (wordSize wide)))
 
@@ -150,7 +147,7 @@ module _ (wide : Bool) (values : List Value) (g room₀ : List ℕ) (fit : GetFi
     got-named e =
         let z : h .left ≡ suc (h .left - 1) = omega (arith, h .long) in
         let r = first-right values (h .left - 1) (drop i g) (rw z at (h .accepted)) .1 in
-        let q : placeNamed (getD g (i + 3) 0) (getD g (i + 4) 0) ≡ At (r .0) = rw (← getD-drop i g 3 0, ← getD-drop i g 4 0) (r .1) in
+        let q : placeNamed (getD g (i + 3) 0) (getD g (i + 4) 0) ≡ At (r .0) = rw (← getD-drop i g 3 0, ← getD-drop i g 4 0) (r .1 .0) in
         (omega (arith, h .long), (r .0, (q, place-in (getD g (i + 3) 0) (getD g (i + 4) 0) (r .0) q)))
 
     pub got-more : (p n : ℕ) (last : List ℕ) → i < length g → placeNamed (getD g (i + 3) 0) (getD g (i + 4) 0) ≡ At p → n ≡ wordSize wide
@@ -174,10 +171,10 @@ module _ (wide : Bool) (values : List Value) (g room₀ : List ℕ) (fit : GetFi
 
 -- CONF: a place that is found, and its nine characters
 
-pub conf-named : (k : Series) (n : ℕ) → confVerdict k n ≡ Accepted → Named (settingPlace k n)
+pub conf-named : (k : Series) (n : ℕ) → confVerdict k n ≡ Accepted → (i : ℕ) × (settingPlace k n ≡ At i)
 conf-named k n e = by (settingPlace k n) e
   where
-    by : (f : Found) → confBy f ≡ Accepted → Named f
+    by : (f : Found) → confBy f ≡ Accepted → (i : ℕ) × (f ≡ At i)
     by Nothing e = let z : _≡_ {A = ℕ} 0 1 = cc in absurd (omega arith)
     by (At i) e = (i, refl)
 

@@ -7,6 +7,7 @@ use native.Mathlib.Omega.{arith}
 use borrow.Author.Tests.{eqb-false, leb-false}
 use lib.Dec.{eqb, leb}
 use lib.ListN.{length, drop, length-drop}
+use Rattle.figures.proofs.Tests.{clash}
 use Rattle.units.specs.Kinds.{indexOf}
 use Rattle.words.specs.Reading.{pos}
 use Rattle.words.specs.declared.reading.Judged.{Judged}
@@ -32,9 +33,6 @@ use Rattle.commands.proofs.Shape.{order-put}
 use Rattle.lines.proofs.Sorts.{accepted-is}
 use Rattle.lines.proofs.Deeds.{May}
 use Rattle.lines.proofs.Lookups.{setting-in, value-found, named}
-
-clash : _≡_ {A = ℕ} 0 1 → ⊥
-clash e = omega arith
 
 -- SET
 

@@ -27,8 +27,8 @@ abbrev pub replyEnd : State → List ℕ
 replyEnd s = endBytes (endsLf s)
 
 -- `@W127`
-abbrev pub wrong : List ℕ
-wrong = codes "@W127"
+abbrev pub warning : List ℕ
+warning = codes "@W127"
 
 -- `?`
 abbrev pub done : List ℕ
@@ -73,4 +73,4 @@ bodyOf s t order.NoKeyword = []
 
 -- the reply that would be given
 abbrev pub replyOf : State → List ℕ → Order → Verdict → List ℕ
-replyOf s t o v = cond (isAccepted v) (bodyOf s t o) wrong ++ replyEnd s
+replyOf s t o v = cond (isAccepted v) (bodyOf s t o) warning ++ replyEnd s

@@ -1,4 +1,4 @@
--- Refusals 20 to 31, 38 and 39: "Order: 31, then 20 to 29 as refuses (GET judges its first index by 25 then 27, then the next likewise), then 30", with
+-- Refusals 20 to 31, 38 and 39: "Order: 31, then 20 to 29 as numbered (GET judges its first index by 25 then 27, then the next likewise), then 30", with
 -- 39 right after 22 and 38 right after 23.
 use Prim.Native.Nat.{ℕ, _+_}
 use mathlib.Core.Bool.{Bool, cond}

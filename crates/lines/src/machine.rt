@@ -7,7 +7,7 @@ ghost use lib.ListN.{length};
 ghost use Rattle.state.specs.Entries.{entriesN};
 ghost use Rattle.lines.specs.Verdicts.{isAccepted};
 ghost use Rattle.lines.specs.Orders.{deedOf, doneOf};
-ghost use Rattle.lines.specs.Replies.{wrong, replyEnd, bodyOf};
+ghost use Rattle.lines.specs.Replies.{warning, replyEnd, bodyOf};
 ghost use Rattle.lines.specs.Machine.{outcome, run, Calls};
 ghost use Rattle.lines.specs.Keeping.{isAsking, ranOf, Ends, Accepts};
 use crate::orders::done;
@@ -62,7 +62,7 @@ fn with_state(verdict: Verdict, count: usize, state: State) -> Ran
 // Refuses a line: it is answered `@W127` where that fits.
 fn refuse(s: State, verdict: Verdict, room: &mut [u8]) -> Ran
     requires { ⌜ isAccepted verdict ≡ false ⌝ }
-    ensures { λ r. ⌜ Ends s (outcome verdict (wrong ++ replyEnd s) s) (now (room .entry)) r (now (room .exit)) ⌝ }
+    ensures { λ r. ⌜ Ends s (outcome verdict (warning ++ replyEnd s) s) (now (room .entry)) r (now (room .exit)) ⌝ }
 {
     let n = 5 + end_length(s);
     if room.len() < n {

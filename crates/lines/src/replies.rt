@@ -8,7 +8,7 @@ ghost use Rattle.words.specs.Reading.{wordSize};
 ghost use Rattle.instrument.specs.Values.{wordIn};
 ghost use Rattle.commands.specs.Shapes.{groupsIn};
 ghost use Rattle.lines.specs.Verdicts.{confVerdict};
-ghost use Rattle.lines.specs.Replies.{endsLf, answersWide, replyEnd, wrong, confBody, star, bodyOf};
+ghost use Rattle.lines.specs.Replies.{endsLf, answersWide, replyEnd, warning, confBody, star, bodyOf};
 ghost use Rattle.lines.specs.Keeping.{groupsWords, groupsBody, GetFits, getN, Accepts};
 ghost use Rattle.figures.specs.Text.{endBytes};
 ghost use Rattle.lines.specs.declared.verdicts.Verdict as Verdict;
@@ -204,7 +204,7 @@ pub(crate) fn put_reply(s: State, text: &[u8], order: Order, room: &mut [u8])
 // Lays the reply to a refused line.
 pub(crate) fn put_wrong(s: State, room: &mut [u8])
     requires { ⌜ 5 + length (replyEnd s) ≤ length (now room) ⌝ }
-    ensures { λ _. ⌜ now (room .exit) ≡ laid (wrong ++ replyEnd s) (now (room .entry)) ⌝ }
+    ensures { λ _. ⌜ now (room .exit) ≡ laid (warning ++ replyEnd s) (now (room .entry)) ⌝ }
 {
     put_text(b"@W127", ends_lf(s), room);
 }

@@ -1,19 +1,19 @@
 -- What is shown of a word is short: 12 bytes of index and information, 82 of its value.
 use Prim.Native.Nat.{ℕ, _/_, _≤_}
 use mathlib.Core.Path.{_≡_}
-use mathlib.Core.Bool.{Bool, true, false, cond}
+use mathlib.Core.Bool.{Bool, cond}
 use mathlib.Core.List.{List, [], _∷_}
 use native.Mathlib.Omega.{arith}
 use lib.Dec.{eqb, ltb}
 use lib.ListN.{length, length-append, length-take, length-drop}
 use Rattle.figures.specs.Text.{codes}
-use Rattle.figures.specs.Decimal.{placesBy, places}
+use Rattle.figures.specs.Decimal.{digitsNBy, digitsN}
 use Rattle.figures.proofs.Decimal.{digits-length}
-use Rattle.figures.proofs.Places.{places-most}
+use Rattle.figures.proofs.Places.{digits-most}
 use Rattle.units.specs.declared.kinds.Family.{Family}
 use Rattle.words.specs.Records.{width, typedOf}
 use Rattle.words.specs.declared.records.Word.{Word}
-use Rattle.figures.proofs.Tests.{by-test}
+use Rattle.figures.proofs.Tests.{by-test, either}
 use Rattle.words.proofs.Checks.{width-bounds}
 use Rattle.measures.specs.declared.Step.{Step}
 use Rattle.measures.specs.declared.Step.the-variants.{One, Three, Four, Five, Half}
@@ -24,13 +24,8 @@ use Rattle.measures.specs.declared.Shown.the-variants.{Nothing, Text, Me
 use Rattle.measures.specs.Measures.{indexText, powerOf, placesOf, unitText, measureText, tenthText, pairText, keyedText, shownOf, shownText}
 use Rattle.measures.specs.Measures.{valueText}
 
--- one or the other
-either : (b : Bool) (x y : List ℕ) (n : ℕ) → length x ≤ n → length y ≤ n → length (cond b x y) ≤ n
-either true x y n h h′ = h
-either false x y n h h′ = h′
-
-step-short : (step : Step) → (places (powerOf step) ≤ 6) × (placesOf step ≤ 5)
-unfolding placesBy
+step-short : (step : Step) → (digitsN (powerOf step) ≤ 6) × (placesOf step ≤ 5)
+unfolding digitsNBy
 step-short One = (omega arith, omega arith)
 step-short Three = (omega arith, omega arith)
 step-short Four = (omega arith, omega arith)
@@ -48,17 +43,17 @@ unit-short unit.Inch = omega arith
 unit-short unit.Ppm = omega arith
 
 key-short : (m : ℕ) → length (cond (eqb m 0) (codes " reads=") (codes " reads=-")) ≤ 8
-key-short m = either (eqb m 0) (codes " reads=") (codes " reads=-") 8 (omega arith) (omega arith)
+key-short m = either (λ (l : List ℕ). length l ≤ 8) (eqb m 0) (codes " reads=") (codes " reads=-") (λ _. omega arith) (omega arith)
 
 measure-short : (m n : ℕ) (step : Step) (u : Unit) → length (measureText m n step u) ≤ 82
 measure-short m n step u =
-    simp (length-append, digits-length) (omega (arith, places-most n, places-most (n / powerOf step), step-short step, unit-short u, key-short m))
+    simp (length-append, digits-length) (omega (arith, digits-most n, digits-most (n / powerOf step), step-short step, unit-short u, key-short m))
 
 tenth-short : (m n : ℕ) → length (tenthText m n) ≤ 82
-tenth-short m n = simp (length-append, digits-length) (omega (arith, places-most n, places-most (n / 36000), key-short m))
+tenth-short m n = simp (length-append, digits-length) (omega (arith, digits-most n, digits-most (n / 36000), key-short m))
 
 pair-short : (m n m′ n′ : ℕ) → length (pairText m n m′ n′) ≤ 82
-pair-short m n m′ n′ = simp (length-append, digits-length) (omega (arith, places-most n, places-most n′))
+pair-short m n m′ n′ = simp (length-append, digits-length) (omega (arith, digits-most n, digits-most n′))
 
 text-short : (wide : Bool) (t : List ℕ) → length (keyedText wide t) ≤ 82
 text-short wide t = omega (arith, length-take (width wide) t, width-bounds wide)

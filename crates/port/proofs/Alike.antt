@@ -11,7 +11,7 @@ use lib.Seq.{take-at, getD-at}
 use Rattle.state.specs.Image.{isImage, stateIn}
 use Rattle.state.specs.declared.entries.State.{State}
 use Rattle.commands.specs.Shapes.{fromEnd, endOf, textOf, isPlain, isEnded}
-use Rattle.lines.specs.Replies.{wrong, replyEnd}
+use Rattle.lines.specs.Replies.{warning, replyEnd}
 use Rattle.lines.specs.Machine.{Outcome, outcome, run, replyInRoom, told, Called, played, call}
 use Rattle.lines.specs.declared.verdicts.Verdict.the-variants.{Unended, Long, NoState}
 
@@ -40,7 +40,7 @@ module _ (l : List ℕ) where
   ended-is : isEnded ended ≡ isPlain l
   ended-is = rw (text-is, end-one)
 
-  run-over : (s : State) (plain : Bool) → isPlain l ≡ plain → 100 < length l → run s ended ≡ outcome (cond plain Long Unended) (wrong ++ replyEnd s) s
+  run-over : (s : State) (plain : Bool) → isPlain l ≡ plain → 100 < length l → run s ended ≡ outcome (cond plain Long Unended) (warning ++ replyEnd s) s
   run-over s true e h = rw (ended-is ∙ e, text-is, lt-leb (length l) 100 h)
   run-over s false e h = rw (ended-is ∙ e)
 

@@ -7,8 +7,8 @@ use Rattle.figures.specs.Promises.{Determined}
 use Rattle.figures.specs.Rooms.{Puts}
 use Rattle.figures.proofs.Determined.{by-equation, by-three, put-determined}
 use Rattle.lines.specs.declared.verdicts.Verdict.{Verdict}
-use Rattle.port.specs.Port.{quietPort, heard, Turns}
-use Rattle.port.specs.Why.{whyOf, keptIn}
+use Rattle.port.specs.Port.{quietPort, heard, Turns, lineKept}
+use Rattle.port.specs.Why.{whyOf}
 use Rattle.port.specs.declared.Port.{Port}
 use Rattle.port.specs.declared.Turn.{Turn}
 
@@ -22,5 +22,5 @@ hear-determined =
     (λ i. heard (i .0) (i .1) (i .2) (i .3) .room)
 
 -- a room, the line's number, the port and the verdict go in; the count of bytes and the room come out
-pub put-why-determined : Determined (List ℕ × ℕ × Port × Verdict) (ℕ × List ℕ) (λ i o. Puts (i .0) 0 (whyOf (i .1) (i .3) (keptIn (i .2))) (o .0) (o .1))
-put-why-determined i = put-determined (i .0, 0, whyOf (i .1) (i .3) (keptIn (i .2)))
+pub put-why-determined : Determined (List ℕ × ℕ × Port × Verdict) (ℕ × List ℕ) (λ i o. Puts (i .0) 0 (whyOf (i .1) (i .3) (lineKept (i .2))) (o .0) (o .1))
+put-why-determined i = put-determined (i .0, 0, whyOf (i .1) (i .3) (lineKept (i .2)))

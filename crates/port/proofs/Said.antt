@@ -8,7 +8,7 @@ use lib.ListN.{length, length-append, length-map, length-replicate}
 use Rattle.figures.specs.Text.{codes}
 use Rattle.figures.specs.Pointing.{shown}
 use Rattle.figures.proofs.Decimal.{digits-length}
-use Rattle.figures.proofs.Places.{places-most}
+use Rattle.figures.proofs.Places.{digits-most}
 use Rattle.words.specs.Reading.{faultNumber}
 use Rattle.words.specs.declared.reading.Fault.{Fault}
 use Rattle.lines.specs.Verdicts.{verdictNumber, verdictByte, ofWord, isAccepted}
@@ -23,11 +23,11 @@ of-most most of v h =
     of-word of [] (λ l. length l ≤ most) v (λ x at e. subst (λ b. length (of x b) ≤ most) (ap verdictByte e) (h x)) (omega arith)
 
 number-short : (n : ℕ) (v : Verdict) → length (numberText n v) ≤ 54
-number-short n v = simp (length-append, digits-length) (omega (arith, places-most n, places-most (verdictNumber v)))
+number-short n v = simp (length-append, digits-length) (omega (arith, digits-most n, digits-most (verdictNumber v)))
 
 rule-short : (v : Verdict) → length (ruleText v) ≤ 53
 rule-short v =
-    of-most 53 _ v (λ x. simp (length-append, digits-length) (omega (arith, places-most (faultNumber x), places-most (verdictByte v))))
+    of-most 53 _ v (λ x. simp (length-append, digits-length) (omega (arith, digits-most (faultNumber x), digits-most (verdictByte v))))
 
 under-short : (v : Verdict) → verdictByte v < 20 → length (underText v) ≤ 21
 under-short v h = of-most 21 _ v (λ x. simp (length-append, length-replicate) (omega arith))

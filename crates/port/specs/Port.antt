@@ -28,9 +28,13 @@ keptBy p b =
     cond (ltb (p .n) keptMost) (record { bytes = set (p .bytes) (p .n) b; n = p .n + 1; after = false })
     (record { bytes = cond (isEnd b) (set (p .bytes) 100 b) (p .bytes); n = p .n; after = false })
 
--- the line that is run for what came in
+-- what is kept of the line that comes in
+abbrev pub lineKept : Port → List ℕ
+lineKept p = take (p .n) (p .bytes)
+
+-- the line that is run for it
 abbrev pub lineOf : Port → List ℕ
-lineOf p = take (p .n) (p .bytes) ++ codes "\r"
+lineOf p = lineKept p ++ codes "\r"
 
 abbrev pub Answers : List ℕ → Port → List ℕ → Told → List ℕ → List ℕ → Type 0
 Answers image p room r image′ room′ = Calls image (lineOf p) room r image′ room′

@@ -3,14 +3,12 @@
 use Prim.Native.Nat.{ℕ}
 use mathlib.Core.Bool.{cond}
 use mathlib.Core.List.{List, [], _++_, map}
-use lib.ListN.{take}
 use Rattle.figures.specs.Text.{codes}
 use Rattle.figures.specs.Decimal.{decimalOf}
 use Rattle.figures.specs.Pointing.{shown, caretText}
 use Rattle.words.specs.Reading.{faultNumber}
 use Rattle.lines.specs.Verdicts.{verdictNumber, ofWord, isAccepted}
 use Rattle.lines.specs.declared.verdicts.Verdict.{Verdict}
-use Rattle.port.specs.declared.Port.{Port}
 
 -- `line=4 refused=26`
 abbrev pub numberText : ℕ → Verdict → List ℕ
@@ -30,7 +28,3 @@ whyText n v line = numberText n v ++ (ruleText v ++ (codes "\n" ++ (map shown li
 -- nothing is said of a line that is accepted
 abbrev pub whyOf : ℕ → Verdict → List ℕ → List ℕ
 whyOf n v line = cond (isAccepted v) [] (whyText n v line)
-
--- what the port kept of the line
-abbrev pub keptIn : Port → List ℕ
-keptIn p = take (p .n) (p .bytes)

@@ -1,7 +1,8 @@
 // Why a line was refused, said for whoever makes the controller: the line's number, the refusal's, and where a PUT word is wrong.
 ghost use mathlib.Core.Path.{_≡_};
 ghost use Rattle.figures.specs.Rooms.{Puts};
-ghost use Rattle.port.specs.Why.{numberText, ruleText, underText, whyOf, keptIn};
+ghost use Rattle.port.specs.Port.{lineKept};
+ghost use Rattle.port.specs.Why.{numberText, ruleText, underText, whyOf};
 use crate::Port;
 use crate::held;
 use figures::casts::wide_count;
@@ -50,7 +51,7 @@ fn put_under(room: &mut [u8], at: usize, verdict: Verdict) -> usize
 
 // Puts why the line that the port had kept was refused, with its number among the lines; nothing where it was accepted.
 pub fn put_why(room: &mut [u8], number: u64, port: Port, verdict: Verdict) -> usize
-    ensures { λ r. ⌜ Puts (now (room .entry)) 0 (whyOf number verdict (keptIn port)) r (now (room .exit)) ⌝ }
+    ensures { λ r. ⌜ Puts (now (room .entry)) 0 (whyOf number verdict (lineKept port)) r (now (room .exit)) ⌝ }
 {
     if verdict_number(verdict) == 0 {
         return 0;

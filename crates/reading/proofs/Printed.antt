@@ -18,7 +18,7 @@ use Rattle.pieces.specs.declared.Mark.the-variants.{Open}
 use Rattle.pieces.proofs.Fed.{fed-pieces}
 use Rattle.figures.specs.Rooms.{putAt}
 use Rattle.reports.specs.Piece.{reportOf}
-use Rattle.figures.proofs.Places.{places-most}
+use Rattle.figures.proofs.Places.{digits-most}
 use Rattle.figures.proofs.Putting.{put-length}
 use Rattle.reports.proofs.Fits.{report-fits}
 use Rattle.reading.specs.declared.turns.Progress.{Progress}
@@ -45,7 +45,7 @@ put-after text t n h =
     rw (min-eq-left {n = n + length t} {m = length text} h, put) (take-at (take n text ++ t) rest (n + length t) size)
 
 line-fits : (g : Progress) → length (lastLine g) ≤ 87
-line-fits g = simp (length-append, digits-length) (omega (arith, places-most (g .blocks), places-most (g .accepted), places-most (g .refused)))
+line-fits g = simp (length-append, digits-length) (omega (arith, digits-most (g .blocks), digits-most (g .accepted), digits-most (g .refused)))
 
 line-out : (g : Progress) (text : List ℕ) (n : ℕ) → length text ≡ 5367 → n ≤ 5280
     → take (min (n + length (lastLine g)) (length text)) (putAt text n (lastLine g)) ≡ take n text ++ lastLine g

@@ -132,10 +132,10 @@ abbrev pub Reached : Family → List ℕ → Progress → List ℕ → Type 0
 Reached f room g text = (file : List ℕ) × (afterBytes f begun file ≡ record { progress = g; room = room; text = text })
 
 -- where the reading goes on, all of these bytes were taken
-abbrev pub Goes : Family → List ℕ → Progress → List ℕ → List ℕ → Next → List ℕ → List ℕ → Type 0
-Goes f room g bytes text r room′ text′ =
+abbrev pub Takes : Family → List ℕ → Progress → List ℕ → List ℕ → Next → List ℕ → List ℕ → Type 0
+Takes f room g bytes text r room′ text′ =
     r .on ≡ true → afterBytes f (record { progress = g; room = room; text = text }) bytes ≡ record { progress = r .progress; room = room′; text = text′ }
 
 -- the bytes are those of one read, and no contract can say more of them
 abbrev pub GoesOn : Family → List ℕ → Progress → List ℕ → Next → List ℕ → List ℕ → Type 0
-GoesOn f room g text r room′ text′ = (bytes : List ℕ) × Goes f room g bytes text r room′ text′
+GoesOn f room g text r room′ text′ = (bytes : List ℕ) × Takes f room g bytes text r room′ text′

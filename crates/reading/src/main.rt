@@ -5,7 +5,7 @@ mod turns;
 
 ghost use Prim.Native.Nat.{_≤_};
 ghost use lib.ListN.{length};
-ghost use Rattle.reading.specs.Turns.{Reached, Goes, GoesOn};
+ghost use Rattle.reading.specs.Turns.{Reached, Takes, GoesOn};
 ghost use Rattle.reading.specs.Printed.{Due};
 use crate::asked::Asked;
 use crate::asked::asked_by;
@@ -43,7 +43,7 @@ fn feed_all(
     text: &mut [u8],
 ) -> Next
     requires { ⌜ Reached family (now room) progress (now text) ⌝ }
-    ensures { λ r. ⌜ Goes family (now (room .entry)) progress (now (bytes .entry)) (now (text .entry)) r (now (room .exit)) (now (text .exit)) ⌝ }
+    ensures { λ r. ⌜ Takes family (now (room .entry)) progress (now (bytes .entry)) (now (text .entry)) r (now (room .exit)) (now (text .exit)) ⌝ }
 {
     let mut at = progress;
     let mut i = 0;

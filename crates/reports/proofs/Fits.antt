@@ -10,7 +10,7 @@ use lib.Dec.{eqb}
 use lib.ListN.{length, take, drop, length-append, length-map, length-take, length-replicate}
 use lib.Seq.{take-at}
 use Rattle.figures.proofs.Bytes.{laid-fits}
-use Rattle.figures.specs.Decimal.{placesBy, places}
+use Rattle.figures.specs.Decimal.{digitsNBy, digitsN}
 use Rattle.figures.proofs.Decimal.{digits-length}
 use Rattle.figures.specs.Text.{codes}
 use Rattle.units.specs.Information.{indexBytes, infoBytes}
@@ -29,12 +29,12 @@ use Rattle.blocks.proofs.Counts.{judged-by}
 use Rattle.measures.proofs.Fits.{value-short, index-short}
 use Rattle.reports.specs.Piece.{wordText, wordsText, headText, endText, readingText, refusalText, whereText, answerText, reportOf, Reports}
 use Rattle.reports.specs.declared.piece.Reported.{Reported}
-use Rattle.figures.proofs.Places.{places-most}
+use Rattle.figures.proofs.Places.{digits-most}
 
 word-short : (f : Family) (k : ℕ) (wide : Bool) (w : Word) → length (w .info) ≡ 4 → length (wordText f k wide w) ≤ 160
 word-short f k wide w h =
     let index = length-append (indexBytes (w .index)) (codes " info=" ++ infoBytes (w .index) (w .info)) in
-    simp (length-append, digits-length) (omega (arith, places-most k, index, index-short (w .index) (w .info) h, value-short f wide w))
+    simp (length-append, digits-length) (omega (arith, digits-most k, index, index-short (w .index) (w .info) h, value-short f wide w))
 
 info-four : (f : Family) (wide : Bool) (w : Word) → isRight f wide w ≡ true → length (w .info) ≡ 4
 info-four f wide w e =
@@ -50,16 +50,16 @@ words-short f k wide (w ∷ ws) e =
     omega (arith, length-append (wordText f k wide w) (wordsText f (suc k) wide ws), first, words-short f (suc k) wide ws (both .1))
 
 head-short : (number at : ℕ) → length (headText number at) ≤ 50
-head-short number at = simp (length-append, digits-length) (omega (arith, places-most number, places-most at))
+head-short number at = simp (length-append, digits-length) (omega (arith, digits-most number, digits-most at))
 
 refusal-short : (r : Refusal) → length (refusalText r) ≤ 57
-refusal-short r = simp (length-append, digits-length) (omega (arith, places-most (refusalNumber r), places-most (refusalTells r)))
+refusal-short r = simp (length-append, digits-length) (omega (arith, digits-most (refusalNumber r), digits-most (refusalTells r)))
 
 where-short : (piece : List ℕ) (place : ℕ) → place ≤ 769 → length (whereText piece place) ≤ 1542
 where-short piece place h = simp (length-append, length-map, length-take, length-replicate) (omega arith)
 
-width-short : (wide : Bool) → places (width wide) ≤ 2
-unfolding placesBy
+width-short : (wide : Bool) → digitsN (width wide) ≤ 2
+unfolding digitsNBy
 width-short true = omega arith
 width-short false = omega arith
 
@@ -69,7 +69,7 @@ end-short false = omega arith
 
 reading-short : (r : Reading) → length (readingText r) ≤ 73
 reading-short r =
-    simp (length-append, digits-length) (omega (arith, width-short (r .wide), end-short (r .crlf), places-most (r .words), places-most (r .used)))
+    simp (length-append, digits-length) (omega (arith, width-short (r .wide), end-short (r .crlf), digits-most (r .words), digits-most (r .used)))
 
 -- no place that is told is further on
 abbrev Near : Answer → Type 0

@@ -1,7 +1,7 @@
 -- A line that is written has one LF, its last byte. So two lines at the start of the same bytes are one line.
 use Prim.Native.Nat.{ℕ, _+_, _/_, _%_, _<_}
 use mathlib.Core.Path.{_≡_, refl, sym, ap, _∙_}
-use mathlib.Core.Bool.{Bool, true, false, cond, not, _&&_, false≢true}
+use mathlib.Core.Bool.{Bool, true, false, not, _&&_, false≢true}
 use mathlib.Core.List.{List, [], _∷_, _++_, append-assoc}
 use native.Mathlib.Omega.{arith}
 use borrow.Author.Tests.{eq-eqb, eqb-true, leb-true, not-false, not-true}
@@ -9,10 +9,10 @@ use lib.Dec.{eqb, leb}
 use lib.ListN.{take}
 use Rattle.figures.specs.Text.{codes}
 use Rattle.figures.specs.Bytes.{within, every, runOf, isOther}
-use Rattle.figures.specs.Decimal.{isDigit, digitsOf, placesBy, places, decimalOf}
+use Rattle.figures.specs.Decimal.{isDigit, digitsOf, digitsNBy, digitsN, decimalOf}
 use Rattle.figures.proofs.Bytes.{within-bounds, every-append, is-other}
 use Rattle.figures.proofs.Decimal.{digits-are}
-use Rattle.figures.proofs.Tests.{both, by-test}
+use Rattle.figures.proofs.Tests.{both, by-test, either}
 use Rattle.words.specs.Records.{isGraphic}
 use Rattle.instrument.specs.Rows.{keyOf}
 use Rattle.instrument.specs.Settings.{noRow, rows100, rows300, rowsOf, rowAt}
@@ -122,7 +122,7 @@ high low top h (b ∷ l) e =
     rw (is-other 10 b (λ q. omega arith)) (high low top h l (parts .1))
 
 keys-clean : (k : Series) → (hasNoLf (settingKey noRow) ≡ true) × (eachRow (λ (r : Row). hasNoLf (settingKey r)) (rowsOf k) ≡ true)
-unfolding eachRow rows100 rows300 digitsOf placesBy every
+unfolding eachRow rows100 rows300 digitsOf digitsNBy every
 keys-clean Tps100 = (refl, refl)
 keys-clean Tps300 = (refl, refl)
 
@@ -130,7 +130,7 @@ pub setting-ends : (k : Series) → LinesEnd (settingLines k)
 setting-ends k got i p e =
     let keys = keys-clean k in
     keyed-line (settingKey (rowAt k i)) (decimalOf p) (row-tested (λ (r : Row). hasNoLf (settingKey r)) (rowsOf k) noRow (keys .0) (keys .1) i)
-    (high 48 57 (omega arith) (decimalOf p) (digits-are (places p) p))
+    (high 48 57 (omega arith) (decimalOf p) (digits-are (digitsN p) p))
 
 -- a value's index and units
 
@@ -138,7 +138,7 @@ abbrev cleanRow : Stored → Bool
 cleanRow r = hasNoLf (keyOf "v" (indexNumber r)) && not (within (r .first) (r .last) 10)
 
 rows-clean : (cleanRow noStored ≡ true) × (eachRow cleanRow stored ≡ true)
-unfolding eachRow stored digitsOf placesBy every
+unfolding eachRow stored digitsOf digitsNBy every
 rows-clean = (refl, refl)
 
 row-clean : (i : ℕ) → (hasNoLf (valueKey i) ≡ true) × (within (storedAt i .first) (storedAt i .last) 10 ≡ false)
@@ -150,11 +150,6 @@ data-clean : (r : Stored) (u m : ℕ) (l : List ℕ) → heldBy r u m l ≡ true
 data-clean r u m l e =
     by-test (eqb (r .first) 46) (λ q. high 33 126 (omega arith) l (both (eqb m 0) (every isGraphic l) (rw q at e) .1))
     (λ q. high 48 57 (omega arith) l (both (every isDigit l) _ (rw q at e) .0))
-
--- one of two bytes
-either : (t : Bool) (a b : ℕ) → isOther 10 a ≡ true → isOther 10 b ≡ true → isOther 10 (cond t a b) ≡ true
-either true a b p q = p
-either false a b p q = q
 
 pub value-ends : LinesEnd valueLines
 unfolding every
@@ -174,7 +169,7 @@ value-ends got i v e = by (v .kept) e
         (rw (
           is-other 10 (48 + storedAt i .index / 10 % 10) (omega arith),
           is-other 10 (48 + storedAt i .index % 10) (omega arith),
-          either (eqb (storedAt i .first) 46) 46 49 refl refl,
+          either (λ b. isOther 10 b ≡ true) (eqb (storedAt i .first) 46) 46 49 (λ _. refl) refl,
           unit-is,
-          either (eqb m 0) 43 45 refl refl,
+          either (λ b. isOther 10 b ≡ true) (eqb m 0) 43 45 (λ _. refl) refl,
         ) data-is)

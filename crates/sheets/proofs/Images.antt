@@ -5,10 +5,9 @@ use mathlib.Core.Bool.{Bool, true, false, cond}
 use mathlib.Core.List.{List}
 use native.Mathlib.Omega.{arith}
 use borrow.Author.Tests.{le-leb}
-use lib.ListN.{length, take, drop}
-use lib.Seq.{take-at}
+use lib.ListN.{length, take}
 use Rattle.figures.specs.Bytes.{laid}
-use Rattle.figures.proofs.Bytes.{laid-fits}
+use Rattle.figures.proofs.Bytes.{laid-start}
 use Rattle.state.specs.Entries.{noEntries, isState}
 use Rattle.instrument.specs.Settings.{held, padded}
 use Rattle.instrument.specs.declared.settings.Series.{Series}
@@ -32,9 +31,6 @@ image-writes s room e =
 
 fits : (sheet room : List ℕ) → length sheet ≤ length room → sheetInRoom sheet room ≡ record { answer = Written (length sheet); room = laid sheet room }
 fits sheet room h = rw (le-leb (length sheet) (length room) h)
-
-laid-start : (sheet room : List ℕ) → length sheet ≤ length room → take (length sheet) (laid sheet room) ≡ sheet
-laid-start sheet room h = ap (take (length sheet)) (laid-fits sheet room h) ∙ take-at sheet (drop (length sheet) room) (length sheet) refl
 
 -- what a sheet that fits comes to: it stands at the start of the room
 pub written : (s : State) (room : List ℕ) (r : Sheeted) (room′ : List ℕ) → isState s ≡ true

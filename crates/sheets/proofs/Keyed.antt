@@ -10,7 +10,7 @@ use borrow.Rule.Slice.PartMut.{midOf}
 use lib.Dec.{eqb, leb}
 use lib.ListN.{length, getD, take}
 use Rattle.figures.specs.Bytes.{startsWith, sameBytes}
-use Rattle.figures.specs.Decimal.{digitsOf, placesBy}
+use Rattle.figures.specs.Decimal.{digitsOf, digitsNBy}
 use Rattle.figures.specs.Rooms.{Puts}
 use Rattle.figures.proofs.Bytes.{same-true}
 use Rattle.figures.proofs.Putting.{puts-as}
@@ -66,7 +66,7 @@ abbrev settingKeyed : Row → Bool
 settingKeyed r = isKeyed (keyBytes "s" (settingNumber r)) (settingKey r) 5
 
 settings-keyed : (k : Series) → (settingKeyed noRow ≡ true) × (eachRow settingKeyed (rowsOf k) ≡ true)
-unfolding eachRow rows100 rows300 digitsOf placesBy startsWith
+unfolding eachRow rows100 rows300 digitsOf digitsNBy startsWith
 settings-keyed Tps100 = (refl, refl)
 settings-keyed Tps300 = (refl, refl)
 
@@ -87,7 +87,7 @@ abbrev valueKeyed : Stored → Bool
 valueKeyed r = isKeyed (r .key) (keyOf "v" (indexNumber r)) 4
 
 values-keyed : (valueKeyed noStored ≡ true) × (eachRow valueKeyed stored ≡ true)
-unfolding eachRow stored digitsOf placesBy startsWith
+unfolding eachRow stored digitsOf digitsNBy startsWith
 values-keyed = (refl, refl)
 
 pub value-keyed : (i : ℕ) → Keyed (storedAt i .key) (valueKey i) 4

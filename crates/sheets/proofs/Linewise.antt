@@ -13,7 +13,7 @@ use lib.ListN.{length, getD, take, drop, replicate, length-append}
 use lib.Seq.{take-suc, take-all, take-at, length-take-le}
 use Rattle.figures.specs.Text.{codes}
 use Rattle.figures.specs.Bytes.{laid}
-use Rattle.figures.specs.Decimal.{placesBy, places, decimalOf}
+use Rattle.figures.specs.Decimal.{digitsNBy, digitsN, decimalOf}
 use Rattle.figures.specs.Rooms.{Puts}
 use Rattle.figures.proofs.Bytes.{laid-fits, length-laid}
 use Rattle.figures.proofs.Decimal.{digits-length}
@@ -113,16 +113,16 @@ put-sheet l r e = held-put (replicate sheetMost 0) l (r .n) (r .bytes) (ap (λ (
 
 -- how long a line is
 
-pub few-places : (n : ℕ) → n < 1000 → (places n ≤ 3) × (n < 10 ^ places n)
-unfolding placesBy
-few-places n h =
+pub short-decimal : (n : ℕ) → n < 1000 → (digitsN n ≤ 3) × (n < 10 ^ digitsN n)
+unfolding digitsNBy
+short-decimal n h =
     by-test (ltb n 10) (λ a. rw a (omega (arith, ltb-true n 10 a)))
     (λ a. by-test (ltb (n / 10) 10) (λ b. rw (a, b) (omega (arith, ltb-true (n / 10) 10 b)))
     (λ b. rw (a, b, lt-ltb (n / 10 / 10) 10 (omega arith)) (omega arith)))
 
-pub setting-long : (k : Series) (i p : ℕ) → length (settingLines k .write i p) ≡ length (settingKey (rowAt k i)) + 1 + places p
+pub setting-long : (k : Series) (i p : ℕ) → length (settingLines k .write i p) ≡ length (settingKey (rowAt k i)) + 1 + digitsN p
 setting-long k i p =
-    omega (arith, length-append (settingKey (rowAt k i)) (decimalOf p ++ codes "\n"), length-append (decimalOf p) (codes "\n"), digits-length (places p) p)
+    omega (arith, length-append (settingKey (rowAt k i)) (decimalOf p ++ codes "\n"), length-append (decimalOf p) (codes "\n"), digits-length (digitsN p) p)
 
 pub kept-long : (i : ℕ) (k : Kept) → length (keptLine i k) ≡ length (valueKey i) + 1 + charactersN * cond (isPut k) 1 0
 kept-long i Never = omega (arith, length-append (valueKey i) (codes "\n"))
@@ -131,7 +131,7 @@ kept-long i (Put u m d) =
     omega (arith, length-append (valueKey i) (c ++ codes "\n"), length-append c (codes "\n"))
 
 pub setting-few : (k : Series) (i p : ℕ) → p < 1000 → length (settingLines k .write i p) ≤ 9
-setting-few k i p h = omega (arith, setting-long k i p, setting-keyed k i .few, few-places p h .0)
+setting-few k i p h = omega (arith, setting-long k i p, setting-keyed k i .few, short-decimal p h .0)
 
 pub kept-few : (i : ℕ) (k : Kept) → length (keptLine i k) ≤ lineMost
 kept-few i Never = omega (arith, kept-long i Never, value-keyed i .few)

@@ -12,11 +12,12 @@ use lib.Dec.{leb}
 use lib.ListN.{length, getD, drop, replicate, drop-of-length-le, getD-replicate}
 use lib.Seq.{take-nil, drop-cons, drop-append-seam, getD-drop}
 use Rattle.figures.specs.Bytes.{startsWith, every, laid}
-use Rattle.figures.specs.Decimal.{isDigit, numberFrom, places, decimalOf}
+use Rattle.figures.specs.Decimal.{isDigit, numberFrom, digitsN, decimalOf}
 use Rattle.figures.proofs.Bytes.{starts-append}
 use Rattle.figures.proofs.Decimal.{digits-length, digits-are, number-digits}
 use Rattle.figures.proofs.Tests.{both}
-use Rattle.units.specs.Information.{signByte, signOf}
+use Rattle.units.proofs.Positions.{sign-on}
+use Rattle.units.specs.Information.{signOf}
 use Rattle.instrument.specs.Settings.{noRow, rowsOf, rowAt, held, inRanges, settingsN}
 use Rattle.instrument.specs.Values.{valuesN, storedAt, putRight, putKept, keptRight, valueWord}
 use Rattle.state.specs.Entries.{valueOf, valuesRight, isState}
@@ -29,7 +30,7 @@ use Rattle.state.proofs.Images.{held-right, held-long}
 use Rattle.lines.proofs.Deeds.{state-right}
 use Rattle.instrument.proofs.Ranges.{range-byte}
 use Rattle.sheets.specs.Sheet.{settingKey, saidBy, settingLines, charactersOf, valueKey, keptLine, keptSaid, valueLines}
-use Rattle.sheets.proofs.Linewise.{few-places}
+use Rattle.sheets.proofs.Linewise.{short-decimal}
 use Rattle.sheets.proofs.Partwise.{rightBy, Said}
 
 -- a turn of the loop that reads digits
@@ -73,8 +74,8 @@ said-digits (suc k) n (b ∷ l) rest h e =
 
 said-decimal : (p : ℕ) (rest : List ℕ) → p < 1000 → saidBy 3 0 (decimalOf p ++ (10 ∷ rest)) ≡ p
 said-decimal p rest h =
-    let few = few-places p h in
-    said-digits 3 0 (decimalOf p) rest (omega (arith, digits-length (places p) p, few .0)) (digits-are (places p) p) ∙ number-digits (places p) p (few .1)
+    let few = short-decimal p h in
+    said-digits 3 0 (decimalOf p) rest (omega (arith, digits-length (digitsN p) p, few .0)) (digits-are (digitsN p) p) ∙ number-digits (digitsN p) p (few .1)
 
 -- settings
 
@@ -96,11 +97,6 @@ unfolding startsWith
 not-never [] b rest h = rw (ne-eqb b 10 h)
 not-never (x ∷ k) b rest h = rw (eq-eqb x x refl) (not-never k b rest h)
 
-sign-back : (m : ℕ) → m ≤ 1 → signOf (signByte m) ≡ m
-sign-back zero h = refl
-sign-back (suc zero) h = refl
-sign-back (suc (suc m)) h = absurd (omega arith)
-
 kept-said : (place : ℕ) (k : Kept) (rest : List ℕ) → keptRight place k ≡ true → keptSaid place (keptLine place k ++ rest) ≡ k
 kept-said place Never rest e = rw (starts-append (keptLine place Never) rest)
 kept-said place (Put u m d) rest e =
@@ -113,7 +109,7 @@ kept-said place (Put u m d) rest e =
     ap (keptSaid place) line
     ∙ ap (λ (b : Bool). cond b Never (putKept (drop (length k) (k ++ (c ++ (10 ∷ rest)))))) put
     ∙ ap putKept (drop-append-seam k (c ++ (10 ∷ rest)))
-    ∙ ap (λ (s : ℕ). Put u s d) (sign-back m small)
+    ∙ ap (λ (s : ℕ). Put u s d) (sign-on m small)
 
 pub value-said : Said valueLines
 value-said got place v rest e = ap valueOf (kept-said place (v .kept) rest e)

@@ -8,7 +8,7 @@ use borrow.Author.Tests.{lt-ltb, le-ltb, ltb-false}
 use lib.Dec.{ltb}
 use lib.ListN.{length, replicate, length-append}
 use Rattle.figures.specs.Bytes.{among, every}
-use Rattle.figures.specs.Decimal.{digitsOf, placesBy, places, numberFrom}
+use Rattle.figures.specs.Decimal.{digitsOf, digitsNBy, digitsN, numberFrom}
 use Rattle.figures.proofs.Tests.{both, by-test}
 use Rattle.instrument.specs.Settings.{rows100, rows300, rowAt, held, inRange, inRanges, settingsN}
 use Rattle.instrument.specs.Settings as rows
@@ -25,7 +25,7 @@ use Rattle.instrument.proofs.Ranges.{range-high, rows-high, range-byte}
 use Rattle.sheets.specs.Lines.{LinesOf, linesBy}
 use Rattle.sheets.specs.Sheet.{seriesLine, settingKey, settingLines, charactersN, valueKey, valueLines, sheetOf}
 use Rattle.sheets.specs.Keeping.{sheetMost}
-use Rattle.sheets.proofs.Linewise.{few-places, setting-long, kept-long}
+use Rattle.sheets.proofs.Linewise.{short-decimal, setting-long, kept-long}
 use Rattle.sheets.proofs.Partwise.{rightBy}
 use Rattle.sheets.proofs.Says.{state-named}
 
@@ -66,33 +66,33 @@ abbrev pub settingHere : Series → ℕ → ℕ
 settingHere k i = length (settingKey (rowAt k i)) + 1
 
 abbrev pub settingMost : Series → ℕ → ℕ
-settingMost k i = settingHere k i + places (rowAt k i .highest)
+settingMost k i = settingHere k i + digitsN (rowAt k i .highest)
 
-places-some : (n : ℕ) → n < 1000 → 1 ≤ places n
-unfolding placesBy
-places-some n h =
+digits-some : (n : ℕ) → n < 1000 → 1 ≤ digitsN n
+unfolding digitsNBy
+digits-some n h =
     by-test (ltb n 10) (λ a. rw a (omega arith))
     (λ a. by-test (ltb (n / 10) 10) (λ b. rw (a, b) (omega arith)) (λ b. rw (a, b, lt-ltb (n / 10 / 10) 10 (omega arith)) (omega arith)))
 
 -- more digits only where the number is more
-places-up : (p q : ℕ) → p ≤ q → q < 1000 → places p ≤ places q
-unfolding placesBy
-places-up p q h small =
-    by-test (ltb p 10) (λ a. omega (arith, places-some q small, one a))
-    (λ a. by-test (ltb (p / 10) 10) (λ b. omega (arith, two a b, more-two a)) (λ b. omega (arith, few-places p (omega arith) .0, more-three b)))
+digits-up : (p q : ℕ) → p ≤ q → q < 1000 → digitsN p ≤ digitsN q
+unfolding digitsNBy
+digits-up p q h small =
+    by-test (ltb p 10) (λ a. omega (arith, digits-some q small, one a))
+    (λ a. by-test (ltb (p / 10) 10) (λ b. omega (arith, two a b, more-two a)) (λ b. omega (arith, short-decimal p (omega arith) .0, more-three b)))
   where
-    one : ltb p 10 ≡ true → places p ≡ 1
+    one : ltb p 10 ≡ true → digitsN p ≡ 1
     one a = rw a
 
-    two : ltb p 10 ≡ false → ltb (p / 10) 10 ≡ true → places p ≡ 2
+    two : ltb p 10 ≡ false → ltb (p / 10) 10 ≡ true → digitsN p ≡ 2
     two a b = rw (a, b)
 
-    more-two : ltb p 10 ≡ false → 2 ≤ places q
+    more-two : ltb p 10 ≡ false → 2 ≤ digitsN q
     more-two a =
         let c : ltb q 10 ≡ false = le-ltb q 10 (omega (arith, ltb-false p 10 a)) in
         by-test (ltb (q / 10) 10) (λ b. rw (c, b) (omega arith)) (λ b. rw (c, b, lt-ltb (q / 10 / 10) 10 (omega arith)) (omega arith))
 
-    more-three : ltb (p / 10) 10 ≡ false → 3 ≤ places q
+    more-three : ltb (p / 10) 10 ≡ false → 3 ≤ digitsN q
     more-three b =
         let hundred : 100 ≤ p = omega (arith, ltb-false (p / 10) 10 b) in
         rw (le-ltb q 10 (omega arith), le-ltb (q / 10) 10 (omega arith), lt-ltb (q / 10 / 10) 10 (omega arith)) (omega arith)
@@ -103,8 +103,8 @@ setting-sized : (k : Series) (i p : ℕ) → inRange (rowAt k i) p ≡ true
 setting-sized k i p e =
     let small = range-byte k i p e in
     let high = rows-high k i in
-    let up = places-up p (rowAt k i .highest) (range-high (rowAt k i) p e) (omega arith) in
-    (omega (arith, setting-long k i p, places-some p (omega arith)), omega (arith, setting-long k i p, up))
+    let up = digits-up p (rowAt k i .highest) (range-high (rowAt k i) p e) (omega arith) in
+    (omega (arith, setting-long k i p, digits-some p (omega arith)), omega (arith, setting-long k i p, up))
 
 -- the lines of things whose lengths have bounds by their places
 lines-between : {A : Type 0} (l : LinesOf A) (least most : ℕ → ℕ)
@@ -144,12 +144,12 @@ sheetGreatest k = length (seriesLine k) + settingsGreatest k + valuesLeast + cha
 
 -- "187 to 352 bytes"
 pub sizes-100 : (sheetLeast Tps100 ≡ 187) × (sheetGreatest Tps100 ≡ 352)
-unfolding totalFrom rows100 stored digitsOf placesBy
+unfolding totalFrom rows100 stored digitsOf digitsNBy
 sizes-100 = (refl, refl)
 
 -- and of a TPS300, whose greatest is the longest of all
 pub sizes-300 : (sheetLeast Tps300 ≡ 263) × (sheetGreatest Tps300 ≡ sheetMost)
-unfolding totalFrom rows300 stored digitsOf placesBy
+unfolding totalFrom rows300 stored digitsOf digitsNBy
 sizes-300 = (refl, refl)
 
 pub series-long : (k : Series) → length (seriesLine k) ≡ 14
@@ -186,7 +186,7 @@ sheet-most s e = omega (arith, sheet-between s e .1, puts-few (s .values), state
 -- and there are sheets of these lengths: the factory's, and one of the highest parameters with each value put
 
 pub least-reached : (k : Series) → length (sheetOf (factoryState k)) ≡ sheetLeast k
-unfolding sheetOf linesBy totalFrom rows100 rows300 stored digitsOf placesBy
+unfolding sheetOf linesBy totalFrom rows100 rows300 stored digitsOf digitsNBy
 least-reached Tps100 = refl
 least-reached Tps300 = refl
 
@@ -206,7 +206,7 @@ fullest-state Tps100 = refl
 fullest-state Tps300 = refl
 
 pub greatest-reached : (k : Series) → length (sheetOf (fullest k)) ≡ sheetGreatest k
-unfolding sheetOf linesBy totalFrom rows100 rows300 stored digitsOf placesBy
+unfolding sheetOf linesBy totalFrom rows100 rows300 stored digitsOf digitsNBy
 greatest-reached Tps100 = refl
 greatest-reached Tps300 = refl
 

@@ -1,4 +1,4 @@
--- Demand 3 over lines and sheet loads in any order: "the factory state or a loaded sheet" is where it starts.
+-- Demand 3 over lines and sheet loads in any order: it starts at the factory state or at a loaded sheet.
 use Prim.Native.Nat.{ℕ, _≤_}
 use mathlib.Core.Path.{_≡_}
 use mathlib.Core.Bool.{true}

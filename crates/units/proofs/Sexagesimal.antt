@@ -4,7 +4,7 @@ use Prim.Native.Nat.{ℕ, _+_, _*_, _/_, _%_, _<_}
 use mathlib.Core.Path.{_≡_, _∙_}
 use native.Mathlib.Nat.{mul-add-div-right, mul-add-mod-self-right, div-eq-of-lt, mod-eq-of-lt, add-zero, div-add-mod', mod-lt, div-div-eq-div-mul}
 use native.Mathlib.Omega.{arith}
-use Rattle.units.specs.Counts.{degrees, minutes, seconds, tenthsOf, sexagesimal}
+use Rattle.units.specs.Counts.{degrees, minutes, seconds, tenthsOf, sexagesimal, tenthLimit}
 
 -- degrees, minutes and seconds of digits, each in its range
 abbrev pub InRange : ℕ → Type 0
@@ -68,7 +68,7 @@ tenths-back v = tenths-rebased (sexagesimal v) ∙ rw (sexagesimal-rebased v) (t
 pub sexagesimal-back : (n : ℕ) → InRange n → sexagesimal (tenthsOf n) ≡ n
 sexagesimal-back n h = sexagesimal-rebased (tenthsOf n) ∙ rw (tenths-rebased n) (there-and-back 100 60 n (rw (div-div-eq-div-mul n 10 100) (h .1)) (h .2))
 
-pub in-range : (v : ℕ) → v < 12960000 → InRange (sexagesimal v)
+pub in-range : (v : ℕ) → v < tenthLimit → InRange (sexagesimal v)
 in-range v h =
     let p = same-parts 60 100 v (omega arith) (omega arith) in (
       omega arith,
@@ -76,8 +76,8 @@ in-range v h =
       rw (sexagesimal-rebased v, p .low) (mod-lt (v / 10) (omega arith)),
     )
 
-pub sexagesimal-below : (v : ℕ) → v < 12960000 → sexagesimal v < 36000000
+pub sexagesimal-below : (v : ℕ) → v < tenthLimit → sexagesimal v < 36000000
 sexagesimal-below v h = omega arith
 
-pub tenths-below : (n : ℕ) → InRange n → tenthsOf n < 12960000
+pub tenths-below : (n : ℕ) → InRange n → tenthsOf n < tenthLimit
 tenths-below n h = omega arith

@@ -61,10 +61,20 @@ pub enum Valued {
     Counted(Count),
 }
 
+// An angle's size is below its unit's limit.
+pub const GON_LIMIT: u64 = 40_000_000;
+
+pub const DEGREE_LIMIT: u64 = 36_000_000;
+
+pub const MIL_LIMIT: u64 = 64_000_000;
+
+// 360 degrees in tenths of a second.
+pub const TENTH_LIMIT: u64 = 12_960_000;
+
 fn gon_at(minus: u8, n: u64) -> Valued
     ensures { λ r. ⌜ r ≡ gonAt minus n ⌝ }
 {
-    if 40_000_000 <= n {
+    if GON_LIMIT <= n {
         return Valued::Not;
     }
     let count = Count::Gon(Gon(Whole {
@@ -77,7 +87,7 @@ fn gon_at(minus: u8, n: u64) -> Valued
 fn degree_at(minus: u8, n: u64) -> Valued
     ensures { λ r. ⌜ r ≡ degreeAt minus n ⌝ }
 {
-    if 36_000_000 <= n {
+    if DEGREE_LIMIT <= n {
         return Valued::Not;
     }
     let count = Count::Degree(Degree(Whole {
@@ -114,7 +124,7 @@ fn tenth_at(minus: u8, n: u64) -> Valued
 fn mil_at(minus: u8, n: u64) -> Valued
     ensures { λ r. ⌜ r ≡ milAt minus n ⌝ }
 {
-    if 64_000_000 <= n {
+    if MIL_LIMIT <= n {
         return Valued::Not;
     }
     let count = Count::Mil(Mil(Whole {

@@ -22,7 +22,7 @@ pub enum Kind {
     Pair,
 }
 
-// Gives the index that two digits say.
+// The index that two characters name, or that they aren't two digits.
 pub enum Named {
     Not,
     Index(u16),

@@ -12,7 +12,7 @@ use Rattle.figures.specs.Decimal.{isDigit, numberOf}
 use Rattle.figures.proofs.Tests.{clash}
 use Rattle.units.specs.Kinds.{kindOf, indexBy, areDigits, firstOther, listedBy, isTextual}
 use Rattle.units.specs.Information.{infoMarks, allRight, firstWrong, infoRight, leadOf, isSign, signOf, signRight}
-use Rattle.units.specs.Counts.{whole, zeroWhole, degrees, minutes, seconds, tenthsOf, counted, angleAt, valueAt, firstOf, secondOf}
+use Rattle.units.specs.Counts.{whole, zeroWhole, degrees, minutes, seconds, tenthsOf, counted, angleAt, valueAt, firstOf, secondOf, gonLimit, degreeLimit, milLimit}
 use Rattle.words.specs.Records.{width, kindIn, unitIn, countBy, countRight, sameWhole, textRight, isRight, typedOf}
 use Rattle.words.specs.Reading.{faultNumber, wordSize, pos, dataIn, underIn, indexIn, kindAt, marksIn, dataRight, dataAt, figuresIn}
 use Rattle.words.specs.Reading.{valueIn, isCounted, countOr, recordIn, rightWord, unless, wordOf}
@@ -51,10 +51,10 @@ sign-free Numbered i u m (figures.Number n) = refl
 sign-free Text i u m (figures.Number n) = refl
 sign-free Angle i u m (figures.Number n) =
     by-unit (λ at of. isCounted (at m n) ≡ isCounted (at 0 n))
-    (same (ltb n 40000000) (λ w. Gon (record { 0 = w })) n)
-    (same (ltb n 36000000) (λ w. Degree (record { 0 = w })) n)
+    (same (ltb n gonLimit) (λ w. Gon (record { 0 = w })) n)
+    (same (ltb n degreeLimit) (λ w. Degree (record { 0 = w })) n)
     (same (ltb (degrees n) 360 && (ltb (minutes n) 60 && ltb (seconds n) 60)) (λ w. Tenth (record { 0 = w })) (tenthsOf n))
-    (same (ltb n 64000000) (λ w. Mil (record { 0 = w })) n)
+    (same (ltb n milLimit) (λ w. Mil (record { 0 = w })) n)
     u
   where
     same : (t : Bool) (of : Whole → Count) (v : ℕ) → isCounted (counted t (of (whole m v))) ≡ isCounted (counted t (of (whole 0 v)))

@@ -8,7 +8,7 @@ use native.Mathlib.Nat.{lt-of-lt-of-le, pow-le-pow-right}
 use native.Mathlib.Omega.{arith}
 use borrow.Author.Tests.{leb-true, le-leb, ltb-true, lt-ltb}
 use lib.Dec.{eqb, leb, ltb}
-use Rattle.units.specs.Counts.{whole, degrees, minutes, seconds, tenthsOf, sexagesimal, counted, gonAt, degreeAt, tenthAt, milAt}
+use Rattle.units.specs.Counts.{whole, degrees, minutes, seconds, tenthsOf, sexagesimal, counted, gonAt, degreeAt, tenthAt, milAt, gonLimit, degreeLimit, milLimit, tenthLimit}
 use Rattle.units.specs.Counts.{angleAt, angleOf, lengthOf, constantOf, valueAt, firstOf, figuresOf}
 use Rattle.words.specs.Records.{width, recordOf, unitIn, countBy, wholeRight, countRight}
 use Rattle.words.specs.Reading.{isCounted, countOr}
@@ -108,13 +108,13 @@ constant-plain wide i x =
     by-constant (λ of. Plain wide (10 ^ width wide) of x) (record { first = refl; right = refl; says = refl })
     (record { first = refl; right = refl; says = refl }) i
 
-gon-plain : (wide : Bool) (x : Whole) → Plain wide 40000000 (λ w. Gon (record { 0 = w })) x
+gon-plain : (wide : Bool) (x : Whole) → Plain wide gonLimit (λ w. Gon (record { 0 = w })) x
 gon-plain wide x = record { first = refl; right = refl; says = refl }
 
-degree-plain : (wide : Bool) (x : Whole) → Plain wide 36000000 (λ w. Degree (record { 0 = w })) x
+degree-plain : (wide : Bool) (x : Whole) → Plain wide degreeLimit (λ w. Degree (record { 0 = w })) x
 degree-plain wide x = record { first = refl; right = refl; says = refl }
 
-mil-plain : (wide : Bool) (x : Whole) → Plain wide 64000000 (λ w. Mil (record { 0 = w })) x
+mil-plain : (wide : Bool) (x : Whole) → Plain wide milLimit (λ w. Mil (record { 0 = w })) x
 mil-plain wide x = record { first = refl; right = refl; says = refl }
 
 -- from the figures to their count
@@ -152,15 +152,15 @@ module _ (wide : Bool) (m n : ℕ) (s : m ≤ 1) where
       (ltb (degrees n) 360 && (ltb (minutes n) 60 && ltb (seconds n) 60)) (Tenth (record { 0 = whole m (tenthsOf n) }))
       (λ t.
       let range = tests-range n t in
-      (whole-right m (tenthsOf n) 12960000 s (tenths-below n range), ap figures.Number (sexagesimal-back n range), refl, refl))
+      (whole-right m (tenthsOf n) tenthLimit s (tenths-below n range), ap figures.Number (sexagesimal-back n range), refl, refl))
 
   angle-told : (u : ℕ) → isCounted (angleAt u m n) ≡ true → Told wide (λ c. angleOf u (firstOf c)) m (figures.Number n) (countOr (angleAt u m n))
   angle-told =
       by-unit (λ at of. isCounted (at m n) ≡ true → Told wide (λ c. of (firstOf c)) m (figures.Number n) (countOr (at m n)))
-      (limited-told 40000000 (λ w. Gon (record { 0 = w })) (gon-plain wide (whole m n)))
-      (limited-told 36000000 (λ w. Degree (record { 0 = w })) (degree-plain wide (whole m n)))
+      (limited-told gonLimit (λ w. Gon (record { 0 = w })) (gon-plain wide (whole m n)))
+      (limited-told degreeLimit (λ w. Degree (record { 0 = w })) (degree-plain wide (whole m n)))
       tenth-told
-      (limited-told 64000000 (λ w. Mil (record { 0 = w })) (mil-plain wide (whole m n)))
+      (limited-told milLimit (λ w. Mil (record { 0 = w })) (mil-plain wide (whole m n)))
 
 pub value-told : (wide : Bool) {k : Kind} {f : Figures} (i u m a b e : ℕ) (t : List ℕ) → Fit (width wide) k f → SignFor k m
     → isCounted (valueAt k i u m f) ≡ true
@@ -214,7 +214,7 @@ limited-number wide limit of x h p e =
 tenth-number : (wide : Bool) (x : Whole) → countRight wide (Tenth (record { 0 = x })) ≡ true → Number wide tenthAt (λ w. Tenth (record { 0 = w })) x
 tenth-number wide x e =
     let n = x .size in
-    let r = sound-of (x .minus) n 12960000 e in
+    let r = sound-of (x .minus) n tenthLimit e in
     let again = tenths-back n in
     record {
       digits = sexagesimal n;
@@ -227,10 +227,10 @@ tenth-number wide x e =
 angle-number : (wide : Bool) (x : Whole) (u : ℕ) → countRight wide (angleOf u x) ≡ true → Number wide (angleAt u) (angleOf u) x
 angle-number wide x =
     by-unit (λ at of. countRight wide (of x) ≡ true → Number wide at of x)
-    (limited-number wide 40000000 (λ w. Gon (record { 0 = w })) x (omega arith) (gon-plain wide x))
-    (limited-number wide 36000000 (λ w. Degree (record { 0 = w })) x (omega arith) (degree-plain wide x))
+    (limited-number wide gonLimit (λ w. Gon (record { 0 = w })) x (omega arith) (gon-plain wide x))
+    (limited-number wide degreeLimit (λ w. Degree (record { 0 = w })) x (omega arith) (degree-plain wide x))
     (tenth-number wide x)
-    (limited-number wide 64000000 (λ w. Mil (record { 0 = w })) x (omega arith) (mil-plain wide x))
+    (limited-number wide milLimit (λ w. Mil (record { 0 = w })) x (omega arith) (mil-plain wide x))
 
 -- c's figures fit a word of that kind, its sign is one of that kind, and the two count c
 abbrev pub Counting : Bool → Kind → Word → Count → Type 0

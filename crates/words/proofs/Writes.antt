@@ -13,8 +13,8 @@ use Rattle.figures.specs.Decimal.{digitsOf}
 use Rattle.figures.specs.Bytes.{laid}
 use Rattle.figures.proofs.Bytes.{length-on, length-mid, laid-cut, fill-on, store-on}
 use Rattle.figures.proofs.Decimal.{digits-on, digits-length}
-use Rattle.figures.proofs.Tests.{by-test}
-use Rattle.units.specs.Counts.{whole, angleOf, lengthOf, constantOf, firstOf, secondOf, figuresOf}
+use Rattle.figures.proofs.Tests.{by-test, either}
+use Rattle.units.specs.Counts.{whole, angleOf, lengthOf, constantOf, firstOf, secondOf, figuresOf, gonLimit, degreeLimit, milLimit, tenthLimit}
 use Rattle.units.specs.Information.{infoRight, headOf, signByte}
 use Rattle.words.specs.Records.{width, kindIn, unitIn, countBy, countOf, tenTo, wholeRight, countRight, textRight, sameWhole, isRight}
 use Rattle.words.specs.Reading.{wordSize}
@@ -125,20 +125,19 @@ pub word-is : (f : Family) (wide : Bool) (w : Word) (sign n : ℕ) (head figures
 word-is f wide w sign n head figures eh es en ef = rw (ef, eh, es, en, rest-zero wide)
 
 -- the size of a count is a record's, where the count has one
-either : (b : Bool) (x : Whole) (c d : Count) → firstOf c ≡ x → firstOf d ≡ x → firstOf (cond b c d) ≡ x
-either true x c d p q = p
-either false x c d p q = q
+first-either : (b : Bool) (x : Whole) (c d : Count) → firstOf c ≡ x → firstOf d ≡ x → firstOf (cond b c d) ≡ x
+first-either b x c d p q = either (λ k. firstOf k ≡ x) b c d (λ _. p) q
 
 first-angle : (u : ℕ) (x : Whole) → firstOf (angleOf u x) ≡ x
-first-angle u x = either (eqb u 50) x _ _ refl (either (eqb u 51) x _ _ refl (either (eqb u 52) x _ _ refl refl))
+first-angle u x = first-either (eqb u 50) x _ _ refl (first-either (eqb u 51) x _ _ refl (first-either (eqb u 52) x _ _ refl refl))
 
 first-length : (u : ℕ) (x : Whole) → firstOf (lengthOf u x) ≡ x
 first-length u x =
-    either (eqb u 48) x _ _ refl
-    (either (eqb u 49) x _ _ refl (either (eqb u 54) x _ _ refl (either (eqb u 55) x _ _ refl (either (eqb u 57) x _ _ refl refl))))
+    first-either (eqb u 48) x _ _ refl
+    (first-either (eqb u 49) x _ _ refl (first-either (eqb u 54) x _ _ refl (first-either (eqb u 55) x _ _ refl (first-either (eqb u 57) x _ _ refl refl))))
 
 first-constant : (i : ℕ) (x : Whole) → firstOf (constantOf i x) ≡ x
-first-constant i x = either (eqb i 58) x _ _ refl refl
+first-constant i x = first-either (eqb i 58) x _ _ refl refl
 
 pub first-size : (k : Kind) (w : Word) → firstOf (countBy k w) .size ≤ w .size
 first-size kind.Missing w = omega arith
@@ -163,10 +162,10 @@ ten-below false false = omega arith
 count-below : (wide : Bool) (c : Count) → countRight wide c ≡ true → firstOf c .size < 10 ^ 16
 count-below wide count.Nothing e = omega arith
 count-below wide count.Text e = omega arith
-count-below wide (count.Gon c) e = whole-below (c .0) 40000000 (omega arith) e
-count-below wide (count.Degree c) e = whole-below (c .0) 36000000 (omega arith) e
-count-below wide (count.Tenth c) e = whole-below (c .0) 12960000 (omega arith) e
-count-below wide (count.Mil c) e = whole-below (c .0) 64000000 (omega arith) e
+count-below wide (count.Gon c) e = whole-below (c .0) gonLimit (omega arith) e
+count-below wide (count.Degree c) e = whole-below (c .0) degreeLimit (omega arith) e
+count-below wide (count.Tenth c) e = whole-below (c .0) tenthLimit (omega arith) e
+count-below wide (count.Mil c) e = whole-below (c .0) milLimit (omega arith) e
 count-below wide (count.Metre c) e = whole-below (c .0) (tenTo wide false) (ten-below wide false) e
 count-below wide (count.Feet c) e = whole-below (c .0) (tenTo wide false) (ten-below wide false) e
 count-below wide (count.Inch c) e = whole-below (c .0) (tenTo wide false) (ten-below wide false) e

@@ -2,6 +2,10 @@
 ghost use mathlib.Core.Path.{_≡_};
 ghost use Rattle.words.specs.Records.{blank, recordOf, countBy, countOf, tenTo, wholeRight, limitOf, countRight, textRight, sameWhole, isRight, typedOf};
 use units::counts::Count;
+use units::counts::DEGREE_LIMIT;
+use units::counts::GON_LIMIT;
+use units::counts::MIL_LIMIT;
+use units::counts::TENTH_LIMIT;
 use units::counts::Whole;
 use units::counts::angle_of;
 use units::counts::constant_of;
@@ -14,7 +18,8 @@ use units::kinds::Kind;
 use units::kinds::kind_of;
 use units::kinds::textual;
 
-// index, information (its first byte 0 where position 3 belongs to the index), the value's sign and size, mm's sign and size, text. A sign is 0 or 1; what a word doesn't use is 0.
+// A word's index, its information (whose first byte is 0 where position 3 belongs to the index), the sign and size of its value and of a pair's mm, and its
+// text. A sign is 0 or 1; what a word doesn't use is 0.
 #[repr(C)]
 pub struct Word {
     pub index: u16,
@@ -125,10 +130,10 @@ fn limit_of(count: Count, wide: bool) -> u64
     ensures { λ r. ⌜ r ≡ limitOf wide count ⌝ }
 {
     match count {
-        Count::Gon(_) => 40_000_000,
-        Count::Degree(_) => 36_000_000,
-        Count::Tenth(_) => 12_960_000,
-        Count::Mil(_) => 64_000_000,
+        Count::Gon(_) => GON_LIMIT,
+        Count::Degree(_) => DEGREE_LIMIT,
+        Count::Tenth(_) => TENTH_LIMIT,
+        Count::Mil(_) => MIL_LIMIT,
         _ => ten_to(wide, false),
     }
 }

@@ -4,7 +4,8 @@ use borrow.Author.Needs.{needs}
 use lib.ListN.{replicate}
 use lib.Seq.{length-take-le}
 use Rattle.figures.proofs.Putting.{puts-within}
-use Rattle.port.specs.Why.{whyOf, keptIn}
+use Rattle.port.specs.Port.{lineKept}
+use Rattle.port.specs.Why.{whyOf}
 use Rattle.standin.proofs.say_why.Statement.{statement}
 use Rattle.standin.proofs.say_why.Tie as tie
 
@@ -12,7 +13,7 @@ slice-aggregate-put : tie.Need-slice-aggregate-put
 slice-aggregate-put c =
     let at = c .before .before in
     let a = at .before .before .args in
-    let within = puts-within (replicate 231 0) 0 (whyOf (a .number) (a .verdict) (keptIn (a .port))) (at .put-why .ensures) in
+    let within = puts-within (replicate 231 0) 0 (whyOf (a .number) (a .verdict) (lineKept (a .port))) (at .put-why .ensures) in
     sym (length-take-le (at .put-why .result) (at .put-why .last .0) within)
 
 pub say-why-spec : {M : Type 1} → statement M

@@ -1,6 +1,6 @@
 -- `rooms::digits_in` meets its contract. The loop's invariant: k digits are off, and the others are those of what is left.
 use native.Mathlib.Omega.{arith}
-use Rattle.figures.proofs.Places.{Off, places-most, off-one, off-more, off-all}
+use Rattle.figures.proofs.Places.{Off, digits-most, off-one, off-more, off-all}
 use Rattle.figures.proofs.rooms.digits_in.Statement.{statement}
 use Rattle.figures.proofs.rooms.digits_in.Tie as tie
 
@@ -29,7 +29,7 @@ returns c =
     let at = c .before .loop in
     let n = c .before .before .args .n in
     let all = off-all n (at .left) (at .k) (omega arith) (at .inv) in
-    (all, omega (arith, places-most n))
+    (all, omega (arith, digits-most n))
 
 pub digits-in-spec : {M : Type 1} → statement M
 digits-in-spec = tie.close (tie.spec Inv-loop μ-loop loop-holds add-k loop-less loop-again returns)

@@ -1,13 +1,13 @@
 -- `key_100` meets its contract: each arm has the key of the table's row at its place.
 use mathlib.Core.Path.{refl}
-use Rattle.figures.specs.Decimal.{placesBy, digitsOf}
+use Rattle.figures.specs.Decimal.{digitsNBy, digitsOf}
 use Rattle.instrument.specs.Settings.{rows100}
 use Rattle.instrument.proofs.Ranges.{key-place, key-past}
 use Rattle.instrument.proofs.keys.key_100.Statement.{statement}
 use Rattle.instrument.proofs.keys.key_100.Tie as tie
 
 pub key-100-spec : {M : Type 1} → statement M
-unfolding rows100 placesBy digitsOf
+unfolding rows100 digitsNBy digitsOf
 key-100-spec =
     tie.close
     (tie.spec

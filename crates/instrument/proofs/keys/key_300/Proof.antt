@@ -1,13 +1,13 @@
 -- `key_300` meets its contract: each arm has the key of the table's row at its place.
 use mathlib.Core.Path.{refl}
-use Rattle.figures.specs.Decimal.{placesBy, digitsOf}
+use Rattle.figures.specs.Decimal.{digitsNBy, digitsOf}
 use Rattle.instrument.specs.Settings.{rows300}
 use Rattle.instrument.proofs.Ranges.{key-place, key-past}
 use Rattle.instrument.proofs.keys.key_300.Statement.{statement}
 use Rattle.instrument.proofs.keys.key_300.Tie as tie
 
 pub key-300-spec : {M : Type 1} → statement M
-unfolding rows300 placesBy digitsOf
+unfolding rows300 digitsNBy digitsOf
 key-300-spec =
     tie.close
     (tie.spec

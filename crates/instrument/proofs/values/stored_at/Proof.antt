@@ -1,13 +1,13 @@
 -- `stored_at` meets its contract: each arm has the table's row at its place, and past the last stands one of noughts.
 use mathlib.Core.Path.{refl}
-use Rattle.figures.specs.Decimal.{placesBy, digitsOf}
+use Rattle.figures.specs.Decimal.{digitsNBy, digitsOf}
 use Rattle.instrument.specs.Values.{stored, noStored}
 use Rattle.instrument.proofs.Seek.{at-place, past-place}
 use Rattle.instrument.proofs.values.stored_at.Statement.{statement}
 use Rattle.instrument.proofs.values.stored_at.Tie as tie
 
 pub stored-at-spec : {M : Type 1} → statement M
-unfolding stored placesBy digitsOf
+unfolding stored digitsNBy digitsOf
 stored-at-spec =
     tie.close
     (tie.spec

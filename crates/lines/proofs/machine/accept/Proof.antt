@@ -5,10 +5,11 @@ use mathlib.Core.List.{_++_}
 use native.Mathlib.Omega.{arith}
 use borrow.Author.Needs.{needs}
 use lib.ListN.{length, length-append}
+use Rattle.figures.proofs.Bytes.{end-long}
 use Rattle.lines.specs.Orders.{deedOf, doneOf}
 use Rattle.lines.specs.Replies.{endsLf, answersWide, replyEnd, bodyOf}
 use Rattle.lines.specs.declared.verdicts.Verdict.the-variants.{Accepted}
-use Rattle.lines.proofs.Replying.{end-long, body-most, body-short}
+use Rattle.lines.proofs.Replying.{body-most, body-short}
 use Rattle.lines.proofs.Calling.{ends-short, ends-fits}
 use Rattle.lines.proofs.machine.accept.Statement.{statement}
 use Rattle.lines.proofs.machine.accept.Tie as tie

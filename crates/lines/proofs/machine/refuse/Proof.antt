@@ -4,8 +4,8 @@ use mathlib.Core.Path.{refl}
 use mathlib.Core.List.{_++_}
 use native.Mathlib.Omega.{arith}
 use borrow.Author.Needs.{needs}
-use Rattle.lines.specs.Replies.{endsLf, replyEnd, wrong}
-use Rattle.lines.proofs.Replying.{end-long}
+use Rattle.figures.proofs.Bytes.{end-long}
+use Rattle.lines.specs.Replies.{endsLf, replyEnd, warning}
 use Rattle.lines.proofs.Calling.{ends-short, ends-fits}
 use Rattle.lines.proofs.machine.refuse.Statement.{statement}
 use Rattle.lines.proofs.machine.refuse.Tie as tie
@@ -17,7 +17,7 @@ returns : tie.Need-returns
 returns c =
     let n = c .before .before in
     let a = n .before .before .args in
-    ends-short (a .s) (a .verdict) (wrong ++ replyEnd (a .s)) (a .s) (a .room .now) (c .with-state .result)
+    ends-short (a .s) (a .verdict) (warning ++ replyEnd (a .s)) (a .s) (a .room .now) (c .with-state .result)
     (omega (arith, c .before .if1 .taken, n .end-length .ensures))
     (c .with-state .ensures)
 
@@ -27,7 +27,7 @@ returns-2 c =
     let n = else1 .before .end-length in
     let a = else1 .before .before .before .args in
     let p = c .before .before .before .put-wrong in
-    ends-fits (a .s) (a .verdict) (wrong ++ replyEnd (a .s)) (a .s) (a .room .now) (c .with-state2 .result)
+    ends-fits (a .s) (a .verdict) (warning ++ replyEnd (a .s)) (a .s) (a .room .now) (c .with-state2 .result)
     (p .last .1 .0) (5 + n .result) (a .s)
     (omega (arith, n .ensures)) refl (else1 .if1 .left) (c .with-state2 .ensures) (p .ensures)
 

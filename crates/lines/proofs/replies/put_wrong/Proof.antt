@@ -4,7 +4,7 @@ use mathlib.Core.Bool.{Bool}
 use mathlib.Core.List.{_++_}
 use borrow.Author.Needs.{needs}
 use Rattle.figures.specs.Bytes.{laid}
-use Rattle.lines.specs.Replies.{wrong}
+use Rattle.lines.specs.Replies.{warning}
 use Rattle.figures.specs.Text.{endBytes}
 use Rattle.lines.proofs.replies.put_wrong.Statement.{statement}
 use Rattle.lines.proofs.replies.put_wrong.Tie as tie
@@ -16,7 +16,7 @@ returns : tie.Need-returns
 returns c =
     let lf = c .before .before .before .before in
     let room = lf .before .before .before .args .room .now in
-    c .before .before .put-text .ensures ∙ ap (λ (lf : Bool). laid (wrong ++ endBytes lf) room) (lf .ends-lf .ensures)
+    c .before .before .put-text .ensures ∙ ap (λ (lf : Bool). laid (warning ++ endBytes lf) room) (lf .ends-lf .ensures)
 
 pub put-wrong-spec : {M : Type 1} → statement M
 put-wrong-spec = tie.close (tie.spec (λ c. search needs) (λ c κs. search needs) put-text-requires (λ c. search needs) returns)
