@@ -39,8 +39,8 @@ in-ranges-determined = by-equation (Series × List ℕ) Bool (λ i. inRanges (he
 pub stored-at-determined : Determined ℕ Stored (λ i r. r ≡ storedAt i)
 stored-at-determined = by-equation ℕ Stored storedAt
 
-pub value-at-determined : Determined ℕ Found (λ i r. r ≡ valuePlace i)
-value-at-determined = by-equation ℕ Found valuePlace
+pub value-place-determined : Determined ℕ Found (λ i r. r ≡ valuePlace i)
+value-place-determined = by-equation ℕ Found valuePlace
 
 pub is-put-determined : Determined Kept Bool (λ i r. r ≡ isPut i)
 is-put-determined = by-equation Kept Bool isPut

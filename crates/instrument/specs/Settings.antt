@@ -127,8 +127,8 @@ rows300 =
     ∷ low 171 0 1
     ∷ []
 
--- A third series takes its case of `Series`; its table, here and in src/settings.rt, with `settingsMost` if it has more than any; its keys in src/keys.rt; its byte
--- in an image (`formOf`, `seriesIn`); its line on a sheet (`seriesLine`); and an arm wherever the code names the series. Lookup, range, key and factory go by
+-- A third series takes its case of `Series`; its table, here and in a file of src/, with `settingsMost` if it has more than any; its keys in src/keys.rt; its
+-- byte in an image (`formOf`, `seriesIn`); its line on a sheet (`seriesLine`); and an arm wherever the code names the series. Lookup, range, key and factory go by
 -- the rows, whichever series they are of.
 abbrev pub rowsOf : Series → List Row
 rowsOf Tps100 = rows100

@@ -155,7 +155,7 @@ pub fn stored_at(place: usize) -> Stored
 }
 
 // Finds the place of the stored value of that index.
-pub fn value_at(index: u16) -> Found
+pub fn value_place(index: u16) -> Found
     ensures { λ r. ⌜ r ≡ valuePlace index ⌝ }
 {
     let mut i = 0;

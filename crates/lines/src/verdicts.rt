@@ -18,7 +18,7 @@ use instrument::values::VALUES;
 use instrument::values::Value;
 use instrument::values::is_put;
 use instrument::values::put_judged;
-use instrument::values::value_at;
+use instrument::values::value_place;
 use state::entries::ENTRIES;
 use state::entries::State;
 use units::kinds::Named;
@@ -157,7 +157,7 @@ pub(crate) fn place_named(tens: u8, ones: u8) -> Found
     let Named::Index(index) = named_by(tens, ones) else {
         return Found::Nothing;
     };
-    value_at(index)
+    value_place(index)
 }
 
 // Takes the 16 bytes of PUT's word.

@@ -15,4 +15,5 @@ pub mod Played
 pub mod Writes
 pub mod Loads
 pub mod FirstWrong
+pub mod OnePlace
 pub mod Told

@@ -13,7 +13,7 @@ returns-2 : tie.Need-returns-2
 returns-2 c =
     let a = c .before .before .before .before .before .args in
     let told = named-is (a .tens) (a .ones) (c .before .before .before .before .named-by .ensures) (c .before .before .index .given .1) in
-    rw (told .0, told .1, ← told .2) (c .value-at .ensures)
+    rw (told .0, told .1, ← told .2) (c .value-place .ensures)
 
 pub place-named-spec : {M : Type 1} → statement M
 place-named-spec =

@@ -2,8 +2,8 @@
 use mathlib.Core.Path.{refl}
 use Rattle.instrument.specs.Settings.{rows300, noRow}
 use Rattle.instrument.proofs.Seek.{at-place, past-place}
-use Rattle.instrument.proofs.settings.row_300.Statement.{statement}
-use Rattle.instrument.proofs.settings.row_300.Tie as tie
+use Rattle.instrument.proofs.tps300.row_300.Statement.{statement}
+use Rattle.instrument.proofs.tps300.row_300.Tie as tie
 
 pub row-300-spec : {M : Type 1} → statement M
 unfolding rows300

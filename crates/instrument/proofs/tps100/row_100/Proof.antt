@@ -2,8 +2,8 @@
 use mathlib.Core.Path.{refl}
 use Rattle.instrument.specs.Settings.{rows100, noRow}
 use Rattle.instrument.proofs.Seek.{at-place, past-place}
-use Rattle.instrument.proofs.settings.row_100.Statement.{statement}
-use Rattle.instrument.proofs.settings.row_100.Tie as tie
+use Rattle.instrument.proofs.tps100.row_100.Statement.{statement}
+use Rattle.instrument.proofs.tps100.row_100.Tie as tie
 
 pub row-100-spec : {M : Type 1} → statement M
 unfolding rows100

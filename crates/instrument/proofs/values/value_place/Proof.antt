@@ -1,4 +1,4 @@
--- `value_at` meets its contract. The loop's invariant: the place is that among the rows that are left.
+-- `value_place` meets its contract. The loop's invariant: the place is that among the rows that are left.
 use Prim.Native.Nat.{_≤_, _-_}
 use mathlib.Core.Path.{_≡_, refl, sym, _∙_}
 use native.Mathlib.Omega.{arith}
@@ -7,8 +7,8 @@ use lib.ListN.{drop, length}
 use Rattle.instrument.specs.Rows.{seek}
 use Rattle.instrument.specs.Values.{stored, noStored, indexNumber, valuePlace, valuesN}
 use Rattle.instrument.proofs.Seek.{turn-at, turn-on, seek-past}
-use Rattle.instrument.proofs.values.value_at.Statement.{statement}
-use Rattle.instrument.proofs.values.value_at.Tie as tie
+use Rattle.instrument.proofs.values.value_place.Statement.{statement}
+use Rattle.instrument.proofs.values.value_place.Tie as tie
 
 abbrev Inv-loop : tie.InvT-loop
 Inv-loop index i₀ i = (i ≤ length stored) × (valuePlace index ≡ seek indexNumber (drop i stored) i index)
@@ -38,8 +38,8 @@ returns-2 c =
     let at = c .before .loop in
     sym (at .inv .1 ∙ seek-past indexNumber stored (at .i) (c .before .before .args .index) (c .loop-test .left))
 
-pub value-at-spec : {M : Type 1} → statement M
-value-at-spec =
+pub value-place-spec : {M : Type 1} → statement M
+value-place-spec =
     tie.close
     (tie.spec
     Inv-loop
