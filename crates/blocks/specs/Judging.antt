@@ -4,6 +4,7 @@ use mathlib.Core.Bool.{Bool, true, false, cond}
 use mathlib.Core.List.{List, [], _∷_, _++_}
 use lib.Dec.{eqb, leb, ltb}
 use lib.ListN.{length, getD, drop}
+use Rattle.figures.specs.Text.{byte, cr, lf}
 use Rattle.words.specs.Reading.{wordSize, wordOf}
 use Rattle.units.specs.declared.kinds.Family.{Family}
 use Rattle.words.specs.declared.records.Word.{Word}
@@ -26,7 +27,7 @@ isAt b rest = cond (ltb 0 (length rest)) (eqb (getD rest 0 0) b) false
 
 -- "With `*` the words are 16 wide, otherwise 8 wide."
 abbrev pub isWide : List ℕ → Bool
-isWide s = eqb (getD s 0 0) 42
+isWide s = eqb (getD s 0 0) (byte "*")
 
 abbrev pub firstAt : Bool → ℕ
 firstAt wide = cond wide 1 0
@@ -37,7 +38,7 @@ refusedBy r = record { answer = Refused r; words = [] }
 -- "If LF follows CR it belongs to the terminator."
 abbrev pub endedAt : Bool → ℕ → List ℕ → ℕ → Answer
 endedAt wide at rest n =
-    Read (record { wide = wide; crlf = isAt 10 (drop 1 rest); words = n; used = cond (isAt 10 (drop 1 rest)) (at + 2) (at + 1) })
+    Read (record { wide = wide; crlf = isAt lf (drop 1 rest); words = n; used = cond (isAt lf (drop 1 rest)) (at + 2) (at + 1) })
 
 abbrev pub endedBy : Bool → ℕ → List ℕ → List Word → Judgement
 endedBy wide at rest ws = record { answer = endedAt wide at rest (length ws); words = ws }
@@ -51,7 +52,7 @@ afterWord at (one.Judged.Wrong fault byte) next = refusedBy (Wrong fault (at + b
 -- stand before this place, `full` says that they are as many as a block may have, and `word` is what comes of a word of this size
 abbrev pub atStart : {A : Type 0} → (full : Bool) (size places n at : ℕ) (rest : List ℕ) (ended : A) (refuse : Refusal → A) (word : A) → A
 atStart full size places n at rest ended refuse word =
-    cond (isAt 13 rest) ended
+    cond (isAt cr rest) ended
     (cond full (refuse (NoEnd at))
     (cond (ltb (length rest) size) (refuse (Wrong Short at))
     (cond (leb places n) (refuse (NoPlace at))
@@ -69,7 +70,7 @@ blockFrom f (suc more) wide places at rest ws =
 abbrev pub judged : Family → List ℕ → ℕ → Judgement
 judged f s places =
     cond (eqb (length s) 0) (refusedBy Empty)
-    (cond (isAt 13 (drop (firstAt (isWide s)) s)) (refusedBy NoWord)
+    (cond (isAt cr (drop (firstAt (isWide s)) s)) (refusedBy NoWord)
     (blockFrom f 32 (isWide s) places (firstAt (isWide s)) (drop (firstAt (isWide s)) s) []))
 
 -- "The records go into a list of word records that the caller lends; records beyond the count are as before."

@@ -4,6 +4,7 @@ use mathlib.Core.Path.{_≡_}
 use mathlib.Core.Bool.{Bool, true, false, _&&_}
 use mathlib.Core.List.{List, [], _∷_, _++_}
 use lib.ListN.{length, drop}
+use Rattle.figures.specs.Text.{cr, lf}
 use Rattle.words.specs.Records.{isRight}
 use Rattle.words.specs.Reading.{wordSize, wordOf}
 use Rattle.units.specs.declared.kinds.Family.{Family}
@@ -31,7 +32,7 @@ pub record Lawful (f : Family) (wide : Bool) (ws : List Word) : Type 0 where
 pub record Ruled (f : Family) (s : List ℕ) (wide crlf : Bool) (ws : List Word) (rest : List ℕ) : Type 0 where
   pub lawful : Lawful f wide ws
   pub bytes : s ≡ blockBytes f wide crlf ws ++ rest
-  pub apart : crlf ≡ false → isAt 10 rest ≡ false
+  pub apart : crlf ≡ false → isAt lf rest ≡ false
 
 -- the judgement that accepts a block
 abbrev pub readAs : Reading → List Word → Judgement
@@ -57,4 +58,4 @@ pub record FirstFault (f : Family) (s : List ℕ) (x : Fault) (at : ℕ) : Type 
   pub told : at ≡ wordStart (isWide s) number + byte
   pub fault : judgedWord f s number .answer ≡ Wrong x byte
   pub before : (j : ℕ) → j < number → judgedWord f s j .answer ≡ Right
-  pub unended : (j : ℕ) → j ≤ number → isAt 13 (drop (wordStart (isWide s) j) s) ≡ false
+  pub unended : (j : ℕ) → j ≤ number → isAt cr (drop (wordStart (isWide s) j) s) ≡ false

@@ -4,7 +4,7 @@ use mathlib.Core.Bool.{Bool, cond, not, _&&_, _||_}
 use mathlib.Core.List.{List, [], _∷_}
 use lib.Dec.{eqb, leb, ltb}
 use lib.ListN.{length, getD, take, drop}
-use Rattle.figures.specs.Text.{codes}
+use Rattle.figures.specs.Text.{codes, byte, cr, lf}
 use Rattle.figures.specs.Bytes.{within, every, runOf, isOther, startsWith, sameBytes}
 use Rattle.figures.specs.Decimal.{isDigit, numberOf}
 use Rattle.figures.specs.declared.Said.{Said}
@@ -18,14 +18,14 @@ fromEnd k l = cond (leb k (length l)) (getD l (length l - k) 0) 0
 
 -- the length of a line's end: CR, CR LF, or none
 abbrev pub endOf : List ℕ → ℕ
-endOf l = cond (eqb (fromEnd 1 l) 13) 1 (cond (eqb (fromEnd 1 l) 10 && eqb (fromEnd 2 l) 13) 2 0)
+endOf l = cond (eqb (fromEnd 1 l) cr) 1 (cond (eqb (fromEnd 1 l) lf && eqb (fromEnd 2 l) cr) 2 0)
 
 -- the line without its end
 abbrev pub textOf : List ℕ → List ℕ
 textOf l = take (length l - endOf l) l
 
 abbrev pub isPlain : List ℕ → Bool
-isPlain = every (λ b. not (eqb b 13) && not (eqb b 10))
+isPlain = every (λ b. not (eqb b cr) && not (eqb b lf))
 
 -- 20: "no CR or CR LF at the end, or a CR or LF earlier"
 abbrev pub isEnded : List ℕ → Bool
@@ -33,14 +33,14 @@ isEnded l = ltb 0 (endOf l) && isPlain (textOf l)
 
 -- "Numbers have 1 to 4 digits and no leading zero, save `0` itself."
 abbrev pub numberRight : List ℕ → Bool
-numberRight s = within 1 4 (length s) && ((eqb (length s) 1 || not (eqb (getD s 0 0) 48)) && every isDigit s)
+numberRight s = within 1 4 (length s) && ((eqb (length s) 1 || not (eqb (getD s 0 0) (byte "0"))) && every isDigit s)
 
 abbrev pub numberShape : List ℕ → Said
 numberShape s = cond (numberRight s) (said.Number (numberOf s)) said.Not
 
 -- the place of the first slash, or the length where there is none
 abbrev pub slashAt : List ℕ → ℕ
-slashAt s = runOf (isOther 47) s
+slashAt s = runOf (isOther (byte "/")) s
 
 -- `number/parameter`
 abbrev pub setOrder : List ℕ → Order

@@ -15,6 +15,12 @@ codes (text._∷_ c s) = code c ∷ codes s
 abbrev pub byte : String → ℕ
 byte s = getD (codes s) 0 0
 
+abbrev pub cr : ℕ
+cr = byte "\r"
+
+abbrev pub lf : ℕ
+lf = byte "\n"
+
 -- CR LF or CR
 abbrev pub endBytes : Bool → List ℕ
 endBytes crlf = cond crlf (codes "\r\n") (codes "\r")

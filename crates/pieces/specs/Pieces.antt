@@ -4,7 +4,7 @@ use mathlib.Core.Bool.{Bool, true, false, cond}
 use mathlib.Core.List.{List, [], _∷_, _++_}
 use lib.Dec.{eqb}
 use lib.ListN.{length, take, drop}
-use Rattle.figures.specs.Text.{codes}
+use Rattle.figures.specs.Text.{codes, cr, lf}
 use Rattle.figures.specs.Bytes.{startsWith}
 use Rattle.pieces.specs.declared.Mark.{Mark}
 use Rattle.pieces.specs.declared.Mark.the-variants.{Open, Cr, Whole}
@@ -12,7 +12,7 @@ use Rattle.pieces.specs.declared.Mark.the-variants.{Open, Cr, Whole}
 -- the length of the first piece
 unfoldable pub cutOf : List ℕ → ℕ
 cutOf [] = 0
-cutOf (b ∷ l) = cond (eqb b 13) (cond (startsWith (codes "\n") l) 2 1) (cutOf l + 1)
+cutOf (b ∷ l) = cond (eqb b cr) (cond (startsWith (codes "\n") l) 2 1) (cutOf l + 1)
 
 -- the pieces, at most n of them: an input has no more pieces than bytes
 unfoldable pub piecesBy : ℕ → List ℕ → List (List ℕ)
@@ -25,11 +25,11 @@ pieces l = piecesBy (length l) l
 -- the same byte by byte: whether the next byte belongs to the piece that comes in, and how far the piece has got with it
 abbrev pub isJoined : Mark → ℕ → Bool
 isJoined Open b = true
-isJoined Cr b = eqb b 10
+isJoined Cr b = eqb b lf
 isJoined Whole b = false
 
 abbrev pub markAfter : Mark → ℕ → Mark
-markAfter Open b = cond (eqb b 13) Cr Open
+markAfter Open b = cond (eqb b cr) Cr Open
 markAfter Cr b = Whole
 markAfter Whole b = Whole
 

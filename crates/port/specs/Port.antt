@@ -5,7 +5,7 @@ use mathlib.Core.Bool.{Bool, true, false, cond, _&&_, _||_}
 use mathlib.Core.List.{List, [], _∷_, _++_, map, flatten}
 use lib.Dec.{eqb, ltb}
 use lib.ListN.{take, set, replicate}
-use Rattle.figures.specs.Text.{codes}
+use Rattle.figures.specs.Text.{codes, cr, lf}
 use Rattle.lines.specs.Machine.{told, Called, call, Calls}
 use Rattle.lines.specs.Sessions.{Exchange, session, called}
 use Rattle.lines.specs.declared.machine.Told.{Told}
@@ -18,7 +18,7 @@ abbrev pub keptMost : ℕ
 keptMost = 101
 
 abbrev pub isEnd : ℕ → Bool
-isEnd b = eqb b 13 || eqb b 10
+isEnd b = eqb b cr || eqb b lf
 
 abbrev pub quietPort : Bool → Port
 quietPort after = record { bytes = replicate keptMost 0; n = 0; after = after }
@@ -53,8 +53,8 @@ runs c = record { turn = record { port = quietPort true; told = c .answer }; ima
 
 abbrev pub heard : List ℕ → Port → ℕ → List ℕ → Heard
 heard image p b room =
-    cond (eqb b 13) (runs (call image (lineOf p) room))
-    (cond (eqb b 10 && p .after) (waits (record { bytes = p .bytes; n = p .n; after = false }) image room)
+    cond (eqb b cr) (runs (call image (lineOf p) room))
+    (cond (eqb b lf && p .after) (waits (record { bytes = p .bytes; n = p .n; after = false }) image room)
     (waits (keptBy p b) image room))
 
 abbrev pub Turns : List ℕ → Port → ℕ → List ℕ → Turn → List ℕ → List ℕ → Type 0
@@ -65,8 +65,8 @@ Turns image p b room r image′ room′ =
 unfoldable pub linesFrom : List ℕ → Bool → List ℕ → List (List ℕ)
 linesFrom line after [] = []
 linesFrom line after (b ∷ s) =
-    cond (eqb b 13) ((line ++ codes "\r") ∷ linesFrom [] true s)
-    (cond (eqb b 10 && after) (linesFrom line false s)
+    cond (eqb b cr) ((line ++ codes "\r") ∷ linesFrom [] true s)
+    (cond (eqb b lf && after) (linesFrom line false s)
     (linesFrom (line ++ (b ∷ [])) false s))
 
 abbrev pub linesOf : List ℕ → List (List ℕ)

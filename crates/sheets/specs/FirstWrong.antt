@@ -5,6 +5,7 @@ use mathlib.Core.Bool.{Bool, true, false}
 use mathlib.Core.List.{List, [], _∷_}
 use lib.Dec.{eqb}
 use lib.ListN.{length, take, drop}
+use Rattle.figures.specs.Text.{lf}
 use Rattle.figures.specs.Bytes.{every, runOf, isOther, startsWith}
 use Rattle.instrument.specs.declared.settings.Series.{Series}
 use Rattle.state.specs.Entries.{isState}
@@ -14,15 +15,15 @@ use Rattle.sheets.specs.Sheet.{sheetOf}
 -- whole lines: there is no byte, or the last is LF
 unfoldable pub areLines : List ℕ → Bool
 areLines [] = true
-areLines (b ∷ []) = eqb b 10
+areLines (b ∷ []) = eqb b lf
 areLines (b ∷ c ∷ l) = areLines (c ∷ l)
 
 abbrev pub hasNoLf : List ℕ → Bool
-hasNoLf = every (isOther 10)
+hasNoLf = every (isOther lf)
 
 -- how many bytes there are up to and including the first LF
 abbrev pub lineN : List ℕ → ℕ
-lineN l = suc (runOf (isOther 10) l)
+lineN l = suc (runOf (isOther lf) l)
 
 -- a sheet of the series that begins with the bytes
 pub record Begun (k : Series) (bytes : List ℕ) : Type 0 where

@@ -4,6 +4,7 @@ use mathlib.Core.Bool.{Bool, cond, _&&_}
 use mathlib.Core.List.{List, [], _∷_, _++_}
 use lib.Dec.{eqb, leb}
 use lib.ListN.{length, getD, replicate}
+use Rattle.figures.specs.Text.{byte}
 use Rattle.figures.specs.Bytes.{every}
 use Rattle.figures.specs.Decimal.{isDigit, numberOf}
 use Rattle.units.specs.Information.{infoMarks, allRight, firstWrong, leadOf, signOf, signRight}
@@ -44,14 +45,14 @@ spelledAt kind.Constant d = digitsAt d
 spelledAt kind.Pair d = pairAt d
 
 abbrev pub partedAt : ℕ → Parted
-partedAt b = cond (eqb b 32) parted.Blank parted.Not
+partedAt b = cond (eqb b (byte " ")) parted.Blank parted.Not
 
 -- what is left of `wordOf` where positions 1-7 are right, by what they say: index, kind, information, unit, sign; then data and separator
 abbrev pub dataWord : ℕ → Kind → List ℕ → ℕ → ℕ → List ℕ → ℕ → OneWord
 dataWord i k info u m d b =
     let value = valueAt k i u m (figuresIn k d) in
     unless (dataRight k d) Characters (7 + dataAt k d)
-    (unless (eqb b 32) Separator (7 + length d)
+    (unless (eqb b (byte " ")) Separator (7 + length d)
     (unless (isCounted value) Value 7
     (rightWord (recordOf i info (countOr value) (textField k d)))))
 

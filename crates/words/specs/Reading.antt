@@ -5,6 +5,7 @@ use mathlib.Core.Bool.{Bool, true, false, cond}
 use mathlib.Core.List.{List, [], _∷_, _++_}
 use lib.Dec.{eqb, leb}
 use lib.ListN.{length, getD, take, drop, replicate}
+use Rattle.figures.specs.Text.{byte}
 use Rattle.figures.specs.Bytes.{laid}
 use Rattle.figures.specs.Decimal.{isDigit, numberOf}
 use Rattle.units.specs.Kinds.{kindOf, indexBy, areDigits, firstOther, listedBy, isTextual}
@@ -147,6 +148,6 @@ wordOf f wide s =
     (unless (allRight (marksIn f s)) Information (2 + firstWrong (marksIn f s))
     (unless (signRight (kindAt f s) (pos 7 s)) Sign 6
     (unless (dataRight (kindAt f s) (dataIn wide s)) Characters (7 + dataAt (kindAt f s) (dataIn wide s))
-    (unless (eqb (getD s (7 + width wide) 0) 32) Separator (7 + width wide)
+    (unless (eqb (getD s (7 + width wide) 0) (byte " ")) Separator (7 + width wide)
     (unless (isCounted (valueIn f wide s)) Value 7
     (rightWord (recordIn f wide s)))))))))

@@ -1,8 +1,9 @@
 -- The bytes of a record: the same positions, the other way.
 use Prim.Native.Nat.{ℕ, _-_}
 use mathlib.Core.Bool.{Bool}
-use mathlib.Core.List.{List, [], _∷_, _++_}
+use mathlib.Core.List.{List, _∷_, _++_}
 use lib.ListN.{take}
+use Rattle.figures.specs.Text.{codes}
 use Rattle.figures.specs.Decimal.{digitsOf}
 use Rattle.units.specs.Information.{headOf, signByte}
 use Rattle.units.specs.Counts.{figuresOf}
@@ -21,4 +22,4 @@ dataOf k (Pair p s q) t = digitsOf (k - 4) p ++ (signByte s ∷ digitsOf 3 q)
 -- the word's bytes, its blank included
 abbrev pub bytesOf : Family → Bool → Word → List ℕ
 bytesOf f wide w =
-    headOf (w .index) (w .info) ++ (signByte (w .minus) ∷ (dataOf (width wide) (figuresOf (countOf f w)) (w .text) ++ (32 ∷ [])))
+    headOf (w .index) (w .info) ++ (signByte (w .minus) ∷ (dataOf (width wide) (figuresOf (countOf f w)) (w .text) ++ codes " "))
