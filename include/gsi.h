@@ -3,7 +3,8 @@
    Each function, except the two that tell an image's length, answers number * 2^32 + told: GSI_NUMBER and GSI_TOLD take the two apart. The number is 0
    where the call was accepted; otherwise it is a refusal's, and docs/REFUSALS.md has all of them in one table. What would be told above 2^32 - 1 is told
    as 2^32 - 1. A buffer is a pointer and a length; a length of 0 lends nothing. Buffers that are lent to one call must not overlap, and a list of records
-   must be aligned as its type asks. Nothing is kept between calls. */
+   must be aligned as its type asks. Nothing is kept between calls. The library needs memcpy and memset
+   from the C library, and nothing else. */
 #ifndef GSI_H
 #define GSI_H
 
@@ -85,8 +86,8 @@ enum { GSI_BLOCK_MOST = 771, GSI_REPLY_MOST = 459, GSI_SHEET_MOST = 441 };
       6  the information is wrong, the unit included; 7 the sign; 8 the data; 9 the blank after the word; each tells the first byte that breaks the rule
      10  an angle is out of its range; tells its first data byte
 
-   They are judged in this order: 1 and 3 once, the others from left to right wherever a word would start. Where the input simply ends, 2 and 4 tell n
-   itself: there is no such byte. */
+   They are judged in this order: 1 and 3 once, the others from left to right wherever a word would start. Where no byte is left at such a place, 2 and
+   4 tell n itself, which is no byte of the input. */
 uint64_t gsi_read(const uint8_t *block, size_t n, gsi_word *list, size_t places);
 
 /* Writes the list's records, `words` of them, as one block of a total station into the room; wide and crlf: 0 is no, any other number is yes.
@@ -108,8 +109,8 @@ uint64_t gsi_write_level(const gsi_word *list, size_t words, uint64_t wide, uint
 uint64_t gsi_image_size(void);
 uint64_t gsi_image_size_300(void);
 
-/* Lay the series' factory state down in exactly its image's length, whatever the bytes were; tells 0. Another length: 31, which tells 0, and nothing is
-   touched. */
+/* Lay the series' factory state down in exactly its image's length, whatever the bytes were, and tell 0. With another length they are refused by 31, tell 0
+   and touch nothing. */
 uint64_t gsi_factory(uint8_t *image, size_t n);
 uint64_t gsi_factory_300(uint8_t *image, size_t n);
 

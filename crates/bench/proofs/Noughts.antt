@@ -16,7 +16,7 @@ use Rattle.sheets.specs.Sheet.{saidBy, sheetOf}
 use Rattle.sheets.specs.Lines.{linesBy, partBy}
 use Rattle.units.specs.declared.kinds.Family.the-variants.{Station, Level}
 use Rattle.bench.specs.Readings.{All}
-use Rattle.bench.specs.Noughts.{stationNoughts, levelNoughts, beside, Stored}
+use Rattle.bench.specs.Noughts.{stationNoughts, levelNoughts, beside, StoredNoughts}
 
 pub station-noughts : (wide : Bool) → All Station (stationNoughts wide)
 unfolding among every numberFrom digitsOf blockFrom unlessWrong wordsBytes
@@ -42,6 +42,6 @@ pub beside-noughts : All Station beside
 unfolding among every numberFrom digitsOf blockFrom unlessWrong wordsBytes
 beside-noughts = ((refl, refl, refl), ((refl, refl), ((refl, refl), ((refl, refl), tt))))
 
-pub stored-noughts : Stored
+pub stored-noughts : StoredNoughts
 unfolding among every startsWith numberFrom digitsOf digitsNBy seek rows100 stored runOf groupsRight indexesIn flatMap session sheetOf linesBy partBy saidBy
 stored-noughts = record { done = refl; got = refl; undone = refl; undone-first = refl; held = refl; loads = refl }

@@ -6,7 +6,7 @@ use mathlib.Core.Path.{_≡_}
 use mathlib.Core.Bool.{Bool, false}
 use mathlib.Core.List.{List, [], _∷_, _++_, map}
 use lib.ListN.{replicate}
-use Rattle.figures.specs.Text.{codes}
+use Rattle.figures.specs.Text.{codes, starBytes}
 use Rattle.units.specs.Counts.{whole, metres, feet, zeroWhole}
 use Rattle.units.specs.declared.counts.Whole.{Whole}
 use Rattle.units.specs.declared.counts.Count.{Count}
@@ -14,7 +14,6 @@ use Rattle.units.specs.declared.counts.Count.the-variants.{Gon, Degree, Tenth, 
 use Rattle.words.specs.Records.{width}
 use Rattle.words.specs.Reading.{wordSize}
 use Rattle.blocks.specs.Judging.{firstAt}
-use Rattle.blocks.specs.Composing.{starBytes}
 use Rattle.blocks.specs.declared.answers.Answer.{Answer}
 use Rattle.instrument.specs.Settings as own
 use Rattle.instrument.specs.declared.settings.Series.the-variants.{Tps100}
@@ -24,6 +23,7 @@ use Rattle.lines.specs.Machine.{step}
 use Rattle.lines.specs.Sessions.{after}
 use Rattle.sheets.specs.Sheet.{sheetOf}
 use Rattle.sheets.specs.Loading.{right, loadingOf}
+use Rattle.sheets.specs.Playing.{replyRoom}
 use Rattle.bench.specs.Readings.{Trial, returned, refused, word, read, one, countWord, minus-mm}
 
 abbrev pub minusNought : Whole
@@ -89,10 +89,10 @@ beside =
 
 -- a fresh stand-in after lines, each with its CR and 306 bytes of room, and its reply to one more
 abbrev pub sent : List String → State
-sent lines = after (factoryState Tps100) (map (λ l. record { line = word l; room = 306 }) lines)
+sent lines = after (factoryState Tps100) (map (λ l. record { line = word l; room = replyRoom }) lines)
 
 abbrev pub replies : List String → String → List ℕ
-replies lines l = step (sent lines) (word l) 306 .reply
+replies lines l = step (sent lines) (word l) replyRoom .reply
 
 abbrev pub put : String
 put = "PUT/83...0-00000000 "
@@ -104,7 +104,7 @@ sheet =
     ++ codes "s95=0\ns102=0\ns103=1\ns135=0\ns136=0\nv11=\nv16=\nv21=\nv24=\nv34=\nv83=83..10-00000000\nv84=\nv85=\nv86=\nv87=\nv88=\n"
 
 -- "26 and 40 follow": a PUT stores it, GET/I gives it back with its minus, UNDO restores what stood before, the sheet holds it and loads it
-pub record Stored : Type 0 where
+pub record StoredNoughts : Type 0 where
   pub done : replies [] put ≡ codes "?\r\n"
   pub got : replies (put ∷ []) "GET/I/WI83" ≡ codes "83..10-00000000 \r\n"
   pub undone : replies ("PUT/83...0+00000000 " ∷ put ∷ "UNDO" ∷ []) "GET/I/WI83" ≡ codes "83..10+00000000 \r\n"

@@ -25,6 +25,7 @@ use Rattle.instrument.specs.declared.settings.Series.the-variants.{Tps100}
 use Rattle.state.specs.Entries.{factoryState}
 use Rattle.lines.specs.Verdicts.{verdictNumber, verdictWhich, verdictByte}
 use Rattle.lines.specs.Machine.{Outcome, step}
+use Rattle.sheets.specs.Playing.{replyRoom}
 
 -- what a word gives: "index, information and value, and text where there is text", its value by the typed count
 pub record Given : Type 0 where
@@ -65,7 +66,7 @@ abbrev pub back : Family → List ℕ → Written·room
 back f s = written f (reading f s .words) (isWide s) (isCrlf (reading f s .answer)) (replicate (length s) 0)
 
 abbrev pub reply : List ℕ → Outcome
-reply line = step (factoryState Tps100) line 306
+reply line = step (factoryState Tps100) line replyRoom
 
 abbrev pub Holds : Family → Trial → Type 0
 Holds f (accepted s answer words) = (reading f s .answer ≡ answer) × (map (givenBy f) (reading f s .words) ≡ words)

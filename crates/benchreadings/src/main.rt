@@ -1,7 +1,8 @@
-// Runs the bench readings of document 01 and shows what each gives: of a block words, bytes and values, or the refusal's number and place; of a
-// line its number and the bytes of its reply, and of 26 which rule the word breaks and the byte of the line. A table is one text. A row of it is
-// a letter and a blank, a name, a bar, the bytes that are read, and a semicolon. The letter: S a station's block, L a level's, F a line on a
-// fresh image, M a line 64 times on a fresh image, and how often it was accepted, I a line on the image as the row before left it.
+// Runs the bench readings of document 01 and others like them (levels, minus nought, the bytes that refusals tell) and shows what each gives: of a block
+// words, bytes and values, or the refusal's number and place; of a line its number and the bytes of its reply, and of 26 which rule the word breaks and the
+// byte of the line. A table is one text. A row of it is a letter and a blank, a name, a bar, the bytes that are read, and a semicolon. The letter: S a total
+// station's block, L a level's, F a line on a fresh image, M a line 64 times on a fresh image, and how often it was accepted, I a line on the image as the
+// row before left it.
 ghost use Prim.Native.Nat.{_≤_};
 ghost use lib.ListN.{length};
 use blocks::answers::Answer;

@@ -17,8 +17,8 @@ use Rattle.words.specs.declared.reading.Fault.the-variants.{Short}
 use Rattle.words.specs.declared.reading.Judged as one
 use Rattle.words.proofs.RoundTrip.{read-write}
 use Rattle.blocks.specs.Judging.{Judgement, isAt, isWide, firstAt, refusedBy, endedAt, afterWord, blockFrom, judged}
-use Rattle.blocks.specs.Composing.{starBytes, wordsBytes, blockBytes, written}
-use Rattle.figures.specs.Text.{endBytes}
+use Rattle.blocks.specs.Composing.{wordsBytes, blockBytes, written}
+use Rattle.figures.specs.Text.{endBytes, starBytes}
 use Rattle.blocks.specs.declared.answers.Refusal.{Refusal}
 use Rattle.blocks.specs.declared.answers.Refusal.the-variants.{Empty, Wrong, NoWord, NoEnd, NoPlace}
 use Rattle.blocks.specs.declared.answers.Reading.{Reading}

@@ -19,9 +19,9 @@ use Rattle.blocks.specs.declared.answers.Wrote.{Wrote}
 use Rattle.blocks.specs.declared.answers.Wrote.the-variants.{Refused, Written}
 use Rattle.blocks.specs.declared.judging.Block.{Block}
 use Rattle.blocks.specs.declared.composing.Composed.{Composed}
-use Rattle.blocks.specs.Composing.{starBytes, wordsBytes, blockBytes, unlessWrong, Written·room, refusedRoom, blockInRoom, written, Writes}
+use Rattle.blocks.specs.Composing.{wordsBytes, blockBytes, unlessWrong, Written·room, refusedRoom, blockInRoom, written, Writes}
 use Rattle.blocks.specs.Keeping.{refusedList, wroteList, composedOf, listOf}
-use Rattle.figures.specs.Text.{endBytes}
+use Rattle.figures.specs.Text.{endBytes, starBytes}
 use Rattle.blocks.proofs.Steps.{apart}
 use Rattle.blocks.specs.Rules.{rightAll}
 use Rattle.blocks.proofs.Rooms.{wrong-by, firstWrong, unless-right, unless-wrong, words-fit, star-small, set-laid, wrote-as}

@@ -8,14 +8,14 @@ use borrow.Author.Tests.{ltb-false}
 use lib.Dec.{eqb, ltb}
 use lib.ListN.{length, length-append}
 use Rattle.figures.specs.Bytes.{laid}
-use Rattle.figures.specs.Text.{endBytes}
+use Rattle.figures.specs.Text.{endBytes, starBytes}
 use Rattle.figures.proofs.Bytes.{end-long}
 use Rattle.units.specs.declared.kinds.Family.{Family}
 use Rattle.words.specs.declared.records.Word.{Word}
 use Rattle.blocks.specs.Answers.{refusalTells}
 use Rattle.blocks.specs.Judging.{Judgement, judged}
 use Rattle.blocks.specs.Lists.{Reads}
-use Rattle.blocks.specs.Composing.{starBytes, wordsBytes, blockBytes, Written·room, refusedRoom, blockInRoom, written, Writes}
+use Rattle.blocks.specs.Composing.{wordsBytes, blockBytes, Written·room, refusedRoom, blockInRoom, written, Writes}
 use Rattle.blocks.specs.declared.answers.Refusal.{Refusal}
 use Rattle.blocks.specs.declared.answers.Refusal.the-variants.{Count, Record, Room}
 use Rattle.blocks.specs.declared.answers.Answer.{Answer}

@@ -13,6 +13,7 @@ use lib.Seq.{take-suc, drop-cons, take-at, drop-at, length-take-le, drop-drop}
 use mir.Val.{Val}
 use denote.Laws.{Is}
 use Rattle.figures.specs.Bytes.{laid}
+use Rattle.figures.specs.Text.{starBytes}
 use Rattle.figures.proofs.Bytes.{laid-fits, laid-on, length-laid, store-on}
 use Rattle.words.specs.Records.{isRight}
 use Rattle.words.specs.Reading.{wordSize}
@@ -27,7 +28,7 @@ use Rattle.blocks.specs.declared.answers.Wrote.the-variants.{Written}
 use Rattle.blocks.specs.declared.judging.Block.{Block}
 use Rattle.blocks.specs.declared.composing.Composed.{Composed}
 use Rattle.blocks.specs.Judging.{firstAt}
-use Rattle.blocks.specs.Composing.{starBytes, wordsBytes, unlessWrong}
+use Rattle.blocks.specs.Composing.{wordsBytes, unlessWrong}
 use Rattle.blocks.specs.Rules.{rightAll}
 use Rattle.blocks.proofs.judging.Block.{the-row}
 use Rattle.blocks.proofs.Steps.{apart, cond-by, width-small, start-small}

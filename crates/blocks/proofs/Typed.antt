@@ -17,8 +17,8 @@ use Rattle.words.specs.declared.records.Word.{Word}
 use Rattle.words.proofs.RoundTrip.{write-read, bytes-length}
 use Rattle.words.proofs.Typed.{given-typed}
 use Rattle.blocks.specs.Judging.{isAt, firstAt, judged}
-use Rattle.blocks.specs.Composing.{starBytes, wordsBytes}
-use Rattle.figures.specs.Text.{endBytes}
+use Rattle.blocks.specs.Composing.{wordsBytes}
+use Rattle.figures.specs.Text.{endBytes, starBytes}
 use Rattle.blocks.specs.Rules.{rightAll, readAs, wordStart}
 use Rattle.blocks.specs.declared.answers.Reading.{Reading}
 use Rattle.blocks.proofs.Rooms.{words-length, star-length}

@@ -19,8 +19,8 @@ use Rattle.words.specs.declared.records.Word.{Word}
 use Rattle.words.specs.declared.reading.OneWord.{OneWord}
 use Rattle.words.proofs.RoundTrip.{write-read, bytes-length, first-written}
 use Rattle.blocks.specs.Judging.{isAt, isWide, firstAt, blockFrom, judged}
-use Rattle.blocks.specs.Composing.{starBytes, wordsBytes, blockBytes, unlessWrong, Written·room, refusedRoom, blockInRoom, written}
-use Rattle.figures.specs.Text.{endBytes}
+use Rattle.blocks.specs.Composing.{wordsBytes, blockBytes, unlessWrong, Written·room, refusedRoom, blockInRoom, written}
+use Rattle.figures.specs.Text.{endBytes, starBytes}
 use Rattle.figures.proofs.Decimal.{digit-not}
 use Rattle.blocks.specs.declared.answers.Refusal.{Refusal}
 use Rattle.blocks.specs.declared.answers.Refusal.the-variants.{Count, Record, Room}

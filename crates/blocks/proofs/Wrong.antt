@@ -11,6 +11,7 @@ use lib.ListN.{length, getD, take, drop, replicate}
 use lib.Seq.{length-take-le}
 use Rattle.figures.specs.Bytes.{among, every, runOf, laid}
 use Rattle.figures.specs.Decimal.{numberFrom}
+use Rattle.figures.specs.Text.{cr}
 use Rattle.words.specs.Records.{blank}
 use Rattle.words.specs.Reading.{wordSize}
 use Rattle.words.specs.declared.reading.Fault.{Fault}
@@ -156,20 +157,20 @@ unfolding among every runOf
 second-wrong Station = refl
 second-wrong Level = refl
 
--- so one that tells the last of the words up to the CR that aren't right
+-- so one that tells the last of the whole words up to the CR that aren't right
 pub tells-the-last : (f : Family) (run : Reader)
     → ((s : List ℕ) (list : List Word) (x : Fault) (at : ℕ) → run s list .0 ≡ Refused (Refusal.Wrong x at)
-    → (k : ℕ) → ((j : ℕ) → j ≤ k → isAt 13 (drop (wordStart (isWide s) j) s) ≡ false) → (judgedWord f s k .answer ≡ one.Judged.Right → ⊥)
-    → wordStart (isWide s) k ≤ at)
+    → (k : ℕ) → k < 32 → wordStart (isWide s) (suc k) ≤ length s → ((j : ℕ) → j ≤ k → isAt cr (drop (wordStart (isWide s) j) s) ≡ false)
+    → (judgedWord f s k .answer ≡ one.Judged.Right → ⊥) → wordStart (isWide s) k ≤ at)
     → Keeps f run → ⊥
 tells-the-last f run last keeps =
     let e = keeps two-wrong (blank ∷ blank ∷ []) .0 ∙ first-wrong f in
     let clash : judgedWord f two-wrong 1 .answer ≡ one.Judged.Right → ⊥ = λ r.
     let q = sym (second-wrong f) ∙ r in let z : _≡_ {A = ℕ} 0 1 = cc in omega arith in
-    let late : 16 ≤ 14 = last two-wrong (blank ∷ blank ∷ []) Characters 14 e 1 no-end clash in
+    let late : 16 ≤ 14 = last two-wrong (blank ∷ blank ∷ []) Characters 14 e 1 (omega arith) (omega arith) no-end clash in
     omega arith
   where
-    no-end : (j : ℕ) → j ≤ 1 → isAt 13 (drop (wordStart (isWide two-wrong) j) two-wrong) ≡ false
+    no-end : (j : ℕ) → j ≤ 1 → isAt cr (drop (wordStart (isWide two-wrong) j) two-wrong) ≡ false
     no-end zero h = refl
     no-end (suc zero) h = refl
     no-end (suc (suc j)) h = absurd (omega arith)

@@ -5,7 +5,7 @@ use mathlib.Core.Bool.{Bool, cond, _||_}
 use mathlib.Core.List.{List, [], _∷_, _++_}
 use lib.Dec.{eqb, ltb}
 use lib.ListN.{length}
-use Rattle.figures.specs.Text.{codes, endBytes}
+use Rattle.figures.specs.Text.{endBytes, starBytes}
 use Rattle.figures.specs.Bytes.{laid}
 use Rattle.words.specs.Records.{isRight}
 use Rattle.words.specs.Writing.{bytesOf}
@@ -15,9 +15,6 @@ use Rattle.blocks.specs.declared.answers.Refusal.{Refusal}
 use Rattle.blocks.specs.declared.answers.Refusal.the-variants.{Count, Record, Room}
 use Rattle.blocks.specs.declared.answers.Wrote.{Wrote}
 use Rattle.blocks.specs.declared.answers.Wrote.the-variants.{Refused, Written}
-
-abbrev pub starBytes : Bool → List ℕ
-starBytes wide = cond wide (codes "*") []
 
 -- the words one after the other
 unfoldable pub wordsBytes : Family → Bool → List Word → List ℕ

@@ -18,9 +18,10 @@ use Rattle.blocks.specs.declared.judging.Next.the-variants.{Ends, Stops,
 use Rattle.blocks.specs.declared.judging.Stepped.{Stepped}
 use Rattle.blocks.specs.Judging.{Judgement, atStart, filled}
 use Rattle.figures.specs.Bytes.{laid}
+use Rattle.figures.specs.Text.{starBytes}
 use Rattle.blocks.specs.declared.answers.Wrote.the-variants.{Refused, Written}
 use Rattle.blocks.specs.declared.composing.Composed.{Composed}
-use Rattle.blocks.specs.Composing.{starBytes, wordsBytes, blockBytes, unlessWrong}
+use Rattle.blocks.specs.Composing.{wordsBytes, blockBytes, unlessWrong}
 
 -- 32 records, blank past the count
 abbrev pub noBlock : Block

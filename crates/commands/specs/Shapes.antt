@@ -6,7 +6,7 @@ use lib.Dec.{eqb, leb, ltb}
 use lib.ListN.{length, getD, take, drop}
 use Rattle.figures.specs.Text.{codes, byte, cr, lf}
 use Rattle.figures.specs.Bytes.{within, every, runOf, isOther, startsWith, sameBytes}
-use Rattle.figures.specs.Decimal.{isDigit, numberOf}
+use Rattle.figures.specs.Decimal.{isDigit, numberOf, areDigits}
 use Rattle.figures.specs.declared.Said.{Said}
 use Rattle.figures.specs.declared.Said.the-variants as said
 use Rattle.commands.specs.declared.shapes.Order.{Order}
@@ -54,7 +54,7 @@ confOrder s = cond (numberRight s) (Conf (numberOf s)) WrongShape
 
 -- `/WI` and two digits
 abbrev pub groupRight : List ℕ → Bool
-groupRight g = leb 5 (length g) && (startsWith (codes "/WI") g && (isDigit (getD g 3 0) && isDigit (getD g 4 0)))
+groupRight g = leb 5 (length g) && (startsWith (codes "/WI") g && areDigits (getD g 3 0) (getD g 4 0))
 
 -- n groups and nothing after them
 unfoldable pub groupsRight : ℕ → List ℕ → Bool

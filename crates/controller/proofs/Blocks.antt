@@ -5,11 +5,11 @@ use mathlib.Core.Bool.{Bool, true}
 use mathlib.Core.List.{List, [], _∷_, _++_, append-nil}
 use native.Mathlib.Omega.{arith}
 use lib.ListN.{length}
-use Rattle.figures.specs.Text.{endBytes}
+use Rattle.figures.specs.Text.{endBytes, starBytes}
 use Rattle.words.specs.declared.records.Word.{Word}
 use Rattle.units.specs.declared.kinds.Family.the-variants.{Station}
 use Rattle.blocks.specs.Judging.{judged}
-use Rattle.blocks.specs.Composing.{starBytes, wordsBytes, blockBytes}
+use Rattle.blocks.specs.Composing.{wordsBytes, blockBytes}
 use Rattle.blocks.specs.Rules.{rightAll, Lawful, readAs, readingOf}
 use Rattle.blocks.proofs.Written.{block-read}
 use Rattle.instrument.specs.Values.{isPut, keptRight, getWord, wordIn}

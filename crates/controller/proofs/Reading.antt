@@ -9,7 +9,7 @@ use borrow.Author.Tests.{leb-true}
 use lib.Dec.{leb}
 use lib.ListN.{length, drop, length-drop}
 use lib.Seq.{getD-set-same}
-use Rattle.figures.specs.Text.{codes, endBytes}
+use Rattle.figures.specs.Text.{codes, endBytes, starBytes}
 use Rattle.figures.specs.Bytes.{every, startsWith}
 use Rattle.figures.specs.Decimal.{isDigit, numberFrom}
 use Rattle.figures.proofs.Tests.{both}
@@ -30,8 +30,9 @@ use Rattle.state.specs.declared.entries.State.{State}
 use Rattle.commands.specs.Shapes.{textOf, isPlain, isEnded, groupsRight, groupsIn, indexesIn, indexesOf, orderOf}
 use Rattle.lines.specs.Verdicts.{isAccepted, placeNamed, putVerdict, getVerdict, orderVerdict, lineVerdict}
 use Rattle.lines.specs.Orders.{putTo, changedBy, changeAt, deedOf, lineDeed, doneOf}
-use Rattle.lines.specs.Replies.{endsLf, answersWide, star, wordAt, getWords, replyEnd, replyOf}
+use Rattle.lines.specs.Replies.{endsLf, answersWide, wordAt, getWords, replyEnd, replyOf}
 use Rattle.lines.specs.Machine.{Outcome, run}
+use Rattle.lines.specs.Keeping.{replyMost}
 use Rattle.commands.specs.declared.shapes.Order.{Order}
 use Rattle.commands.specs.declared.shapes.Order.the-variants.{Put, Get}
 use Rattle.lines.specs.declared.verdicts.Verdict.{Verdict}
@@ -98,12 +99,12 @@ get-few t e short =
 
 -- the reply to an accepted GET
 get-reply : (s : State) (line : List ℕ) → lineVerdict s line ≡ Accepted → orderOf (textOf line) ≡ Get
-    → run s line .reply ≡ star (answersWide s) ++ (getWords (answersWide s) (s .values) (indexesOf (textOf line)) ++ replyEnd s)
+    → run s line .reply ≡ starBytes (answersWide s) ++ (getWords (answersWide s) (s .values) (indexesOf (textOf line)) ++ replyEnd s)
 get-reply s line v o =
     let t = textOf line in
     ap (replyOf s t (orderOf t)) v
     ∙ ap (λ (x : Order). replyOf s t x Accepted) o
-    ∙ append-assoc (star (answersWide s)) (getWords (answersWide s) (s .values) (indexesOf t)) (replyEnd s)
+    ∙ append-assoc (starBytes (answersWide s)) (getWords (answersWide s) (s .values) (indexesOf t)) (replyEnd s)
 
 pub reply-read : (s : State) → isState s ≡ true → (line : List ℕ) → lineVerdict s line ≡ Accepted → orderOf (textOf line) ≡ Get → (places : ℕ)
     → length (indexesOf (textOf line)) ≤ places → let ws = gotten (answersWide s) (s .values) (indexesOf (textOf line)) in
@@ -117,7 +118,7 @@ reply-read s is line v o places placed =
     let accepted : getVerdict (s .values) ns ≡ Accepted = ap (orderVerdict s t) (sym o) ∙ j .1 in
     let h = gets wide (s .values) (state-right s is .values-right) ns accepted in
     let many = h .many in
-    ap (λ r. judged Station r places) (get-reply s line v o ∙ ap (λ l. star wide ++ (l ++ replyEnd s)) (h .bytes))
+    ap (λ r. judged Station r places) (get-reply s line v o ∙ ap (λ l. starBytes wide ++ (l ++ replyEnd s)) (h .bytes))
     ∙ words-read wide (endsLf s) (h .held) places (omega arith) (omega arith) (omega arith)
     ∙ ap (λ ws. readAs (readingOf Station wide (endsLf s) ws) ws) (sym (h .words))
 
@@ -196,7 +197,7 @@ module _ (s : State) (is : isState s ≡ true) (line : List ℕ) (v : lineVerdic
       ∙ ap (λ (f : Found). doneOf s (changeAt (λ i. putTo i (putKept word)) f)) (put .found)
 
   next-state : isState next ≡ true
-  next-state = ap (λ (x : Outcome). isState (x .next)) (sym (fits-459 s line)) ∙ step-state s line 459 is
+  next-state = ap (λ (x : Outcome). isState (x .next)) (sym (fits-459 s line)) ∙ step-state s line replyMost is
 
   next-held : valueHeld (next .values) (put .at) .kept ≡ putKept word
   next-held =

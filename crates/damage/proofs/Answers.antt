@@ -7,7 +7,8 @@ use native.Mathlib.Omega.{arith}
 use borrow.Author.Tests.{le-leb, lt-ltb, le-ltb, ne-eqb, eqb-false}
 use lib.Dec.{eqb, ltb}
 use lib.ListN.{length, getD, drop}
-use Rattle.units.specs.Kinds.{kindOf, indexBy, areDigits, listedBy}
+use Rattle.figures.specs.Decimal.{areDigits}
+use Rattle.units.specs.Kinds.{kindOf, indexBy, listedBy}
 use Rattle.units.specs.Information.{leadOf, signRight}
 use Rattle.units.specs.declared.kinds.Family.{Family}
 use Rattle.units.specs.declared.kinds.Kind.{Kind}

@@ -9,10 +9,10 @@ use lib.Dec.{eqb, leb, ltb}
 use lib.ListN.{length, getD, take, drop, replicate, length-replicate}
 use lib.Seq.{getD-take, drop-cons, take-add, drop-at, length-take-le}
 use Rattle.figures.specs.Bytes.{among}
-use Rattle.figures.specs.Decimal.{isDigit}
+use Rattle.figures.specs.Decimal.{isDigit, areDigits}
 use Rattle.figures.proofs.Bytes.{within-bounds}
 use Rattle.figures.proofs.Tests.{clash, by-test, along}
-use Rattle.units.specs.Kinds.{areDigits, firstOther, listedBy}
+use Rattle.units.specs.Kinds.{firstOther, listedBy}
 use Rattle.units.specs.declared.kinds.Family.{Family}
 use Rattle.units.specs.declared.kinds.Family.the-variants.{Station, Level}
 use Rattle.words.specs.Records.{width}
@@ -22,7 +22,7 @@ use Rattle.words.specs.declared.reading.Fault.the-variants.{Short, Index, Unlis
 use Rattle.words.specs.declared.reading.Judged.the-variants.{Right, Wrong}
 use Rattle.words.proofs.Checks.{width-bounds}
 use Rattle.words.proofs.Told.{past}
-use Rattle.damage.specs.Breaks.{Kept, First}
+use Rattle.damage.specs.Breaks.{KeptWord, First}
 use Rattle.damage.proofs.Passed.{passing-again}
 use Rattle.damage.proofs.Marks.{thirdRight, dot-right}
 use Rattle.damage.proofs.Answers.{testsIn, faultAt, told, word-told}
@@ -101,7 +101,7 @@ module _ (f : Family) (wide : Bool) (s : List ℕ) (x : Fault) (at : ℕ) (r : R
       let fails : told w (isCounted (valueIn f wide t)) n ≡ Wrong x at = rw (lt-ltb n (6 + w) (r .near)) (cc (r .fault, r .place)) in
       word-told f wide t long (rw (one, two) (r .digits)) (rw (one, two, three) (r .listed)) ∙ ap (told w (isCounted (valueIn f wide t))) count ∙ fails
 
-  kept : Kept f wide s x at
+  kept : KeptWord f wide s x at
   kept =
       let n = passing (testsIn f wide s) (drop 2 s) in
       let least = width-bounds wide .0 in
@@ -133,7 +133,7 @@ module _ (f : Family) (wide : Bool) where
       → wordOf f wide t .answer ≡ Wrong Unlisted 0
   unlisted t long digits none = rw (le-leb (wordSize wide) (length t) long, digits, none)
 
-  kept-digit : (s : List ℕ) (n c : ℕ) → isDigit c ≡ true → take n (c ∷ 48 ∷ 46 ∷ replicate (5 + width wide) 46) ≡ take n s → Kept f wide s Index n
+  kept-digit : (s : List ℕ) (n c : ℕ) → isDigit c ≡ true → take n (c ∷ 48 ∷ 46 ∷ replicate (5 + width wide) 46) ≡ take n s → KeptWord f wide s Index n
   kept-digit s n c digit same =
       let t = c ∷ 48 ∷ 46 ∷ replicate (5 + width wide) 46 in
       let size : length t ≡ wordSize wide = omega (arith, length-replicate {A = ℕ} (5 + width wide) 46) in

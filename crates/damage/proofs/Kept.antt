@@ -8,8 +8,9 @@ use borrow.Author.Tests.{le-ltb, leb-false, eq-eqb}
 use lib.Dec.{leb}
 use lib.ListN.{length, getD, take, drop, length-append, length-drop}
 use lib.Seq.{take-at, drop-at, drop-drop, drop-cons, take-add, length-take-le}
+use Rattle.figures.specs.Decimal.{areDigits}
 use Rattle.figures.proofs.Tests.{by-test}
-use Rattle.units.specs.Kinds.{kindOf, indexBy, areDigits, listedBy}
+use Rattle.units.specs.Kinds.{kindOf, indexBy, listedBy}
 use Rattle.units.specs.Information.{leadOf, signOf}
 use Rattle.units.specs.declared.kinds.Family.{Family}
 use Rattle.units.specs.declared.kinds.Kind.{Kind}
@@ -19,7 +20,7 @@ use Rattle.words.specs.declared.reading.Fault.{Fault}
 use Rattle.words.specs.declared.reading.Fault.the-variants.{Value}
 use Rattle.words.specs.declared.reading.Judged.the-variants.{Right, Wrong}
 use Rattle.words.proofs.Checks.{width-bounds}
-use Rattle.damage.specs.Breaks.{Survives, Kept}
+use Rattle.damage.specs.Breaks.{Survives, KeptWord}
 use Rattle.words.proofs.Letters.{passing-append}
 use Rattle.damage.proofs.Passed.{passing-on}
 use Rattle.damage.proofs.Noughts.{tests-length, noughts, noughts-length, noughts-pass, noughts-count}
@@ -87,7 +88,7 @@ module _ (f : Family) (wide : Bool) (s : List ℕ) (whole : wordSize wide ≤ le
   abbrev other : List ℕ
   other = pos 1 s ∷ pos 2 s ∷ tail
 
-  pub kept-by : getD tail 0 0 ≡ c → (faultNumber x < 8 → n ≤ 4) → Kept f wide s x (2 + n)
+  pub kept-by : getD tail 0 0 ≡ c → (faultNumber x < 8 → n ≤ 4) → KeptWord f wide s x (2 + n)
   kept-by third early =
       let w = width wide in
       let t = pos 1 s in

@@ -5,10 +5,10 @@ use mathlib.Core.Bool.{Bool, true, false, cond, false≢true}
 use borrow.Author.Tests.{lt-ltb, le-ltb}
 use lib.Dec.{eqb}
 use Rattle.figures.specs.Bytes.{among}
-use Rattle.figures.specs.Decimal.{isDigit}
+use Rattle.figures.specs.Decimal.{isDigit, areDigits}
 use Rattle.figures.proofs.Tests.{both, by-test, along}
 use Rattle.units.specs.Classes.{number, text, classOf}
-use Rattle.units.specs.Kinds.{stationKind, levelKind, kindOf, isListed, areDigits, indexOf, threeOf, ofKind, levelAt, isIndex, indexOr, listedBy, indexBy}
+use Rattle.units.specs.Kinds.{stationKind, levelKind, kindOf, isListed, indexOf, threeOf, ofKind, levelAt, isIndex, indexOr, listedBy, indexBy}
 use Rattle.units.specs.Information.{isDot, marks, fourMarks, numberedMarks, infoMarks, leadOf}
 use Rattle.units.specs.declared.information.Marks.{Marks}
 use Rattle.units.specs.declared.kinds.Family.{Family}

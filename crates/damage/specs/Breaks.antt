@@ -23,7 +23,7 @@ Survives x Right = Unit {0}
 Survives x (Wrong y at) = looksAtAll (faultNumber x) (faultNumber y) ≡ true
 
 -- a whole word with the bytes before that place
-pub record Kept (f : Family) (wide : Bool) (s : List ℕ) (x : Fault) (at : ℕ) : Type 0 where
+pub record KeptWord (f : Family) (wide : Bool) (s : List ℕ) (x : Fault) (at : ℕ) : Type 0 where
   pub word : List ℕ
   pub size : length word ≡ wordSize wide
   pub same : take at word ≡ take at s
@@ -32,6 +32,6 @@ pub record Kept (f : Family) (wide : Bool) (s : List ℕ) (x : Fault) (at : ℕ)
 -- what the byte told by a fault of the word s is. `again`: a whole word with the bytes up to and including it is refused by the same rule at the same
 -- byte. `never`: whole or not, it isn't right
 pub record First (f : Family) (wide : Bool) (s : List ℕ) (x : Fault) (at : ℕ) : Type 0 where
-  pub kept : Kept f wide s x at
+  pub kept : KeptWord f wide s x at
   pub again : (t : List ℕ) → wordSize wide ≤ length t → take (suc at) t ≡ take (suc at) s → wordOf f wide t .answer ≡ Wrong x at
   pub never : (t : List ℕ) → take (suc at) t ≡ take (suc at) s → wordOf f wide t .answer ≡ Right → ⊥

@@ -1,1 +1,2 @@
-// A damaged word and the byte that its refusal tells. There is no code here: proofs/Breaks.antt shows that it is the first that breaks the rule.
+// A damaged word and the byte that its refusal tells. There is no code here: proofs/Breaks.antt shows that refusals 5 to 9 tell the first byte that breaks the
+// rule.

@@ -12,6 +12,9 @@ use Rattle.figures.specs.declared.Said.the-variants.{Not, Number}
 abbrev pub isDigit : ℕ → Bool
 isDigit = within 48 57
 
+abbrev pub areDigits : ℕ → ℕ → Bool
+areDigits tens ones = isDigit tens && isDigit ones
+
 -- n, and then the digits of the list
 unfoldable pub numberFrom : ℕ → List ℕ → ℕ
 numberFrom n [] = n

@@ -12,4 +12,4 @@ shown b = cond (within 32 126 b) b (byte ".")
 
 -- a caret under the byte at that place, from 0, and LF
 abbrev pub caretText : ℕ → List ℕ
-caretText place = replicate place 32 ++ codes "^\n"
+caretText place = replicate place (byte " ") ++ codes "^\n"

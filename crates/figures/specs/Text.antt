@@ -24,3 +24,7 @@ lf = byte "\n"
 -- CR LF or CR
 abbrev pub endBytes : Bool → List ℕ
 endBytes crlf = cond crlf (codes "\r\n") (codes "\r")
+
+-- what stands before wide words
+abbrev pub starBytes : Bool → List ℕ
+starBytes wide = cond wide (codes "*") []

@@ -16,6 +16,7 @@ pub enum Said {
     Number(u64),
 }
 
+// Tells whether a byte is a digit, `0` to `9`.
 pub fn digit(b: u8) -> bool
     ensures { λ r. ⌜ r ≡ isDigit b ⌝ }
 {

@@ -10,6 +10,7 @@ use lib.ListN.{length}
 use Rattle.state.specs.Image.{stateIn, isImage}
 use Rattle.lines.specs.Verdicts.{verdictWhich, verdictByte}
 use Rattle.lines.specs.Machine.{Outcome, outcome, run, step, Called, played, call}
+use Rattle.lines.specs.Keeping.{replyMost}
 use Rattle.lines.specs.declared.verdicts.Verdict.the-variants.{Room}
 use Rattle.lines.proofs.Longest.{reply-most}
 use Rattle.lines.proofs.Telling.{call-tells, tells-small}
@@ -23,11 +24,11 @@ use Rattle.host.specs.Machine.{lineWhole, toldSheet, sheetWhole, CallsC,
 use Rattle.host.proofs.Whole.{packed-whole, cond-when}
 
 -- a line that was run: no reply is longer than 459 bytes
-line-most : (image line room : List ℕ) → call image line room .answer .count ≤ 459
+line-most : (image line room : List ℕ) → call image line room .answer .count ≤ replyMost
 line-most image line room =
     let s = stateIn image in
-    cond-when (λ (c : Called). c .answer .count ≤ 459) (isImage image) (played (step s line (length room)) room) _
-    (λ _. cond-when (λ (o : Outcome). length (o .reply) ≤ 459) (leb (length (run s line .reply)) (length room)) (run s line) (outcome Room [] s)
+    cond-when (λ (c : Called). c .answer .count ≤ replyMost) (isImage image) (played (step s line (length room)) room) _
+    (λ _. cond-when (λ (o : Outcome). length (o .reply) ≤ replyMost) (leb (length (run s line .reply)) (length room)) (run s line) (outcome Room [] s)
     (λ _. reply-most s line) (omega arith))
     (omega arith)
 

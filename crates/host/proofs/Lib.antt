@@ -3,6 +3,7 @@ pub mod Whole
 pub mod Refused
 pub mod RoundTrips
 pub mod Answered
+pub mod Left
 pub mod Determined
 pub mod Lent
 pub mod LentRead

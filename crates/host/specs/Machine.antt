@@ -38,7 +38,7 @@ sheetWhole a = sheetNumber a * 4294967296 + sheetTells a
 -- "Laying down the factory state takes lent bytes of exactly the image's length, with any contents, and refuses 31 otherwise."
 abbrev pub LaysFactory : Series → List ℕ → ℕ → List ℕ → Type 0
 LaysFactory k image r image′ =
-    (r ≡ cond (eqb (length image) (imageN k)) 0 (31 * 4294967296)) × (image′ ≡ cond (eqb (length image) (imageN k)) (imageOf (factoryState k)) image)
+    (r ≡ cond (eqb (length image) (imageN k)) 0 (packed 31 0)) × (image′ ≡ cond (eqb (length image) (imageN k)) (imageOf (factoryState k)) image)
 
 abbrev pub CallsC : List ℕ → List ℕ → List ℕ → ℕ → List ℕ → List ℕ → Type 0
 CallsC image line room r image′ room′ =

@@ -1,4 +1,4 @@
-// The functions that a host in C links. Each answers its number * 2^32 + what it tells.
+// The functions that a host in C links. Each answers its number * 2^32 + what it tells, except the two that tell an image's length.
 pub mod answers;
 pub mod machine;
 pub mod sheet;

@@ -11,10 +11,10 @@ use lib.ListN.{length, getD, drop, drop-of-length-le}
 use lib.Seq.{drop-cons, getD-drop}
 use Rattle.figures.specs.Text.{codes}
 use Rattle.figures.specs.Bytes.{within, among, every}
-use Rattle.figures.specs.Decimal.{isDigit, numberOf}
+use Rattle.figures.specs.Decimal.{isDigit, numberOf, areDigits}
 use Rattle.figures.proofs.Bytes.{within-bounds, bounds-within}
 use Rattle.figures.proofs.Tests.{by-test, Even, along}
-use Rattle.units.specs.Kinds.{stationKind, isListed, isTextual, indexOf, areDigits, listedBy}
+use Rattle.units.specs.Kinds.{stationKind, isListed, isTextual, indexOf, listedBy}
 use Rattle.units.specs.Information.{isDot, stationMarks, allRight, firstWrong, signByte, signOf, signRight}
 use Rattle.units.specs.Counts.{valueAt}
 use Rattle.units.proofs.Positions.{tensOf, onesOf, index-on, index-below, tens-digit, ones-digit, sign-on, sign-right}

@@ -12,7 +12,7 @@ use lib.Seq.{drop-cons, drop-at, take-suc, take-suc-set, take-all}
 use Rattle.instrument.specs.declared.settings.Row.{Row}
 use Rattle.instrument.specs.declared.settings.Series.{Series}
 use Rattle.instrument.specs.declared.settings.Series.the-variants.{Tps100, Tps300}
-use Rattle.instrument.specs.Settings.{rows100, rows300, settingNumber, rowsOf, settingsN, settingsMost, noRow, rowAt, heldRows, only, isGap, inRange, inRanges}
+use Rattle.instrument.specs.Settings.{rows100, rows300, settingNumber, rowsOf, settingsN, settingsMost, noRow, rowAt, heldRows, only, isGap, inRange, inRanges, modes161}
 use Rattle.instrument.specs.Rows.{keyBytes}
 use Rattle.instrument.proofs.Seek.{eachRow, row-tested, NoneOf, past-place}
 use Rattle.figures.specs.Bytes.{within, among, every}
@@ -134,18 +134,15 @@ range-byte k i p e = omega (arith, range-high (rowAt k i) p e, rows-high k i)
 
 -- "161 only 0, 1, 5, 6, 7, 9 or 10"
 
-abbrev modes : List ℕ
-modes = 0 ∷ 1 ∷ 5 ∷ 6 ∷ 7 ∷ 9 ∷ 10 ∷ []
-
-pub only-those : (p : ℕ) → inRange (only 161 modes) p ≡ among p modes
+pub only-those : (p : ℕ) → inRange (only 161 modes161) p ≡ among p modes161
 unfolding among every
 only-those p =
     by-test (leb p 10)
-    (λ e. same (inRange (only 161 modes) p) (among p modes) (sym (along agree 0 11 {n = p} refl (omega arith) (omega (arith, leb-true p 10 e)))))
-    (λ e. rw (le-leb 0 p (omega arith), e) (sym (among-above 10 modes refl p (omega (arith, leb-false p 10 e)))))
+    (λ e. same (inRange (only 161 modes161) p) (among p modes161) (sym (along agree 0 11 {n = p} refl (omega arith) (omega (arith, leb-true p 10 e)))))
+    (λ e. rw (le-leb 0 p (omega arith), e) (sym (among-above 10 modes161 refl p (omega (arith, leb-false p 10 e)))))
   where
     agree : ℕ → Bool
-    agree p = cond (inRange (only 161 modes) p) (among p modes) (not (among p modes))
+    agree p = cond (inRange (only 161 modes161) p) (among p modes161) (not (among p modes161))
 
     same : (a b : Bool) → cond a b (not b) ≡ true → a ≡ b
     same true b e = sym e

@@ -8,8 +8,9 @@ use borrow.Author.Tests.{le-leb}
 use lib.Dec.{eqb}
 use lib.ListN.{length, getD}
 use Rattle.figures.specs.Bytes.{among}
+use Rattle.figures.specs.Decimal.{areDigits}
 use Rattle.figures.proofs.Tests.{along}
-use Rattle.units.specs.Kinds.{stationKind, isListed, indexOf, areDigits, listedBy}
+use Rattle.units.specs.Kinds.{stationKind, isListed, indexOf, listedBy}
 use Rattle.units.specs.Information.{allRight, firstWrong, signRight}
 use Rattle.units.specs.declared.kinds.Family.the-variants.{Station}
 use Rattle.units.proofs.Positions.{first-most}

@@ -92,6 +92,10 @@ rows100 =
     ∷ row 136 0 1 0
     ∷ []
 
+-- "161 only 0, 1, 5, 6, 7, 9 or 10"
+abbrev pub modes161 : List ℕ
+modes161 = 0 ∷ 1 ∷ 5 ∷ 6 ∷ 7 ∷ 9 ∷ 10 ∷ []
+
 -- "55 and 56 from 1 to 10, 78 from 0 to 50, 104 and 105 from 0 to 100, and 161 only 0, 1, 5, 6, 7, 9 or 10. Leave out 138, given twice."
 unfoldable pub rows300 : List Row
 rows300 =
@@ -122,7 +126,7 @@ rows300 =
     ∷ low 136 0 127
     ∷ low 137 0 1
     ∷ asked 160 0 1
-    ∷ only 161 (0 ∷ 1 ∷ 5 ∷ 6 ∷ 7 ∷ 9 ∷ 10 ∷ [])
+    ∷ only 161 modes161
     ∷ asked 170 0 1
     ∷ low 171 0 1
     ∷ []

@@ -169,6 +169,7 @@ pub fn value_place(index: u16) -> Found
     Found::Nothing
 }
 
+// Tells whether a value was put.
 pub fn is_put(kept: Kept) -> bool
     ensures { λ r. ⌜ r ≡ isPut kept ⌝ }
 {

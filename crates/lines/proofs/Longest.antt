@@ -7,6 +7,7 @@ use native.Mathlib.Omega.{arith}
 use borrow.Author.Tests.{leb-true, le-leb}
 use lib.Dec.{leb, eqb}
 use lib.ListN.{length, length-append}
+use Rattle.lines.specs.Keeping.{replyMost}
 use Rattle.figures.proofs.Bytes.{end-long}
 use Rattle.instrument.specs.Rows.{seek}
 use Rattle.instrument.specs.Settings.{rows100, parameterOf}
@@ -39,11 +40,11 @@ reply-by s line =
     let j = judged (isEnded line) (leb (length t) 100) (orderVerdict s t (orderOf t)) (accepted-is v e) in
     body-short s t (orderOf t) refl (j .1) (leb-true (length t) 100 (j .0)))
 
-pub reply-most : (s : State) (line : List ℕ) → length (run s line .reply) ≤ 459
+pub reply-most : (s : State) (line : List ℕ) → length (run s line .reply) ≤ replyMost
 reply-most s line = omega (arith, reply-by s line, body-most (answersWide s))
 
-pub fits-459 : (s : State) (line : List ℕ) → step s line 459 ≡ run s line
-fits-459 s line = rw (le-leb (length (run s line .reply)) 459 (reply-most s line))
+pub fits-459 : (s : State) (line : List ℕ) → step s line replyMost ≡ run s line
+fits-459 s line = rw (le-leb (length (run s line .reply)) replyMost (reply-most s line))
 
 -- a TPS100 has no 137, so no wide word
 module _ (s : State) (is : s .series ≡ Tps100) where

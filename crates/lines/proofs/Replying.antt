@@ -25,9 +25,9 @@ use Rattle.state.specs.Entries.{valueHeld}
 use Rattle.state.specs.declared.entries.State.{State}
 use Rattle.commands.specs.Shapes.{groupsRight, groupsIn, orderOf}
 use Rattle.lines.specs.Verdicts.{confBy, confVerdict, placeNamed, getBy, orderVerdict}
-use Rattle.lines.specs.Replies.{endsLf, answersWide, replyEnd, confBody, star, bodyOf}
+use Rattle.lines.specs.Replies.{endsLf, answersWide, replyEnd, confBody, bodyOf}
 use Rattle.lines.specs.Keeping.{groupsVerdict, groupsWords, groupsBody, GetFits, getN}
-use Rattle.figures.specs.Text.{endBytes}
+use Rattle.figures.specs.Text.{endBytes, starBytes}
 use Rattle.figures.proofs.Tests.{clash}
 use Rattle.commands.specs.declared.shapes.Order.{Order}
 use Rattle.commands.specs.declared.shapes.Order.the-variants as order
@@ -221,7 +221,7 @@ module _ (s : State) (t : List ℕ) (o : Order) (e : o ≡ order.Get) (is : o �
       let g = drop 5 t in
       let n : groupsIn g ≡ (length t - 5) / 5 = ap (λ (k : ℕ). k / 5) (length-drop 5 t) in
       ap length get-body
-      ∙ length-append (star (answersWide s)) (groupsWords (answersWide s) (s .values) (groupsIn g) g)
+      ∙ length-append (starBytes (answersWide s)) (groupsWords (answersWide s) (s .values) (groupsIn g) g)
       ∙ rw (words-long (answersWide s) (s .values) (groupsIn g) g get-judged, n)
 
   pub get-fits : (room : List ℕ) → length (bodyOf s t o) + length (replyEnd s) ≤ length room →

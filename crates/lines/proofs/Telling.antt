@@ -1,10 +1,10 @@
 -- What a line's verdict tells beside its number: "26 also tells which of 6 to 10 it was, with the byte in the line" (request 104), and no other tells either.
 use Prim.Native.Nat.{ℕ, _+_, _<_, _≤_}
 use mathlib.Core.Path.{_≡_, refl, sym, _∙_}
-use mathlib.Core.Bool.{Bool, true, false, cond, _&&_}
+use mathlib.Core.Bool.{Bool, true, false, cond, not, _&&_, false≢true}
 use mathlib.Core.List.{List, [], _∷_}
 use native.Mathlib.Omega.{arith}
-use borrow.Author.Tests.{eqb-true, eq-eqb, ne-eqb}
+use borrow.Author.Tests.{eqb-true, eq-eqb, ne-eqb, not-true}
 use lib.Dec.{eqb, leb}
 use lib.ListN.{length, drop, length-drop}
 use Rattle.figures.specs.Bytes.{within}
@@ -23,6 +23,7 @@ use Rattle.instrument.proofs.Which.{put-which, put-within}
 use Rattle.state.specs.Entries.{entriesN, valueHeld}
 use Rattle.state.specs.Image.{stateIn, isImage}
 use Rattle.state.specs.declared.entries.State.{State}
+use Rattle.state.proofs.Images.{image-of}
 use Rattle.commands.specs.Shapes.{isEnded, textOf, indexesOf, orderOf}
 use Rattle.lines.specs.Verdicts.{verdictNumber, verdictWhich, verdictByte, fullVerdict, setBy, confBy, placeNamed}
 use Rattle.lines.specs.Verdicts.{wordVerdict, putBy, putVerdict, getBy, getVerdict, orderVerdict, lineVerdict}
@@ -32,15 +33,22 @@ use Rattle.lines.specs.declared.verdicts.Verdict.{Verdict}
 use Rattle.lines.specs.declared.verdicts.Verdict.the-variants.{Accepted, Unended, Long, ReadOnly, Parameter}
 use Rattle.lines.specs.declared.verdicts.Verdict.the-variants.{NeverPut, Full, NoEntry, Room, NoState}
 use Rattle.commands.proofs.Shape.{order-by}
+use Rattle.lines.proofs.Leaves.{calledIf}
 use Rattle.lines.proofs.Lookups.{value-found, named}
+use Rattle.lines.proofs.Replying.{laid-none}
 
 -- a fault of 6 to 10 at a byte of the word after `PUT/`, or neither
 abbrev pub tells : Verdict → Bool
 tells v =
     cond (eqb (verdictNumber v) 26) (within 6 10 (verdictWhich v) && within 4 19 (verdictByte v)) (eqb (verdictWhich v) 0 && eqb (verdictByte v) 0)
 
+-- 30 and 31, which have no reply
+abbrev pub unanswered : Verdict → Bool
+unanswered v = within 30 31 (verdictNumber v)
+
+-- what every line's verdict is before the room is looked at: neither of these, and what it tells is right
 abbrev Tells : Verdict → Type 0
-Tells v = tells v ≡ true
+Tells v = tells v && not (unanswered v) ≡ true
 
 cond-tells : (b : Bool) (v w : Verdict) → Tells v → Tells w → Tells (cond b v w)
 cond-tells true v w p q = p
@@ -83,8 +91,8 @@ get-tells values (n ∷ ns) = by (valuePlace n) (get-tells values ns)
     by Nothing later = refl
     by (At i) later = cond-tells (isPut (valueHeld values i .kept)) _ NeverPut later refl
 
-pub line-tells : (s : State) (line : List ℕ) → Tells (lineVerdict s line)
-line-tells s line =
+line-told : (s : State) (line : List ℕ) → Tells (lineVerdict s line)
+line-told s line =
     let t = textOf line in
     let order : Tells (orderVerdict s t (orderOf t)) =
     order-by (λ (o : Order). Tells (orderVerdict s t o)) t refl refl
@@ -96,19 +104,26 @@ line-tells s line =
     (λ _. refl) in
     cond-tells (isEnded line) _ Unended (cond-tells (leb (length t) 100) _ Long order refl) refl
 
+pub line-tells : (s : State) (line : List ℕ) → tells (lineVerdict s line) ≡ true
+line-tells s line = both (tells (lineVerdict s line)) (not (unanswered (lineVerdict s line))) (line-told s line) .0
+
+pub line-answered : (s : State) (line : List ℕ) → unanswered (lineVerdict s line) ≡ false
+line-answered s line =
+    not-true (unanswered (lineVerdict s line)) (both (tells (lineVerdict s line)) (not (unanswered (lineVerdict s line))) (line-told s line) .1)
+
 -- 30 and 31 tell neither
-pub step-tells : (s : State) (line : List ℕ) (room : ℕ) → Tells (step s line room .verdict)
+pub step-tells : (s : State) (line : List ℕ) (room : ℕ) → tells (step s line room .verdict) ≡ true
 step-tells s line room = by (leb (length (run s line .reply)) room)
   where
-    by : (b : Bool) → Tells (cond b (run s line) (outcome Room [] s) .verdict)
+    by : (b : Bool) → tells (cond b (run s line) (outcome Room [] s) .verdict) ≡ true
     by true = line-tells s line
     by false = refl
 
-pub call-tells : (image line room : List ℕ) → Tells (call image line room .answer .verdict)
+pub call-tells : (image line room : List ℕ) → tells (call image line room .answer .verdict) ≡ true
 call-tells image line room = by (isImage image)
   where
     by : (b : Bool)
-        → Tells (cond b (played (step (stateIn image) line (length room)) room) (record { answer = told NoState 0; image = image; room = room }) .answer .verdict)
+        → tells (cond b (played (step (stateIn image) line (length room)) room) (record { answer = told NoState 0; image = image; room = room }) .answer .verdict) ≡ true
     by true = step-tells (stateIn image) line (length room)
     by false = refl
 
@@ -141,3 +156,21 @@ call-word image line room e = word-tells (call image line room .answer .verdict)
 pub call-other : (image line room : List ℕ) → let v = call image line room .answer .verdict in (verdictNumber v ≡ 26 → ⊥)
     → (verdictWhich v ≡ 0) × (verdictByte v ≡ 0)
 call-other image line room e = other-tells (call image line room .answer .verdict) (call-tells image line room) e
+
+-- 30 and 31: "nothing written or changed"
+pub call-unanswered : (image line room : List ℕ) → let c = call image line room in unanswered (c .answer .verdict) ≡ true
+    → (c .answer .count ≡ 0) × ((c .image ≡ image) × (c .room ≡ room))
+call-unanswered image line room none = by (isImage image) refl none
+  where
+    s : State
+    s = stateIn image
+
+    fits : (is : isImage image ≡ true) (b : Bool) → let c = played (cond b (run s line) (outcome Room [] s)) room in unanswered (c .answer .verdict) ≡ true
+        → (c .answer .count ≡ 0) × ((c .image ≡ image) × (c .room ≡ room))
+    fits is true e = absurd (false≢true (sym (line-answered s line) ∙ e))
+    fits is false e = (refl, (sym (image-of image is .1), laid-none room))
+
+    by : (is : Bool) → isImage image ≡ is → unanswered (calledIf image line room is .answer .verdict) ≡ true
+        → (calledIf image line room is .answer .count ≡ 0) × ((calledIf image line room is .image ≡ image) × (calledIf image line room is .room ≡ room))
+    by true is e = fits is (leb (length (run s line .reply)) (length room)) e
+    by false is e = (refl, (refl, refl))

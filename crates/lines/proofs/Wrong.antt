@@ -3,6 +3,7 @@ use Prim.Native.Nat.{ℕ, _+_, _≤_}
 use mathlib.Core.Path.{_≡_, refl, sym, ap, subst, _∙_}
 use mathlib.Core.Bool.{Bool, true, false, cond, false≢true}
 use mathlib.Core.List.{List, [], _∷_, _++_}
+use native.Mathlib.Omega.{arith}
 use borrow.Author.Tests.{eqb-false}
 use lib.Dec.{eqb}
 use lib.ListN.{length}
@@ -149,14 +150,21 @@ pub refuses-all : (k : Series) (m : Machine) → ((n : ℕ) (s : State) (line : 
 refuses-all k m none h =
     false≢true (sym (none 0 (factoryState k) set-50 enough) ∙ ap (λ (o : Outcome). isAccepted (o .verdict)) (at-first k m h set-50) ∙ set-accepted k)
 
--- it answers `?` to all, in the factory state at least
-pub agrees-to-all : (k : Series) (m : Machine) → ((line : List ℕ) (room : ℕ) → m 0 (factoryState k) line room .reply ≡ done ++ replyEnd (factoryState k))
+done-fits : (k : Series) → length (done ++ replyEnd (factoryState k)) ≤ enough
+unfolding computing
+done-fits Tps100 = omega arith
+done-fits Tps300 = omega arith
+
+-- it answers `?` to all where that fits, in the factory state at least
+pub agrees-to-all : (k : Series) (m : Machine)
+    → ((line : List ℕ) (room : ℕ) → let r = done ++ replyEnd (factoryState k) in length r ≤ room → m 0 (factoryState k) line room .reply ≡ r)
     → Exact k m → ⊥
 agrees-to-all k m all h =
-    eqb-false _ _ (empty-refused k) (ap length (sym (all [] enough) ∙ ap (λ (o : Outcome). o .reply) (at-first k m h [])))
+    eqb-false _ _ (empty-refused k) (ap length (sym (all [] enough (done-fits k)) ∙ ap (λ (o : Outcome). o .reply) (at-first k m h [])))
 
 -- and so in every state, ended "as setting 73 said before the line"
-pub agrees-everywhere : (k : Series) (m : Machine) → ((n : ℕ) (s : State) (line : List ℕ) (room : ℕ) → m n s line room .reply ≡ done ++ replyEnd s)
+pub agrees-everywhere : (k : Series) (m : Machine)
+    → ((n : ℕ) (s : State) (line : List ℕ) (room : ℕ) → length (done ++ replyEnd s) ≤ room → m n s line room .reply ≡ done ++ replyEnd s)
     → Exact k m → ⊥
 agrees-everywhere k m all = agrees-to-all k m (all 0 (factoryState k))
 

@@ -5,6 +5,7 @@ use mathlib.Core.List.{List, [], _++_}
 use mathlib.Core.Bool.{Bool, true, _||_}
 use lib.ListN.{length, getD, drop}
 use Rattle.figures.specs.Bytes.{startsWith, laid}
+use Rattle.figures.specs.Text.{starBytes}
 use Rattle.words.specs.Reading.{wordSize}
 use Rattle.state.specs.Entries.{contentsOf, contentsBack}
 use Rattle.state.specs.declared.entries.Item.{Item}
@@ -20,9 +21,9 @@ use Rattle.commands.specs.Shapes.{conf-slash, get-i, groupsRight, groupsIn, ord
 use Rattle.lines.specs.Verdicts.{setVerdict, placeNamed, getBy, orderVerdict}
 use Rattle.commands.specs.declared.shapes.Order.{Order}
 use Rattle.lines.specs.declared.verdicts.Verdict.the-variants.{Accepted}
-use Rattle.lines.specs.Replies.{wordAt, star}
+use Rattle.lines.specs.Replies.{wordAt}
 
--- how the code tells an accepted line that alters nothing: by how it starts
+-- how the code tells an accepted line that alters nothing: by how it starts; `asking-asks`, in proofs/Leaves.antt, shows that such a line asks
 abbrev pub isAsking : List ℕ → Bool
 isAsking line = startsWith conf-slash line || startsWith get-i line
 
@@ -50,7 +51,8 @@ bareState k count = record { series = k; settings = []; values = []; undo = []; 
 abbrev pub setVerdictBy : Series → ℕ → ℕ → ℕ → Verdict
 setVerdictBy k count n p = setVerdict (bareState k count) n p
 
--- GET's indexes are walked group by group, `/WI` and two digits each
+-- GET's indexes are walked group by group, `/WI` and two digits each; `groups-verdict` and `groups-words`, in proofs/Lookups.antt, show that this is
+-- `getVerdict` and `getWords` of the indexes
 unfoldable pub groupsVerdict : List Value → ℕ → List ℕ → Verdict
 groupsVerdict values zero g = Accepted
 groupsVerdict values (suc n) g = getBy values (placeNamed (getD g 3 0) (getD g 4 0)) (groupsVerdict values n (drop 5 g))
@@ -60,7 +62,7 @@ groupsWords wide values zero g = []
 groupsWords wide values (suc n) g = wordAt wide values (placeNamed (getD g 3 0) (getD g 4 0)) ++ groupsWords wide values n (drop 5 g)
 
 abbrev pub groupsBody : Bool → List Value → ℕ → List ℕ → List ℕ
-groupsBody wide values n g = star wide ++ groupsWords wide values n g
+groupsBody wide values n g = starBytes wide ++ groupsWords wide values n g
 
 -- what a GET's words may rely on: they are accepted, and what is answered fits
 pub record GetFits (values : List Value) (g body room : List ℕ) : Type 0 where
@@ -68,6 +70,10 @@ pub record GetFits (values : List Value) (g body room : List ℕ) : Type 0 where
   pub accepted : groupsVerdict values (groupsIn g) g ≡ Accepted
   pub fits : length body ≤ length room
 
+-- the longest reply: a `*`, the 19 wide words that 100 characters can ask for, and CR LF
+abbrev pub replyMost : ℕ
+replyMost = 1 + 19 * 24 + 2
+
 -- how long the words of so many indexes are
 abbrev pub getN : Bool → ℕ → ℕ
-getN wide n = length (star wide) + n * wordSize wide
+getN wide n = length (starBytes wide) + n * wordSize wide

@@ -4,7 +4,7 @@ use mathlib.Core.Bool.{Bool, cond, not}
 use mathlib.Core.List.{List, [], _++_, flatMap}
 use lib.Dec.{eqb}
 use lib.ListN.{getD}
-use Rattle.figures.specs.Text.{codes, endBytes}
+use Rattle.figures.specs.Text.{codes, endBytes, starBytes}
 use Rattle.figures.specs.Decimal.{digitsOf}
 use Rattle.instrument.specs.Settings.{settingPlace, parameterOf}
 use Rattle.instrument.specs.Values.{valuePlace, getWord, wordIn}
@@ -54,11 +54,8 @@ getWords wide values = flatMap (λ n. wordAt wide values (valuePlace n))
 abbrev pub answersWide : State → Bool
 answersWide s = not (eqb (parameterOf (s .series) (s .settings) 137) 0)
 
-abbrev pub star : Bool → List ℕ
-star wide = cond wide (codes "*") []
-
 abbrev pub getBody : Bool → List Value → List ℕ → List ℕ
-getBody wide values indexes = star wide ++ getWords wide values indexes
+getBody wide values indexes = starBytes wide ++ getWords wide values indexes
 
 -- the reply to an accepted line, without its end
 abbrev pub bodyOf : State → List ℕ → Order → List ℕ

@@ -1,11 +1,12 @@
 -- Refusals 20 to 31, 38 and 39: "Order: 31, then 20 to 29 as numbered (GET judges its first index by 25 then 27, then the next likewise), then 30", with
--- 39 right after 22 and 38 right after 23.
+-- 39 right after 22 and 38 right after 23. 30 and 31 have their number here, and are given by `replyInRoom` and `call` (Machine.antt).
 use Prim.Native.Nat.{ℕ, _+_}
 use mathlib.Core.Bool.{Bool, cond}
 use mathlib.Core.List.{List, foldr}
 use lib.Dec.{eqb, leb}
 use lib.ListN.{length, drop}
-use Rattle.units.specs.Kinds.{indexOf, areDigits}
+use Rattle.figures.specs.Decimal.{areDigits}
+use Rattle.units.specs.Kinds.{indexOf}
 use Rattle.words.specs.Reading.{faultNumber, pos}
 use Rattle.words.specs.declared.reading.Fault.{Fault}
 use Rattle.words.specs.declared.reading.Judged as one

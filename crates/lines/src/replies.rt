@@ -8,9 +8,9 @@ ghost use Rattle.words.specs.Reading.{wordSize};
 ghost use Rattle.instrument.specs.Values.{wordIn};
 ghost use Rattle.commands.specs.Shapes.{groupsIn};
 ghost use Rattle.lines.specs.Verdicts.{confVerdict};
-ghost use Rattle.lines.specs.Replies.{endsLf, answersWide, replyEnd, warning, confBody, star, bodyOf};
+ghost use Rattle.lines.specs.Replies.{endsLf, answersWide, replyEnd, warning, confBody, bodyOf};
 ghost use Rattle.lines.specs.Keeping.{groupsWords, groupsBody, GetFits, getN, Accepts};
-ghost use Rattle.figures.specs.Text.{endBytes};
+ghost use Rattle.figures.specs.Text.{endBytes, starBytes};
 ghost use Rattle.lines.specs.declared.verdicts.Verdict as Verdict;
 use crate::verdicts::place_named;
 use crate::verdicts::setting_of;
@@ -76,7 +76,7 @@ fn put_text(w: &[u8], lf: bool, room: &mut [u8])
 
 // Lays the `*` of wide words, and answers its length.
 fn put_star(wide: bool, room: &mut [u8]) -> usize
-    ensures { λ r. ⌜ (r ≡ length (star wide)) × (now (room .exit) ≡ laid (star wide) (now (room .entry))) ⌝ }
+    ensures { λ r. ⌜ (r ≡ length (starBytes wide)) × (now (room .exit) ≡ laid (starBytes wide) (now (room .entry))) ⌝ }
 {
     if wide {
         figures::lay(b"*", room);

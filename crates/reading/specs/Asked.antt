@@ -1,4 +1,4 @@
--- "`./gsi reading level < FILE` reads a level's file"; with no argument the file is a total station's, and anything else is answered with the usage.
+-- What the program's arguments ask for: `level` alone a level's file, no argument a total station's; anything else is answered with the usage.
 use Prim.Native.Nat.{ℕ}
 use mathlib.Core.Bool.{cond}
 use mathlib.Core.List.{List}

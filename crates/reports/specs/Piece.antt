@@ -5,7 +5,7 @@ use mathlib.Core.Path.{_≡_}
 use mathlib.Core.Bool.{Bool, true, false, cond}
 use mathlib.Core.List.{List, [], _∷_, _++_, map}
 use lib.ListN.{take}
-use Rattle.figures.specs.Text.{codes}
+use Rattle.figures.specs.Text.{codes, cr}
 use Rattle.figures.specs.Bytes.{runOf, isOther}
 use Rattle.figures.specs.Pointing.{shown, caretText}
 use Rattle.figures.specs.Decimal.{decimalOf}
@@ -68,7 +68,7 @@ abbrev pub textMost : ℕ
 textMost = 770
 
 abbrev pub textIn : List ℕ → List ℕ
-textIn piece = take (min (runOf (isOther 13) piece) textMost) piece
+textIn piece = take (min (runOf (isOther cr) piece) textMost) piece
 
 -- and under it a caret at the byte, so that nobody counts columns (request 104)
 abbrev pub whereText : List ℕ → ℕ → List ℕ

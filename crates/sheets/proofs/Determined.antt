@@ -11,7 +11,7 @@ use Rattle.figures.proofs.Determined.{by-equation, by-two}
 use Rattle.sheets.specs.Answers.{sheetNumber, sheetTells}
 use Rattle.sheets.specs.Sheet.{writtenSheet, WritesSheet}
 use Rattle.sheets.specs.Loading.{loaded, Loads}
-use Rattle.sheets.specs.Playing.{printed, Plays}
+use Rattle.sheets.specs.Playing.{printed, Prints}
 use Rattle.sheets.specs.declared.answers.Sheeted.{Sheeted}
 
 pub sheet-number-determined : Determined Sheeted ℕ (λ i r. r ≡ sheetNumber i)
@@ -29,7 +29,7 @@ pub write-determined : Determined (List ℕ × List ℕ) (Sheeted × List ℕ) (
 write-determined = by-two (List ℕ × List ℕ) Sheeted (List ℕ) (λ i. writtenSheet (i .0) (i .1) .answer) (λ i. writtenSheet (i .0) (i .1) .room)
 
 -- an input and a room go in; the count and the room come out
-pub play-determined : Determined (List ℕ × List ℕ) (ℕ × List ℕ) (λ i o. Plays (i .0) (i .1) (o .0) (o .1))
+pub play-determined : Determined (List ℕ × List ℕ) (ℕ × List ℕ) (λ i o. Prints (i .0) (i .1) (o .0) (o .1))
 play-determined =
     by-two (List ℕ × List ℕ) ℕ (List ℕ) (λ i. cond (leb (length (printed (i .0))) (length (i .1))) (length (printed (i .0))) 0)
     (λ i. cond (leb (length (printed (i .0))) (length (i .1))) (laid (printed (i .0)) (i .1)) (i .1))

@@ -13,14 +13,14 @@ use Rattle.sheets.specs.Sheet.{sheetOf}
 use Rattle.pieces.specs.Pieces.{pieces}
 use Rattle.sheets.specs.Playing.{callOf, inputMost, printed}
 use Rattle.sheets.proofs.Sheets.{sheet-contents}
-use Rattle.sheets.proofs.Reached.{factoryState, reached, printed-sheet}
+use Rattle.sheets.proofs.Reached.{factory100, reached, printed-sheet}
 
 -- the start with some contents
 abbrev pub startWith : Contents → State
 startWith c = noEntries (c .series) (c .settings) (c .values)
 
 pub printed-played : (input : List ℕ) → length input ≤ inputMost
-    → printed input ≡ sheetOf (startWith (playAll (contentsOf factoryState) (standing factoryState (map callOf (pieces input)))))
+    → printed input ≡ sheetOf (startWith (playAll (contentsOf factory100) (standing factory100 (map callOf (pieces input)))))
 printed-played input h =
     printed-sheet input h ∙ sheet-contents (reached input)
-    ∙ ap (λ (c : Contents). sheetOf (startWith c)) (played factoryState (factory-start Tps100) (map callOf (pieces input)))
+    ∙ ap (λ (c : Contents). sheetOf (startWith c)) (played factory100 (factory-start Tps100) (map callOf (pieces input)))

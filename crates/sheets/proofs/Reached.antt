@@ -18,15 +18,15 @@ use Rattle.lines.proofs.States.{after-state}
 use Rattle.lines.proofs.Hosted.{hosted}
 use Rattle.sheets.specs.Sheet.{sheetOf, Sheet·room, sheetInRoom, writtenSheet, WritesSheet}
 use Rattle.pieces.specs.Pieces.{pieces}
-use Rattle.sheets.specs.Playing.{callOf, refusedInput, inputMost, printed, Plays}
+use Rattle.sheets.specs.Playing.{callOf, refusedInput, inputMost, printed, Prints}
 use Rattle.sheets.specs.Keeping.{lentOf, runBy}
 use Rattle.sheets.specs.declared.answers.Sheeted.{Sheeted}
 use Rattle.sheets.specs.declared.answers.Sheeted.the-variants.{NoState, Room, Wrong, Written, Loaded}
 use Rattle.sheets.proofs.Images.{image-writes}
 
 -- the program plays a TPS100
-abbrev pub factoryState : State
-factoryState = entries.factoryState Tps100
+abbrev pub factory100 : State
+factory100 = entries.factoryState Tps100
 
 pub run-after : (ls : List (List ℕ)) (s : State) → isState s ≡ true → runBy ls (imageOf s) ≡ imageOf (after s (map callOf ls))
 run-after ls s e =
@@ -34,10 +34,10 @@ run-after ls s e =
 
 -- the state that an input is played to
 abbrev pub reached : List ℕ → State
-reached input = after factoryState (map callOf (pieces input))
+reached input = after factory100 (map callOf (pieces input))
 
 pub reached-state : (input : List ℕ) → isState (reached input) ≡ true
-reached-state input = after-state factoryState (map callOf (pieces input)) (factory-is-state Tps100)
+reached-state input = after-state factory100 (map callOf (pieces input)) (factory-is-state Tps100)
 
 pub printed-sheet : (input : List ℕ) → length input ≤ inputMost → printed input ≡ sheetOf (reached input)
 printed-sheet input h = rw (le-leb (length input) inputMost h)
@@ -46,10 +46,10 @@ pub printed-refused : (input : List ℕ) → inputMost < length input → printe
 printed-refused input h = rw (lt-leb (length input) inputMost h)
 
 -- what the write of the image that the pieces are run to comes to
-pub write-printed : (input image room room′ : List ℕ) (answer : Sheeted) → length input ≤ inputMost → image ≡ runBy (pieces input) (imageOf factoryState)
+pub write-printed : (input image room room′ : List ℕ) (answer : Sheeted) → length input ≤ inputMost → image ≡ runBy (pieces input) (imageOf factory100)
     → WritesSheet image room answer room′ → (answer ≡ sheetInRoom (printed input) room .answer) × (room′ ≡ sheetInRoom (printed input) room .room)
 write-printed input image room room′ answer h ei w =
-    let is : image ≡ imageOf (reached input) = ei ∙ run-after (pieces input) factoryState (factory-is-state Tps100) in
+    let is : image ≡ imageOf (reached input) = ei ∙ run-after (pieces input) factory100 (factory-is-state Tps100) in
     let out : writtenSheet image room ≡ sheetInRoom (printed input) room =
     ap (λ (i : List ℕ). writtenSheet i room) is ∙ image-writes (reached input) room (reached-state input)
     ∙ ap (λ (l : List ℕ). sheetInRoom l room) (sym (printed-sheet input h))
@@ -78,8 +78,8 @@ fitted-tells sheet room = by (leb (length sheet) (length room))
     by true = (refl, refl)
     by false = (refl, refl)
 
-pub plays-printed : (input image room room′ : List ℕ) (answer : Sheeted) (r : ℕ) → length input ≤ inputMost → image ≡ runBy (pieces input) (imageOf factoryState)
-    → WritesSheet image room answer room′ → r ≡ writtenN answer → Plays input room r room′
+pub plays-printed : (input image room room′ : List ℕ) (answer : Sheeted) (r : ℕ) → length input ≤ inputMost → image ≡ runBy (pieces input) (imageOf factory100)
+    → WritesSheet image room answer room′ → r ≡ writtenN answer → Prints input room r room′
 plays-printed input image room room′ answer r h ei w er =
     let p = write-printed input image room room′ answer h ei w in
     let t = fitted-tells (printed input) room in
@@ -87,8 +87,8 @@ plays-printed input image room room′ answer r h ei w er =
 
 -- a longer input is refused
 
-pub plays-short : (input room : List ℕ) → inputMost < length input → length room < 14 → Plays input room 0 room
+pub plays-short : (input room : List ℕ) → inputMost < length input → length room < 14 → Prints input room 0 room
 plays-short input room h k = rw (printed-refused input h, lt-leb 14 (length room) k) (refl, refl)
 
-pub plays-refused : (input room room′ : List ℕ) → inputMost < length input → 14 ≤ length room → room′ ≡ laid refusedInput room → Plays input room 14 room′
+pub plays-refused : (input room room′ : List ℕ) → inputMost < length input → 14 ≤ length room → room′ ≡ laid refusedInput room → Prints input room 14 room′
 plays-refused input room room′ h k e = rw (printed-refused input h, le-leb 14 (length room) k) (refl, e)

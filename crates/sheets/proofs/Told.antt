@@ -1,5 +1,5 @@
--- What a sheet's answer tells is at most the length of the longest sheet.
-use Prim.Native.Nat.{ℕ, _≤_}
+-- What a sheet's answer tells is at most the length of the longest sheet; and a sheet that is refused leaves the room.
+use Prim.Native.Nat.{ℕ, _<_, _≤_}
 use mathlib.Core.Path.{_≡_, refl}
 use mathlib.Core.Bool.{Bool, true, false, cond}
 use mathlib.Core.List.{List}
@@ -12,7 +12,7 @@ use Rattle.figures.proofs.Bytes.{starts-length}
 use Rattle.state.specs.Image.{seriesIn, stateIn, isImage}
 use Rattle.state.proofs.Images.{image-of}
 use Rattle.instrument.specs.declared.settings.Series.{Series}
-use Rattle.sheets.specs.Answers.{sheetTells}
+use Rattle.sheets.specs.Answers.{sheetNumber, sheetTells}
 use Rattle.sheets.specs.Sheet.{sheetOf, Sheet·room, writtenSheet}
 use Rattle.sheets.specs.Loading.{wrong, loadingOf, loaded}
 use Rattle.sheets.specs.Keeping.{sheetMost}
@@ -48,3 +48,18 @@ written-most image room = by (isImage image) (leb (length sheet) (length room)) 
     by true true e = sheet-below (stateIn image) (image-of image e .0)
     by true false e = omega arith
     by false fits e = omega arith
+
+-- 31 and 30: nothing is written
+pub written-refused : (image room : List ℕ) → 0 < sheetNumber (writtenSheet image room .answer) → writtenSheet image room .room ≡ room
+written-refused image room = by (isImage image) (leb (length sheet) (length room))
+  where
+    sheet : List ℕ
+    sheet = sheetOf (stateIn image)
+
+    by : (t fits : Bool) →
+        let whole : Sheet·room = record { answer = answer.Written (length sheet); room = laid sheet room } in
+        let o : Sheet·room = cond t (cond fits whole (record { answer = answer.Room; room = room })) (record { answer = answer.NoState; room = room }) in
+        0 < sheetNumber (o .answer) → o .room ≡ room
+    by true true h = absurd (omega arith)
+    by true false h = refl
+    by false fits h = refl

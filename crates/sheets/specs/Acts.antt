@@ -4,16 +4,15 @@ use mathlib.Core.Path.{_≡_}
 use mathlib.Core.Bool.{true}
 use mathlib.Core.List.{List, []}
 use lib.ListN.{length}
-use Rattle.instrument.specs.Settings.{padded}
-use Rattle.state.specs.Entries.{noEntries, Contents, contentsOf, isState}
+use Rattle.state.specs.Entries.{Contents, contentsOf, isState}
 use Rattle.state.specs.declared.entries.State.{State}
 use Rattle.commands.specs.Shapes.{isEnded, textOf, orderOf}
 use Rattle.commands.specs.declared.shapes.Order.the-variants.{Undo}
 use Rattle.lines.specs.Verdicts.{isAccepted}
 use Rattle.lines.specs.Machine.{run, step}
 use Rattle.lines.specs.Sessions.{Exchange, session, called}
-use Rattle.lines.specs.Demand.{Mark, marked, playAll, stands}
-use Rattle.sheets.specs.Loading.{Loading, wrong, right, loadingOf, loaded}
+use Rattle.lines.specs.Demand.{Mark, follows, playAll, stands}
+use Rattle.sheets.specs.Loading.{Loading, wrong, right, loadingOf, loadedState, loaded}
 
 -- a line with the room for its reply, by its length or as a host lends it, or a sheet to be loaded
 pub data Act (Room : Type 0) : Type 0 where
@@ -32,14 +31,13 @@ startsAt s = record { state = s; start = contentsOf s; standing = [] }
 -- a loaded sheet is a start; a refused one leaves everything
 abbrev pub traceLoad : Traced → Loading → Traced
 traceLoad t (wrong at) = t
-traceLoad t (right settings values) = startsAt (noEntries (t .state .series) (padded settings) values)
+traceLoad t (right settings values) = startsAt (loadedState (t .state .series) settings values)
 
 -- a load has no reply
 abbrev pub acted : Traced → Act ℕ → Exchange Traced
 acted t (sends line room) =
-    let o = step (t .state) line room in
-    let since = marked (t .state) (record { line = line; room = room }) (t .standing) in
-    record { left = record { state = o .next; start = t .start; standing = since }; reply = o .reply }
+    let e = follows (record { state = t .state; standing = t .standing }) (record { line = line; room = room }) in
+    record { left = record { state = e .left .state; start = t .start; standing = e .left .standing }; reply = e .reply }
 acted t (loads sheet) = record { left = traceLoad t (loadingOf (t .state .series) sheet); reply = [] }
 
 abbrev pub traced : State → List (Act ℕ) → Traced

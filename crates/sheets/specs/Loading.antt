@@ -10,6 +10,7 @@ use Rattle.instrument.specs.Settings.{settingsN, padded}
 use Rattle.instrument.specs.Values.{valuesN}
 use Rattle.state.specs.Entries.{noEntries}
 use Rattle.state.specs.Image.{imageOf, seriesIn, isImage}
+use Rattle.state.specs.declared.entries.State.{State}
 use Rattle.instrument.specs.declared.settings.Series.{Series}
 use Rattle.instrument.specs.declared.values.Value.{Value}
 use Rattle.sheets.specs.Lines.{Part, wrongAt, partBy}
@@ -52,10 +53,14 @@ pub record Loaded·image : Type 0 where
   pub answer : Sheeted
   pub image : List ℕ
 
+-- the state that a sheet of the series leads to: its settings and values, and no undo entry
+abbrev pub loadedState : Series → List ℕ → List Value → State
+loadedState k settings values = noEntries k (padded settings) values
+
 -- "makes the settings and stored values those it names and empties the undo list; otherwise refusal 40 .. leaves the state as it was"
 abbrev pub loadedBy : Series → List ℕ → Loading → Loaded·image
 loadedBy k image (wrong at) = record { answer = answer.Wrong at; image = image }
-loadedBy k image (right settings values) = record { answer = answer.Loaded; image = imageOf (noEntries k (padded settings) values) }
+loadedBy k image (right settings values) = record { answer = answer.Loaded; image = imageOf (loadedState k settings values) }
 
 abbrev pub loaded : List ℕ → List ℕ → Loaded·image
 loaded image sheet =

@@ -34,7 +34,7 @@ abbrev pub printed : List ℕ → List ℕ
 printed input = cond (leb (length input) inputMost) (sheetOf (after (factoryState Tps100) (map callOf (pieces input)))) refusedInput
 
 -- in a lent room: its length, and the room as it is then; nothing where it is too short
-abbrev pub Plays : List ℕ → List ℕ → ℕ → List ℕ → Type 0
-Plays input room r room′ =
+abbrev pub Prints : List ℕ → List ℕ → ℕ → List ℕ → Type 0
+Prints input room r room′ =
     (r ≡ cond (leb (length (printed input)) (length room)) (length (printed input)) 0)
     × (room′ ≡ cond (leb (length (printed input)) (length room)) (laid (printed input) room) room)

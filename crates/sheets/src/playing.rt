@@ -3,7 +3,7 @@ ghost use mathlib.Core.Path.{_≡_};
 ghost use Prim.Native.Nat.{_≤_, _<_};
 ghost use lib.ListN.{length, drop};
 ghost use Rattle.state.specs.Image.{imageN};
-ghost use Rattle.sheets.specs.Playing.{Plays};
+ghost use Rattle.sheets.specs.Playing.{Prints};
 ghost use Rattle.sheets.specs.Keeping.{Runs};
 use crate::answers::Sheeted;
 use crate::writing::write;
@@ -33,7 +33,7 @@ fn run(input: &[u8], image: &mut [u8])
 
 // Writes what the program prints for the input into the room, and answers its length; 0 and nothing written where the room is too short.
 pub fn play(input: &[u8], room: &mut [u8]) -> usize
-    ensures { λ r. ⌜ Plays (now (input .entry)) (now (room .entry)) r (now (room .exit)) ⌝ }
+    ensures { λ r. ⌜ Prints (now (input .entry)) (now (room .entry)) r (now (room .exit)) ⌝ }
 {
     if MOST < input.len() {
         if room.len() < 14 {

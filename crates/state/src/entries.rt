@@ -47,6 +47,7 @@ pub struct State {
     pub count: usize,
 }
 
+// Gives the entry that holds nothing.
 pub fn blank_entry() -> Entry
     ensures { λ r. ⌜ r ≡ blankEntry ⌝ }
 {

@@ -6,11 +6,11 @@ use mathlib.Core.List.{List, [], _∷_}
 use native.Mathlib.Omega.{arith}
 use borrow.Author.Tests.{eqb-true, ltb-true, ltb-false, lt-ltb, le-ltb}
 use lib.Dec.{eqb, ltb}
-use Rattle.figures.specs.Decimal.{isDigit, digitsOf}
+use Rattle.figures.specs.Decimal.{isDigit, digitsOf, areDigits}
 use Rattle.figures.proofs.Bytes.{within-bounds}
 use Rattle.figures.proofs.Tests.{both, by-test}
 use Rattle.units.specs.Classes.{number, text, numbered, classOf}
-use Rattle.units.specs.Kinds.{stationKind, levelKind, classKind, kindOf, isListed, areDigits, indexOf, threeOf, listedAt, indexBy, listedBy}
+use Rattle.units.specs.Kinds.{stationKind, levelKind, classKind, kindOf, isListed, indexOf, threeOf, listedAt, indexBy, listedBy}
 use Rattle.units.specs.Information.{isDot, isLead, levelMarks, allRight, infoRight, leadOf, headOf}
 use Rattle.units.specs.declared.kinds.Family.{Family}
 use Rattle.units.specs.declared.kinds.Family.the-variants.{Station, Level}

@@ -1,10 +1,10 @@
 -- Positions 1-3: the index of a word and its kind, by the family of instruments that the caller names.
 use Prim.Native.Nat.{ℕ, _+_, _-_, _*_}
-use mathlib.Core.Bool.{Bool, true, false, cond, _&&_, _||_}
+use mathlib.Core.Bool.{Bool, true, false, cond, _||_}
 use mathlib.Core.List.{[], _∷_}
 use lib.Dec.{eqb, ltb}
 use Rattle.figures.specs.Bytes.{within, among}
-use Rattle.figures.specs.Decimal.{isDigit}
+use Rattle.figures.specs.Decimal.{isDigit, areDigits}
 use Rattle.units.specs.Classes.{number, text, numbered, classOf}
 use Rattle.units.specs.declared.kinds.Family.{Family}
 use Rattle.units.specs.declared.kinds.Family.the-variants.{Station, Level}
@@ -64,9 +64,6 @@ isTextual Pair = false
 -- the index that two digits say
 abbrev pub indexOf : ℕ → ℕ → ℕ
 indexOf tens ones = (tens - 48) * 10 + (ones - 48)
-
-abbrev pub areDigits : ℕ → ℕ → Bool
-areDigits tens ones = isDigit tens && isDigit ones
 
 abbrev pub namedBy : ℕ → ℕ → Named
 namedBy tens ones = cond (areDigits tens ones) (named.Index (indexOf tens ones)) named.Not

@@ -2,7 +2,8 @@
 ghost use mathlib.Core.Path.{_≡_};
 ghost use Prim.Native.Nat.{_<_};
 ghost use mathlib.Core.Bool.{true};
-ghost use Rattle.units.specs.Kinds.{stationKind, levelKind, classKind, kindOf, isTextual, areDigits, indexOf, namedBy, ofKind, levelAt, indexAt};
+ghost use Rattle.figures.specs.Decimal.{areDigits};
+ghost use Rattle.units.specs.Kinds.{stationKind, levelKind, classKind, kindOf, isTextual, indexOf, namedBy, ofKind, levelAt, indexAt};
 use crate::classes::class_of;
 use figures::casts::figure;
 

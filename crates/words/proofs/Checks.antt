@@ -10,10 +10,10 @@ use lib.Dec.{leb}
 use lib.ListN.{length, take, drop, length-drop, drop-of-length-le}
 use lib.Seq.{take-all, length-take-le}
 use Rattle.figures.specs.Bytes.{every, runOf}
-use Rattle.figures.specs.Decimal.{isDigit, numberOf, numberIn}
+use Rattle.figures.specs.Decimal.{isDigit, numberOf, numberIn, areDigits}
 use Rattle.figures.specs.declared.Said.{Said}
 use Rattle.figures.specs.declared.Said.the-variants as said
-use Rattle.units.specs.Kinds.{isTextual, kindOf, areDigits, firstOther, indexOf, listedAt, indexAt, listedBy, indexBy}
+use Rattle.units.specs.Kinds.{isTextual, kindOf, firstOther, indexOf, listedAt, indexAt, listedBy, indexBy}
 use Rattle.units.proofs.Positions.{two-digits}
 use Rattle.units.proofs.Levels.{listed-kind, no-other}
 use Rattle.units.specs.Information.{isSign, signRight, signOf, signAt}

@@ -8,7 +8,8 @@ use borrow.Author.Tests.{le-leb}
 use lib.Dec.{eqb}
 use lib.ListN.{length, getD, take, drop, length-append, take-append-drop}
 use lib.Seq.{take-at, getD-at, getD-drop, drop-drop, drop-cons, length-take-le}
-use Rattle.units.specs.Kinds.{kindOf, indexBy, areDigits, firstOther, listedBy}
+use Rattle.figures.specs.Decimal.{areDigits}
+use Rattle.units.specs.Kinds.{kindOf, indexBy, firstOther, listedBy}
 use Rattle.units.specs.Information.{infoMarks, allRight, firstWrong, leadOf, signOf, signRight}
 use Rattle.units.specs.declared.information.Marks.{Marks}
 use Rattle.units.specs.Counts.{valueAt}

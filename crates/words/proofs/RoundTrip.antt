@@ -8,8 +8,8 @@ use borrow.Author.Tests.{leb-true, eqb-true, eq-eqb}
 use lib.Dec.{eqb, leb}
 use lib.ListN.{length, getD, take, drop, drop-of-length-le}
 use lib.Seq.{drop-cons}
-use Rattle.figures.specs.Decimal.{isDigit}
-use Rattle.units.specs.Kinds.{kindOf, areDigits, listedBy}
+use Rattle.figures.specs.Decimal.{isDigit, areDigits}
+use Rattle.units.specs.Kinds.{kindOf, listedBy}
 use Rattle.units.specs.Information.{allRight, infoRight, leadOf, headOf, signByte, signOf, signRight}
 use Rattle.units.specs.Counts.{whole, firstOf, secondOf, figuresOf}
 use Rattle.words.specs.Records.{width, kindIn, unitIn, countOf, countRight, textRight, sameWhole, isRight}

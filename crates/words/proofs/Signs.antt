@@ -8,9 +8,9 @@ use native.Mathlib.Omega.{arith}
 use lib.Dec.{eqb, leb, ltb}
 use lib.ListN.{length, getD, length-append}
 use Rattle.figures.specs.Bytes.{every, runOf}
-use Rattle.figures.specs.Decimal.{isDigit, numberOf}
+use Rattle.figures.specs.Decimal.{isDigit, numberOf, areDigits}
 use Rattle.figures.proofs.Tests.{clash}
-use Rattle.units.specs.Kinds.{kindOf, indexBy, areDigits, firstOther, listedBy, isTextual}
+use Rattle.units.specs.Kinds.{kindOf, indexBy, firstOther, listedBy, isTextual}
 use Rattle.units.specs.Information.{infoMarks, allRight, firstWrong, infoRight, leadOf, isSign, signOf, signRight}
 use Rattle.units.specs.Counts.{whole, zeroWhole, degrees, minutes, seconds, tenthsOf, counted, angleAt, valueAt, firstOf, secondOf, gonLimit, degreeLimit, milLimit}
 use Rattle.words.specs.Records.{width, kindIn, unitIn, countBy, countRight, sameWhole, textRight, isRight, typedOf}

@@ -6,9 +6,9 @@ use mathlib.Core.List.{List}
 use native.Mathlib.Omega.{arith}
 use lib.Dec.{eqb, leb}
 use lib.ListN.{length, getD, drop, length-take}
-use Rattle.figures.specs.Decimal.{isDigit}
+use Rattle.figures.specs.Decimal.{isDigit, areDigits}
 use Rattle.figures.proofs.Tests.{clash}
-use Rattle.units.specs.Kinds.{areDigits, firstOther, listedBy}
+use Rattle.units.specs.Kinds.{firstOther, listedBy}
 use Rattle.units.specs.Information.{allRight, signRight}
 use Rattle.units.proofs.Positions.{first-most}
 use Rattle.words.specs.Records.{width}

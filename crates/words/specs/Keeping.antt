@@ -47,7 +47,8 @@ spelledAt kind.Pair d = pairAt d
 abbrev pub partedAt : ℕ → Parted
 partedAt b = cond (eqb b (byte " ")) parted.Blank parted.Not
 
--- what is left of `wordOf` where positions 1-7 are right, by what they say: index, kind, information, unit, sign; then data and separator
+-- what is left of `wordOf` where positions 1-7 are right, by what they say: index, kind, information, unit, sign; then data and separator. `listedWord`,
+-- below, goes on with it
 abbrev pub dataWord : ℕ → Kind → List ℕ → ℕ → ℕ → List ℕ → ℕ → OneWord
 dataWord i k info u m d b =
     let value = valueAt k i u m (figuresIn k d) in

@@ -7,8 +7,8 @@ use lib.Dec.{eqb, leb}
 use lib.ListN.{length, getD, take, drop, replicate}
 use Rattle.figures.specs.Text.{byte}
 use Rattle.figures.specs.Bytes.{laid}
-use Rattle.figures.specs.Decimal.{isDigit, numberOf}
-use Rattle.units.specs.Kinds.{kindOf, indexBy, areDigits, firstOther, listedBy, isTextual}
+use Rattle.figures.specs.Decimal.{isDigit, numberOf, areDigits}
+use Rattle.units.specs.Kinds.{kindOf, indexBy, firstOther, listedBy, isTextual}
 use Rattle.units.specs.Information.{infoMarks, allRight, firstWrong, leadOf, isSign, signOf, signRight}
 use Rattle.units.specs.declared.information.Marks.{Marks}
 use Rattle.units.specs.Counts.{valueAt}

@@ -5,6 +5,7 @@ use lib.ListN.{length, getD, replicate}
 use native.Mathlib.Omega.{arith}
 use borrow.Author.Needs.{needs}
 use lib.Seq.{length-take-le}
+use Rattle.lines.specs.Keeping.{replyMost}
 use Rattle.port.specs.declared.Turn.{Turn}
 use Rattle.port.proofs.Hearing.{heard-fits}
 use Rattle.standin.proofs.turn.Statement.{statement}
@@ -15,7 +16,7 @@ fits c =
     let read = c .before .before .before .before .before in
     let a = read .before .before .before .args in
     let heard = ap (λ (t : Turn). t .told .count) (c .hear .ensures .0) in
-    let within = heard-fits (a .image .now) (a .port) (getD (read .read .last .1 .0) 0 0) (replicate 459 0) in
+    let within = heard-fits (a .image .now) (a .port) (getD (read .read .last .1 .0) 0 0) (replicate replyMost 0) in
     omega (arith, heard, within, c .hear .kept .1 .1 .1 .0)
 
 array-share-prefix-room : tie.Need-array-share-prefix-room

@@ -7,7 +7,8 @@ use native.Mathlib.Omega.{arith}
 use borrow.Author.Needs.{needs}
 use lib.ListN.{length, take, replicate}
 use Rattle.figures.specs.Bytes.{laid}
-use Rattle.blocks.specs.Composing.{starBytes, wordsBytes, blockBytes}
+use Rattle.figures.specs.Text.{starBytes}
+use Rattle.blocks.specs.Composing.{wordsBytes, blockBytes}
 use Rattle.blocks.proofs.Rooms.{listed, firstWrong, room-size}
 use Rattle.blocks.proofs.Composes.{put-written, put-same, words-end, composed-none, composed-some, composed-right, ends-cr, ends-crlf}
 use Rattle.blocks.proofs.composing.compose.Statement.{statement}

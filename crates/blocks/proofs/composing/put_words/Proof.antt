@@ -9,6 +9,7 @@ use borrow.Rule.Slice.PartMut.{midOf}
 use lib.ListN.{length, getD, take, drop, replicate}
 use lib.Seq.{take-all, getD-take}
 use Rattle.figures.specs.Bytes.{laid}
+use Rattle.figures.specs.Text.{starBytes}
 use Rattle.figures.proofs.Bytes.{length-on}
 use Rattle.words.specs.Records.{isRight}
 use Rattle.words.specs.Reading.{wordSize}
@@ -16,7 +17,7 @@ use Rattle.words.specs.Writing.{bytesOf}
 use Rattle.words.specs.Keeping.{spellingOf}
 use Rattle.words.specs.declared.records.Word.{Word}
 use Rattle.blocks.specs.declared.answers.Refusal.the-variants.{Record}
-use Rattle.blocks.specs.Composing.{starBytes, wordsBytes}
+use Rattle.blocks.specs.Composing.{wordsBytes}
 use Rattle.blocks.specs.Keeping.{refusedList, wroteList}
 use Rattle.blocks.proofs.Steps.{width-small}
 use Rattle.blocks.proofs.Rooms.{listed, firstWrong, putBytes, unless-right, unless-wrong, first-more, first-wrong, first-none}

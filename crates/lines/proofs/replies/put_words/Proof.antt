@@ -3,9 +3,9 @@ use Prim.Native.Nat.{_+_, _-_, _≤_}
 use native.Mathlib.Omega.{arith}
 use borrow.Author.Needs.{needs}
 use lib.ListN.{length, length-append}
+use Rattle.figures.specs.Text.{starBytes}
 use Rattle.figures.proofs.Bytes.{length-mid}
 use Rattle.commands.specs.Shapes.{groupsIn}
-use Rattle.lines.specs.Replies.{star}
 use Rattle.lines.specs.Keeping.{groupsWords}
 use Rattle.lines.proofs.Replying.{laid-then}
 use Rattle.lines.proofs.replies.put_words.Statement.{statement}
@@ -20,7 +20,7 @@ left c =
     let s = c .before .before .before .before in
     let a = s .args in
     let g = a .groups .now in
-    omega (arith, s .pre .fits, c .put-star .ensures .0, c .put-star .kept .1 .0, length-append (star (a .wide)) (groupsWords (a .wide) (a .values) (groupsIn g) g))
+    omega (arith, s .pre .fits, c .put-star .ensures .0, c .put-star .kept .1 .0, length-append (starBytes (a .wide)) (groupsWords (a .wide) (a .values) (groupsIn g) g))
 
 sub-put-get : tie.Need-sub-put-get
 sub-put-get c = omega (arith, left (c .before .before))
@@ -47,8 +47,8 @@ returns c =
     let a = s .args in
     let g = a .groups .now in
     let words = groupsWords (a .wide) (a .values) (groupsIn g) g in
-    laid-then (star (a .wide)) words (a .room .now) (put .put-star .last .1 .0) (c .before .before .put-get .last .1 .1 .1 .0) (put .put-star .result)
-    (put .put-star .ensures .0) (omega (arith, s .pre .fits, length-append (star (a .wide)) words)) (put .put-star .ensures .1)
+    laid-then (starBytes (a .wide)) words (a .room .now) (put .put-star .last .1 .0) (c .before .before .put-get .last .1 .1 .1 .0) (put .put-star .result)
+    (put .put-star .ensures .0) (omega (arith, s .pre .fits, length-append (starBytes (a .wide)) words)) (put .put-star .ensures .1)
     (c .before .before .put-get .ensures)
 
 pub put-words-spec : {M : Type 1} → statement M

@@ -10,11 +10,11 @@ use Rattle.state.specs.Image.{restN, imageOf, encodedIn}
 use Rattle.state.proofs.Images.{image-100, encoded-fits}
 use Rattle.state.specs.declared.entries.State.{State}
 use Rattle.pieces.specs.Pieces.{pieces}
-use Rattle.sheets.specs.Playing.{Plays}
+use Rattle.sheets.specs.Playing.{Prints}
 use Rattle.sheets.specs.Keeping.{runBy}
 use Rattle.sheets.specs.declared.answers.Sheeted.{Sheeted}
 use Rattle.sheets.specs.declared.answers.Sheeted.the-variants.{NoState, Room, Wrong, Written, Loaded}
-use Rattle.sheets.proofs.Reached.{factoryState, writtenN, plays-printed, plays-short, plays-refused}
+use Rattle.sheets.proofs.Reached.{factory100, writtenN, plays-printed, plays-short, plays-refused}
 use Rattle.sheets.proofs.answers.Sheeted.{the-type}
 use Rattle.sheets.proofs.playing.play.Statement.{statement}
 use Rattle.sheets.proofs.playing.play.Tie as tie
@@ -29,15 +29,15 @@ rest Loaded h = refl
 -- what the write comes to
 out : (w : tie.After-write) (r : ℕ) → r ≡ writtenN (w .write .result)
     → let a = w .before .before .before .before .before .before .before .before .before .before .before .before .before .args in
-    Plays (a .input .now) (a .room .now) r (w .write .last .1 .0)
+    Prints (a .input .now) (a .room .now) r (w .write .last .1 .0)
 out w r er =
     let run = w .before .before .before .before in
     let encode = run .before .before .before in
     let factory = encode .before .before in
     let a = factory .before .before .before .before .args in
     let room : List ℕ = replicate (20 + restN) 0 in
-    let first : encode .encode .last .1 .0 ≡ imageOf factoryState =
-    encode .encode .ensures ∙ ap (λ (s : State). encodedIn s room) (factory .factory .ensures) ∙ encoded-fits factoryState room (sym image-100) in
+    let first : encode .encode .last .1 .0 ≡ imageOf factory100 =
+    encode .encode .ensures ∙ ap (λ (s : State). encodedIn s room) (factory .factory .ensures) ∙ encoded-fits factory100 room (sym image-100) in
     plays-printed (a .input .now) (run .run .last .1 .0) (a .room .now) (w .write .last .1 .0) (w .write .result) r (factory .before .if1 .left)
     (run .run .ensures ∙ ap (runBy (pieces (a .input .now))) first) (w .write .ensures) er
 

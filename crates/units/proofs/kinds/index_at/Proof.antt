@@ -2,9 +2,8 @@
 use mathlib.Core.Path.{_≡_}
 use mathlib.Core.Bool.{true}
 use borrow.Author.Needs.{needs}
-use Rattle.figures.specs.Decimal.{isDigit}
+use Rattle.figures.specs.Decimal.{isDigit, areDigits}
 use Rattle.figures.proofs.Tests.{both, passed, failed}
-use Rattle.units.specs.Kinds.{areDigits}
 use Rattle.units.proofs.Positions.{two-digits}
 use Rattle.units.proofs.kinds.index_at.Statement.{statement}
 use Rattle.units.proofs.kinds.index_at.Tie as tie

@@ -2,9 +2,8 @@
 use mathlib.Core.Path.{_≡_}
 use mathlib.Core.Bool.{true}
 use borrow.Author.Needs.{needs}
-use Rattle.figures.specs.Decimal.{isDigit}
+use Rattle.figures.specs.Decimal.{isDigit, areDigits}
 use Rattle.figures.proofs.Tests.{passed, failed}
-use Rattle.units.specs.Kinds.{areDigits}
 use Rattle.units.proofs.kinds.named_by.Statement.{statement}
 use Rattle.units.proofs.kinds.named_by.Tie as tie
 
