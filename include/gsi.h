@@ -3,8 +3,7 @@
    Each function, except the two that tell an image's length, answers number * 2^32 + told: GSI_NUMBER and GSI_TOLD take the two apart. The number is 0
    where the call was accepted; otherwise it is a refusal's, and docs/REFUSALS.md has all of them in one table. What would be told above 2^32 - 1 is told
    as 2^32 - 1. A buffer is a pointer and a length; a length of 0 lends nothing. Buffers that are lent to one call must not overlap, and a list of records
-   must be aligned as its type asks. Nothing is kept between calls. The library needs memcpy and memset
-   from the C library, and nothing else. */
+   must be aligned as its type asks. Nothing is kept between calls. The library needs memcpy and memset from the C library, and nothing else. */
 #ifndef GSI_H
 #define GSI_H
 
