@@ -1,6 +1,6 @@
 /* bench.c: what the library (gsi_*) costs beside the second implementation in plain C (tests/reference.c), as ratios of
    processor time. Both are held to the same answers first; then they take turns in one process, in small batches.
-   Usage: bench ROUNDS, which run.sh makes tables of; or bench CASE SIDE PASSES (SIDE is library or C), which plays a case
+   Usage: bench ROUNDS, which table.awk makes tables of; or bench CASE SIDE PASSES (SIDE is library or C), which plays a case
    so often and looks at no clock, for counters and profilers. Compiled with BEFORE, an earlier build of the library
    (before_gsi_*) stands in the place of the C; where it has no level's functions, a level's blocks are left out. */
 #include "../tests/reference.h"
@@ -554,7 +554,7 @@ static void measure(const struct timed *t, unsigned cases)
             }
 }
 
-/* Prints a row for run.sh: table, row, column, and the quotients of two rows of times, round by round: median, least, greatest. */
+/* Prints a row for table.awk: table, row, column, and the quotients of two rows of times, round by round: median, least, greatest. */
 static void print_row(const char *table, const char *row, unsigned column, const double *over, const double *under)
 {
     static double sorted[ROUNDS_MOST];

@@ -1,7 +1,7 @@
 -- Laws of byte strings: what every byte is, a string laid down in a room part by part, a string at the start of another.
 use Prim.Native.Nat.{ℕ, suc, _+_, _-_, _<_, _≤_}
 use mathlib.Core.Path.{_≡_, refl, sym, ap, _∙_}
-use mathlib.Core.Bool.{Bool, true, false, cond, _&&_, false≢true, and-eq-true-iff}
+use mathlib.Core.Bool.{Bool, true, false, cond, _&&_, false≢true, and-eq-true-iff, and-assoc}
 use mathlib.Core.List.{List, [], _∷_, _++_, append-assoc, append-nil}
 use native.Mathlib.Numerals.{add-one}
 use native.Mathlib.Omega.{arith}
@@ -45,6 +45,16 @@ every-more p s i h e = rw (drop-cons s i 0 h, e, add-one i)
 pub every-not : (p : ℕ → Bool) (s : List ℕ) (i : ℕ) → i < length s → p (getD s i 0) ≡ false → every p (drop i s) ≡ false
 unfolding every
 every-not p s i h e = rw (drop-cons s i 0 h, e)
+
+-- the bytes from low to high, so far and from a place on
+pub within-on : (low high : ℕ) (s : List ℕ) (i : ℕ) (all : Bool) → i < length s
+    → all && every (within low high) (drop i s) ≡ ((all && leb low (getD s i 0)) && leb (getD s i 0) high) && every (within low high) (drop (i + 1) s)
+unfolding every
+within-on low high s i all h =
+    let b = getD s i 0 in
+    let rest = every (within low high) (drop (suc i) s) in
+    rw (drop-cons s i 0 h, add-one i)
+    (sym (ap (λ (t : Bool). t && rest) (and-assoc all (leb low b) (leb b high)) ∙ and-assoc all (leb low b && leb b high) rest))
 
 pub every-all : (p : ℕ → Bool) (s : List ℕ) (i : ℕ) → length s ≤ i → every p (drop i s) ≡ true
 unfolding every

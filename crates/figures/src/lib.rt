@@ -77,11 +77,18 @@ pub fn run_within(s: &[u8], low: u8, high: u8) -> usize
     i
 }
 
-// Tells whether every byte is from low to high.
+// Tells whether every byte is from low to high. The loop never leaves early, so that many bytes are looked at at once.
 pub fn all_within(s: &[u8], low: u8, high: u8) -> bool
     ensures { λ r. ⌜ r ≡ every (within low high) (now (s .entry)) ⌝ }
 {
-    run_within(s, low, high) == s.len()
+    let mut all = true;
+    let mut i = 0;
+    while i < s.len() {
+        let b = s[i];
+        all = all & (low <= b) & (b <= high);
+        i += 1;
+    }
+    all
 }
 
 // Counts the bytes before the first b: this is its place, or the length.

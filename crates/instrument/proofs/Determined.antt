@@ -5,9 +5,9 @@ use mathlib.Core.List.{List}
 use Prim.Native.Nat.{ℕ}
 use Rattle.figures.specs.Promises.{Determined}
 use Rattle.figures.proofs.Determined.{by-equation}
-use Rattle.instrument.specs.Settings.{settingNumber, rowAt, settingsN, settingPlace, factorySettings, heldRows, inRange, inRanges}
+use Rattle.instrument.specs.Settings.{settingNumber, rowAt, settingsN, settingPlace, factorySettings, rowsOf, inRange, inRanges}
 use Rattle.words.specs.declared.reading.Judged.{Judged}
-use Rattle.instrument.specs.Values.{storedAt, valuePlace, isPut, putJudged, putKept, keptRight, getWord, widened}
+use Rattle.instrument.specs.Values.{storedAt, valuePlace, isPut, putJudged, putKept, partsRight, getWord, widened}
 use Rattle.instrument.specs.Rows.{keyBytes}
 use Rattle.instrument.specs.declared.settings.Series.{Series}
 use Rattle.instrument.specs.declared.settings.Row.{Row}
@@ -33,8 +33,8 @@ in-range-determined = by-equation (Row × ℕ) Bool (λ i. inRange (i .0) (i .1)
 pub factory-settings-determined : Determined Series (List ℕ) (λ i r. r ≡ factorySettings i)
 factory-settings-determined = by-equation Series (List ℕ) factorySettings
 
-pub in-ranges-determined : Determined (Series × List ℕ) Bool (λ i r. r ≡ inRanges (heldRows (i .0)) (i .1))
-in-ranges-determined = by-equation (Series × List ℕ) Bool (λ i. inRanges (heldRows (i .0)) (i .1))
+pub in-ranges-determined : Determined (Series × List ℕ) Bool (λ i r. r ≡ inRanges (rowsOf (i .0)) (i .1))
+in-ranges-determined = by-equation (Series × List ℕ) Bool (λ i. inRanges (rowsOf (i .0)) (i .1))
 
 pub stored-at-determined : Determined ℕ Stored (λ i r. r ≡ storedAt i)
 stored-at-determined = by-equation ℕ Stored storedAt
@@ -51,8 +51,8 @@ put-judged-determined = by-equation (ℕ × List ℕ) Judged (λ i. putJudged (i
 pub put-kept-determined : Determined (List ℕ) Kept (λ i r. r ≡ putKept i)
 put-kept-determined = by-equation (List ℕ) Kept putKept
 
-pub kept-right-determined : Determined (ℕ × Kept) Bool (λ i r. r ≡ keptRight (i .0) (i .1))
-kept-right-determined = by-equation (ℕ × Kept) Bool (λ i. keptRight (i .0) (i .1))
+pub parts-right-determined : Determined (ℕ × List ℕ) Bool (λ i r. r ≡ partsRight (i .0) (i .1))
+parts-right-determined = by-equation (ℕ × List ℕ) Bool (λ i. partsRight (i .0) (i .1))
 
 pub get-word-determined : Determined (ℕ × Kept) (List ℕ) (λ i r. r ≡ getWord (i .0) (i .1))
 get-word-determined = by-equation (ℕ × Kept) (List ℕ) (λ i. getWord (i .0) (i .1))

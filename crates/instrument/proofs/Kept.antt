@@ -1,14 +1,14 @@
 -- Laws of what is stored: the rules for a value's word are rules for its parts, what a PUT leaves is right for its place, and the factory's
 -- state is a state.
-use Prim.Native.Nat.{ℕ, zero, suc, _+_, _/_, _%_, _≤_}
+use Prim.Native.Nat.{ℕ, zero, suc, _+_, _/_, _%_, _<_, _≤_}
 use mathlib.Core.Path.{_≡_, refl, sym, ap, _∙_}
 use mathlib.Core.Bool.{Bool, true, false, cond, not, _&&_, _||_, false≢true, and-true, and-false, and-eq-true-iff}
 use mathlib.Core.List.{List, [], _∷_, _++_}
 use native.Mathlib.Omega.{arith}
-use borrow.Author.Tests.{eqb-true, eq-eqb, le-leb, lt-ltb}
+use borrow.Author.Tests.{eqb-true, eq-eqb, leb-true, le-leb, lt-leb, lt-ltb}
 use lib.Dec.{eqb, leb}
-use lib.ListN.{length, getD, drop, drop-of-length-le}
-use lib.Seq.{drop-cons, getD-drop}
+use lib.ListN.{length, getD, take, drop, drop-of-length-le, length-drop, List·getD-eq-default}
+use lib.Seq.{drop-cons, getD-drop, take-all}
 use Rattle.figures.specs.Text.{codes}
 use Rattle.figures.specs.Bytes.{within, among, every}
 use Rattle.figures.specs.Decimal.{isDigit, numberOf, areDigits}
@@ -16,7 +16,7 @@ use Rattle.figures.proofs.Bytes.{within-bounds, bounds-within}
 use Rattle.figures.proofs.Tests.{by-test, Even, along}
 use Rattle.units.specs.Kinds.{stationKind, isListed, isTextual, indexOf, listedBy}
 use Rattle.units.specs.Information.{isDot, stationMarks, allRight, firstWrong, signByte, signOf, signRight}
-use Rattle.units.specs.Counts.{valueAt}
+use Rattle.units.specs.Counts.{angleAt, valueAt}
 use Rattle.units.proofs.Positions.{tensOf, onesOf, index-on, index-below, tens-digit, ones-digit, sign-on, sign-right}
 use Rattle.words.specs.Records.{isGraphic}
 use Rattle.words.proofs.Letters.{one-right}
@@ -34,8 +34,8 @@ use Rattle.words.specs.declared.reading.Judged as one
 use Rattle.words.specs.declared.reading.OneWord.{OneWord}
 use Rattle.words.specs.declared.records.Word.{Word}
 use Rattle.instrument.proofs.Seek.{Each, each-at}
-use Rattle.instrument.specs.Values.{unitsOf, stored, noStored, storedAt, isRightWord, putMarks, putRight}
-use Rattle.instrument.specs.Values.{putKept, valueWord, keptRight, eightOf, eightBytes}
+use Rattle.instrument.specs.Values.{unitsOf, stored, noStored, storedAt, valuesN, isRightWord, putMarks, putRight}
+use Rattle.instrument.specs.Values.{putKept, valueWord, keptRight, partsIn, partsN, partsRight, eightOf, eightBytes}
 use Rattle.instrument.specs.declared.values.Stored.{Stored}
 use Rattle.instrument.specs.declared.values.Eight.{Eight}
 use Rattle.instrument.specs.declared.values.Kept.{Kept}
@@ -95,8 +95,8 @@ heldBy r u m l =
     cond (eqb (r .first) 46) (eqb m 0 && every isGraphic l) (every isDigit l && isCounted (valueAt (stationKind (r .index)) (r .index) u m (Number (numberOf l))))
 
 -- the same by the kind, as a word is read
-abbrev partsRight : Kind → ℕ → ℕ → ℕ → List ℕ → Bool
-partsRight k i u m l = signRight k (signByte m) && (dataRight k l && isCounted (valueAt k i u m (figuresIn k l)))
+abbrev kindRight : Kind → ℕ → ℕ → ℕ → List ℕ → Bool
+kindRight k i u m l = signRight k (signByte m) && (dataRight k l && isCounted (valueAt k i u m (figuresIn k l)))
 
 -- a word whose index, information and blank are right
 rules-read : (t : Tells) (info sign letters value : Bool) (w : Word) → info ≡ true
@@ -107,7 +107,7 @@ rules-read t true true false value w e = refl
 rules-read t true true true false w e = refl
 rules-read t true true true true w e = refl
 
-text-held : (k : Kind) (i u m : ℕ) (l : List ℕ) → isTextual k ≡ true → partsRight k i u m l ≡ eqb m 0 && every isGraphic l
+text-held : (k : Kind) (i u m : ℕ) (l : List ℕ) → isTextual k ≡ true → kindRight k i u m l ≡ eqb m 0 && every isGraphic l
 text-held kind.Missing i u m l e = absurd (false≢true e)
 text-held kind.Numbered i u m l e = by-test (eqb m 0) (λ q. rw (q, and-true) (one-right isGraphic l)) (λ q. rw q)
 text-held kind.Text i u m l e = by-test (eqb m 0) (λ q. rw (q, and-true) (one-right isGraphic l)) (λ q. rw q)
@@ -153,7 +153,7 @@ module _ (u m : ℕ) (d : Eight) (small : m ≤ 1) where
   Judged r = r .first ≤ u → u ≤ r .last → isRightWord (wordOf Station false (spread (positions (r .index)) []) .answer) ≡ heldBy r u m (eightBytes d)
 
   row-read : (r : Stored) → isListed (stationKind (r .index)) ≡ true → Units r → r .first ≤ u → u ≤ r .last
-      → isRightWord (wordOf Station false (spread (positions (r .index)) []) .answer) ≡ partsRight (stationKind (r .index)) (r .index) u m (eightBytes d)
+      → isRightWord (wordOf Station false (spread (positions (r .index)) []) .answer) ≡ kindRight (stationKind (r .index)) (r .index) u m (eightBytes d)
   row-read r listed units low high =
       let i = r .index in
       let k = stationKind i in
@@ -172,7 +172,7 @@ module _ (u m : ℕ) (d : Eight) (small : m ≤ 1) where
       row-read r listed units low high ∙ text-held (stationKind (r .index)) (r .index) u m (eightBytes d) text ∙ rw dot
 
   number-held : (k : Kind) (i : ℕ) (l : List ℕ) → isTextual k ≡ false → dataRight k l ≡ every isDigit l → figuresIn k l ≡ Number (numberOf l)
-      → partsRight k i u m l ≡ every isDigit l && isCounted (valueAt k i u m (Number (numberOf l)))
+      → kindRight k i u m l ≡ every isDigit l && isCounted (valueAt k i u m (Number (numberOf l)))
   number-held k i l plain digits says =
       rw (sign-right k m (record { small = small; plus = λ t. absurd (false≢true (sym plain ∙ t)) }), digits, says)
 
@@ -204,6 +204,96 @@ module _ (u m : ℕ) (d : Eight) (small : m ≤ 1) where
       kept-put place k u m d e small
       ∙ put-read place (valueWord 46 place u m d) refl refl refl low high
       ∙ each place low high
+
+-- the same of the parts as they lie in an image
+
+-- every place has a unit from the dot on
+first-high : (place : ℕ) → place < valuesN → 46 ≤ storedAt place .first
+unfolding stored
+first-high place h = leb-true 46 (storedAt place .first) (sym (along (λ i. leb 46 (storedAt i .first)) 0 valuesN refl (omega arith) h))
+
+module _ (u m : ℕ) (l : List ℕ) where
+  abbrev Text : Stored → Type 0
+  Text r = 46 ≤ r .first → r .first ≤ u → u ≤ r .last → u ≡ 46 → heldBy r u m l ≡ eqb m 0 && every isGraphic l
+
+  abbrev Length : Stored → Type 0
+  Length r = 46 ≤ r .first → r .first ≤ u → u ≤ r .last → (u ≡ 46 → ⊥) → u < 50 → heldBy r u m l ≡ every isDigit l
+
+  abbrev Angle : Stored → Type 0
+  Angle r = 46 ≤ r .first → r .first ≤ u → u ≤ r .last → 50 ≤ u → heldBy r u m l ≡ every isDigit l && isCounted (angleAt u m (numberOf l))
+
+  text-row : (place : ℕ) → Text (storedAt place)
+  text-row =
+      each-stored Text (λ p low high e. refl) (λ p low high e. refl) (λ i is p low high e. absurd (omega (arith, e)))
+      (λ i is p low high e. absurd (omega (arith, e))) (λ p low high e. absurd (omega arith))
+
+  length-row : (place : ℕ) → Length (storedAt place)
+  length-row =
+      each-stored Length (λ p low high n b. absurd (n (omega arith))) (λ p low high n b. absurd (n (omega arith)))
+      (λ i is p low high n b. absurd (omega arith)) (λ i is p low high n b. rw (is, and-true)) (λ p low high n b. absurd (omega arith))
+
+  angle-row : (place : ℕ) → Angle (storedAt place)
+  angle-row =
+      each-stored Angle (λ p low high a. absurd (omega arith)) (λ p low high a. absurd (omega arith))
+      (λ i is p low high a. rw is) (λ i is p low high a. absurd (omega arith)) (λ p low high a. absurd (omega arith))
+
+parts-eight : (l : List ℕ) → length l ≡ partsN → eightBytes (eightOf (drop 2 l)) ≡ take 8 (drop 2 l)
+unfolding elements
+parts-eight l long =
+    let rest : eightBytes (eightOf (drop 2 l)) ≡ elements 8 2 l = simp getD-drop in
+    rest ∙ sym (elements-are 8 2 l long) ∙ sym (take-all 8 (drop 2 l) (omega (arith, length-drop 2 l)))
+
+-- past the last place nothing may be held
+pub parts-past : (place : ℕ) (l : List ℕ) → length l ≡ partsN → valuesN ≤ place → partsRight place l ≡ false
+unfolding stored among
+parts-past place l long past =
+    let u = getD l 0 0 in
+    let m = getD l 1 0 in
+    let d = eightOf (drop 2 l) in
+    let none : storedAt place ≡ noStored = List·getD-eq-default stored noStored past in
+    rw (eq-eqb (length l) partsN long)
+    (by-test (leb m 1)
+    (λ e.
+    let small = leb-true m 1 e in
+    by-test (within 0 0 u)
+    (λ i.
+    let b = within-bounds 0 0 u i in
+    kept-held u m d small place (partsIn l) refl (rw none (omega arith)) (rw none (b .1))
+    ∙ rw none (none-held u m (numberOf (eightBytes d)) (every isDigit (eightBytes d))))
+    (λ o. kept-outside u m d small place (partsIn l) refl (rw none o)))
+    (λ e. rw e))
+
+pub parts-sign : (place : ℕ) (l : List ℕ) → 1 < getD l 1 0 → partsRight place l ≡ false
+parts-sign place l h = rw (lt-leb (getD l 1 0) 1 h) (and-false (eqb (length l) partsN))
+
+-- parts that lie there, with a place that there is and a sign
+module _ (place : ℕ) (l : List ℕ) (long : length l ≡ partsN) (there : place < valuesN) (small : getD l 1 0 ≤ 1) where
+  abbrev unit : ℕ
+  unit = getD l 0 0
+
+  abbrev minus : ℕ
+  minus = getD l 1 0
+
+  abbrev characters : List ℕ
+  characters = take 8 (drop 2 l)
+
+  pub parts-outside : within (storedAt place .first) (storedAt place .last) unit ≡ false → partsRight place l ≡ false
+  parts-outside out = rw (eq-eqb (length l) partsN long) (kept-outside unit minus (eightOf (drop 2 l)) small place (partsIn l) refl out)
+
+  module _ (low : storedAt place .first ≤ unit) (high : unit ≤ storedAt place .last) where
+    held : partsRight place l ≡ heldBy (storedAt place) unit minus characters
+    held =
+        rw (eq-eqb (length l) partsN long) (kept-held unit minus (eightOf (drop 2 l)) small place (partsIn l) refl low high)
+        ∙ ap (heldBy (storedAt place) unit minus) (parts-eight l long)
+
+    pub parts-text : unit ≡ 46 → partsRight place l ≡ eqb minus 0 && every isGraphic characters
+    parts-text e = held ∙ text-row unit minus characters place (first-high place there) low high e
+
+    pub parts-length : (unit ≡ 46 → ⊥) → unit < 50 → partsRight place l ≡ every isDigit characters
+    parts-length n b = held ∙ length-row unit minus characters place (first-high place there) low high n b
+
+    pub parts-angle : 50 ≤ unit → partsRight place l ≡ every isDigit characters && isCounted (angleAt unit minus (numberOf characters))
+    parts-angle a = held ∙ angle-row unit minus characters place (first-high place there) low high a
 
 -- "26 and 40 follow" (request 102): a number may be put and kept with a minus wherever it may with a plus
 

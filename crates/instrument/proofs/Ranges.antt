@@ -62,26 +62,6 @@ key-place rs e h = rw e h
 pub key-past : (rs : List Row) (n place : ℕ) {r : List ℕ} → r ≡ keyBytes "s" 0 → length rs ≡ n → NoneOf place n → r ≡ keyIn rs place
 key-past rs n place e long none = e ∙ ap (λ (x : Row). keyBytes "s" (settingNumber x)) (past-place rs noRow n place long none)
 
--- a blank row has nought alone
-
-blank-within : (p : ℕ) → inRange noRow p ≡ within 0 0 p
-blank-within p = by-test (leb p 0) (λ e. let z : p ≡ 0 = omega (arith, leb-true p 0 e) in rw z) (λ e. rw e)
-
-blanks-within : (n : ℕ) (ps : List ℕ) → length ps ≡ n → inRanges (replicate n noRow) ps ≡ every (within 0 0) ps
-unfolding inRanges every
-blanks-within zero [] e = refl
-blanks-within zero (p ∷ ps) e = absurd (omega arith)
-blanks-within (suc n) [] e = absurd (omega arith)
-blanks-within (suc n) (p ∷ ps) e = rw (blank-within p, blanks-within n ps (omega arith))
-
--- so what is left past the series' last
-pub ranges-past : (k : Series) (ps : List ℕ) → length ps ≡ settingsMost
-    → inRanges (drop (settingsN k) (heldRows k)) (drop (settingsN k) ps) ≡ every (within 0 0) (drop (settingsN k) ps)
-ranges-past k ps long =
-    let n = settingsN k in
-    let rest : drop n (heldRows k) ≡ replicate (settingsMost - n) noRow = drop-at (rowsOf k) (replicate (settingsMost - n) noRow) n refl in
-    ap (λ (rs : List Row). inRanges rs (drop n ps)) rest ∙ blanks-within (settingsMost - n) (drop n ps) (length-drop n ps ∙ omega arith)
-
 -- parameters
 
 ranges-turn : (rs : List Row) (ps : List ℕ) (d : Row) (i : ℕ) → i < length rs → i < length ps
@@ -112,6 +92,9 @@ ranges-long [] [] e = refl
 ranges-long [] (p ∷ ps) e = absurd (false≢true e)
 ranges-long (r ∷ rs) [] e = absurd (false≢true e)
 ranges-long (r ∷ rs) (p ∷ ps) e = ap suc (ranges-long rs ps (and-eq-true-iff (inRange r p) (inRanges rs ps) .0 e .1))
+
+pub ranges-short : (rs : List Row) (ps : List ℕ) → (length ps ≡ length rs → ⊥) → inRanges rs ps ≡ false
+ranges-short rs ps n = by-test (inRanges rs ps) (λ e. absurd (n (ranges-long rs ps e))) (λ e. e)
 
 pub range-high : (r : Row) (p : ℕ) → inRange r p ≡ true → p ≤ r .highest
 range-high r p e =

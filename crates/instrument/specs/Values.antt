@@ -3,8 +3,8 @@ use Prim.Native.Nat.{ℕ, _+_, _/_, _%_}
 use Prim.Native.String.{String}
 use mathlib.Core.Bool.{Bool, true, false, cond, _&&_}
 use mathlib.Core.List.{List, [], _∷_, _++_}
-use lib.Dec.{leb}
-use lib.ListN.{getD, take, drop, replicate}
+use lib.Dec.{eqb, leb}
+use lib.ListN.{length, getD, take, drop, replicate}
 use Rattle.figures.specs.Text.{codes, byte}
 use Rattle.figures.specs.Bytes.{within}
 use Rattle.units.specs.Information.{isDot, marks, allRight, firstWrong, signByte, signOf}
@@ -100,6 +100,16 @@ valueWord mark place u m d =
 abbrev pub keptRight : ℕ → Kept → Bool
 keptRight place Never = true
 keptRight place (Put u m d) = leb m 1 && putRight place (valueWord (byte ".") place u m d)
+
+-- unit, sign and eight characters as they lie in an image
+abbrev pub partsIn : List ℕ → Kept
+partsIn l = Put (getD l 0 0) (getD l 1 0) (eightOf (drop 2 l))
+
+abbrev pub partsN : ℕ
+partsN = 10
+
+abbrev pub partsRight : ℕ → List ℕ → Bool
+partsRight place l = eqb (length l) partsN && keptRight place (partsIn l)
 
 -- "GET/I answers text words with four dots, others as dot, dot, `1`, the unit; sign and data as put."
 abbrev pub getWord : ℕ → Kept → List ℕ

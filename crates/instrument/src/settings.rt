@@ -1,6 +1,6 @@
 // The settings of a series: the row of one, its lookup by number, and its range, whatever the series. Each series has its rows in a file of its own.
 ghost use mathlib.Core.Path.{_≡_};
-ghost use Rattle.instrument.specs.Settings.{rowAt, settingsN, heldRows, settingPlace, factorySettings, isGap, inRange, inRanges};
+ghost use Rattle.instrument.specs.Settings.{rowsOf, rowAt, settingsN, settingPlace, factorySettings, isGap, inRange, inRanges};
 use crate::tps100::SETTINGS_100;
 use crate::tps100::row_100;
 use crate::tps300::row_300;
@@ -133,27 +133,30 @@ pub fn in_range(row: Row, parameter: u64) -> bool
     !is_gap(row.gaps, parameter)
 }
 
-fn each_in_range(series: Series, settings: [u8; SETTINGS]) -> bool
-    ensures { λ r. ⌜ r ≡ inRanges (heldRows series) settings ⌝ }
+fn each_in_range(series: Series, s: &[u8]) -> bool
+    ensures { λ r. ⌜ r ≡ inRanges (rowsOf series) (now (s .entry)) ⌝ }
 {
     let n = settings_of(series);
+    if s.len() != n {
+        return false;
+    }
     let mut i = 0;
     while i < n {
         let row = row_at(series, i);
-        if !in_range(row, wide(settings[i])) {
+        if !in_range(row, wide(s[i])) {
             return false;
         }
         i += 1;
     }
-    figures::all_within(&settings[n..], 0, 0)
+    true
 }
 
-// Tells whether each parameter is one that its setting has, and those past the series' last are noughts.
-pub fn in_ranges(series: Series, settings: [u8; SETTINGS]) -> bool
-    ensures { λ r. ⌜ r ≡ inRanges (heldRows series) settings ⌝ }
+// Tells whether there is a byte for each setting of the series, and each is a parameter that its setting has.
+pub fn in_ranges(series: Series, s: &[u8]) -> bool
+    ensures { λ r. ⌜ r ≡ inRanges (rowsOf series) (now (s .entry)) ⌝ }
 {
     match series {
-        Series::Tps100 => each_in_range(Series::Tps100, settings),
-        Series::Tps300 => each_in_range(Series::Tps300, settings),
+        Series::Tps100 => each_in_range(Series::Tps100, s),
+        Series::Tps300 => each_in_range(Series::Tps300, s),
     }
 }

@@ -1,20 +1,12 @@
 // The stored values: constant rows of index and units, what a PUT leaves, and the word that GET answers.
 ghost use mathlib.Core.Path.{_≡_};
-ghost use mathlib.Core.Bool.{_&&_};
 ghost use Prim.Native.Nat.{_+_, _%_};
-ghost use Rattle.figures.specs.Bytes.{every};
-ghost use Rattle.figures.specs.Decimal.{isDigit, numberOf};
-ghost use Rattle.units.specs.Kinds.{stationKind};
-ghost use Rattle.units.specs.Counts as counts;
-ghost use Rattle.units.specs.declared.counts.Figures.the-variants.{Number};
-ghost use Rattle.words.specs.Reading.{isCounted};
-ghost use Rattle.instrument.specs.Values.{storedAt, valuePlace, putJudged, putKept, valueWord, keptRight, getWord, widened, isPut};
+ghost use Rattle.instrument.specs.Values.{storedAt, valuePlace, putJudged, putKept, valueWord, partsRight, getWord, widened, isPut};
 use crate::settings::Found;
-use units::counts::Figures;
 use units::counts::Valued;
+use units::counts::angle_at;
 use units::information::sign_byte;
 use units::kinds::Family;
-use units::kinds::kind_of;
 use words::reading::Fault;
 use words::reading::Judged;
 use words::reading::read_word;
@@ -258,47 +250,49 @@ fn value_word(mark: u8, place: usize, unit: u8, minus: u8, d: Eight) -> [u8; 16]
     ]
 }
 
-// Tells whether the characters are digits that count at the index, after that unit and sign.
-fn number_right(index: u16, unit: u8, minus: u8, digits: [u8; 8]) -> bool
-    ensures { λ r. ⌜ r ≡ (every isDigit digits && isCounted (counts.valueAt (stationKind index) index unit minus (Number (numberOf digits)))) ⌝ }
+// Tells whether a PUT can leave those parts at the place: unit, sign (0 or 1) and eight characters. An image asks it of each value and entry, where they
+// lie, so no word is made of them.
+pub fn parts_right(place: usize, parts: &[u8]) -> bool
+    ensures { λ r. ⌜ r ≡ partsRight place (now (parts .entry)) ⌝ }
 {
-    let figures::Said::Number(n) = figures::number(&digits) else {
+    if parts.len() != 10 {
+        return false;
+    }
+    if VALUES <= place {
+        return false;
+    }
+    let unit = parts[0];
+    let minus = parts[1];
+    if 1 < minus {
+        return false;
+    }
+    let row = stored_at(place);
+    if unit < row.first {
+        return false;
+    }
+    if row.last < unit {
+        return false;
+    }
+    if unit == b'.' {
+        if minus != 0 {
+            return false;
+        }
+        return figures::all_within(&parts[2..10], 33, 126);
+    }
+    if !figures::all_within(&parts[2..10], b'0', b'9') {
+        return false;
+    }
+    // a length: any eight digits count
+    if unit < b'2' {
+        return true;
+    }
+    let figures::Said::Number(n) = figures::number(&parts[2..10]) else {
         return false;
     };
-    let says = Figures::Number(n);
-    let value = units::counts::value_at(kind_of(Family::Station, index), index, unit, minus, says);
+    let value = angle_at(unit, minus, n);
     match value {
         Valued::Not => false,
         _ => true,
-    }
-}
-
-// Tells whether the place may hold it: never put, or as a PUT can leave it. An image asks it of each value and entry, so no word is made of the parts.
-pub fn kept_right(place: usize, kept: Kept) -> bool
-    ensures { λ r. ⌜ r ≡ keptRight place kept ⌝ }
-{
-    match kept {
-        Kept::Never => true,
-        Kept::Put(unit, minus, d) => {
-            if 1 < minus {
-                return false;
-            }
-            let row = stored_at(place);
-            if unit < row.first {
-                return false;
-            }
-            if row.last < unit {
-                return false;
-            }
-            let characters = [d.0, d.1, d.2, d.3, d.4, d.5, d.6, d.7];
-            if row.first != b'.' {
-                return number_right(row.index, unit, minus, characters);
-            }
-            if minus != 0 {
-                return false;
-            }
-            figures::all_within(&characters, 33, 126)
-        }
     }
 }
 

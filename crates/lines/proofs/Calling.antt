@@ -1,7 +1,7 @@
 -- Laws of a call: what a line comes to in a room that it fits or doesn't, by its verdict, and on a lent image.
 use Prim.Native.Nat.{ℕ, _-_, _<_, _≤_}
 use mathlib.Core.Path.{_≡_, refl, sym, ap, subst, _∙_}
-use mathlib.Core.Bool.{Bool, true, false, cond, _&&_, and-eq-true-iff}
+use mathlib.Core.Bool.{Bool, true, false, cond, _&&_}
 use mathlib.Core.List.{List, [], _∷_, _++_}
 use native.Mathlib.Omega.{arith}
 use borrow.Author.Tests.{le-leb, lt-leb, le-ltb, lt-ltb}
@@ -9,39 +9,53 @@ use lib.Dec.{eqb, leb}
 use lib.ListN.{length, take}
 use lib.Seq.{length-take-le}
 use Rattle.figures.specs.Bytes.{laid}
-use Rattle.state.specs.Entries.{entriesN}
-use Rattle.state.specs.Image.{imageN, imageOf, encodedIn, seriesIn, stateIn, isImage, decodeOf}
+use Rattle.state.specs.Image.{imageOf, stateIn, isImage}
 use Rattle.state.specs.declared.entries.State.{State}
-use Rattle.state.specs.declared.image.Known.the-variants.{Not, Is}
-use Rattle.state.specs.declared.image.Decoded.{Decoded}
-use Rattle.state.proofs.Steps.{state-parts}
-use Rattle.state.proofs.Images.{image-of, decoded-is, decoded-series, decoded-not}
 use Rattle.commands.specs.Shapes.{fromEnd, endOf, textOf, isPlain, isEnded, orderOf}
 use Rattle.lines.specs.Verdicts.{isAccepted, orderVerdict, lineVerdict}
 use Rattle.lines.specs.Orders.{takenBack, newest, setTo, putTo, Deed, asks, changes, undoes, keeps, deedOf, lineDeed, doneOf}
 use Rattle.lines.specs.Replies.{replyEnd, warning, bodyOf}
 use Rattle.lines.specs.Machine.{Outcome, outcome, run, step, told, Calls}
-use Rattle.lines.specs.Keeping.{ranOf, Ends}
+use Rattle.lines.specs.Keeping.{Answers, Ends}
 use Rattle.commands.specs.declared.shapes.Order.{Order}
 use Rattle.lines.specs.declared.verdicts.Verdict.{Verdict}
 use Rattle.lines.specs.declared.verdicts.Verdict.the-variants.{Accepted, Unended, Long, Room, NoState}
-use Rattle.lines.specs.declared.machine.Ran.{Ran}
+use Rattle.lines.specs.declared.machine.Told.{Told}
 use Rattle.commands.proofs.Shape.{from-start}
 use Rattle.lines.proofs.Sorts.{accepted-is}
 use Rattle.lines.proofs.Replying.{laid-none}
 
 -- the room
 
-module _ (s : State) (v : Verdict) (reply : List ℕ) (next : State) (room : List ℕ) (r : Ran) where
-  pub ends-short : length room < length reply → r ≡ ranOf Room 0 s → Ends s (outcome v reply next) room r room
-  ends-short h e = rw (lt-leb (length reply) (length room) h) (e, sym (laid-none room))
+module _ (s : State) (v : Verdict) (reply : List ℕ) (next : State) (room : List ℕ) (r : Told) where
+  pub answers-short : length room < length reply → r ≡ told Room 0 → Answers s (outcome v reply next) room r room
+  answers-short h e = rw (lt-leb (length reply) (length room) h) (e, sym (laid-none room))
 
-  pub ends-fits : (room′ : List ℕ) (n : ℕ) (to : State) → n ≡ length reply → to ≡ next → n ≤ length room → r ≡ ranOf v n to → room′ ≡ laid reply room
-      → Ends s (outcome v reply next) room r room′
-  ends-fits room′ n to en et h e l = rw (le-leb (length reply) (length room) (omega arith)) (e ∙ rw (en, et), l)
+  pub answers-fits : (room′ : List ℕ) (n : ℕ) → n ≡ length reply → n ≤ length room → r ≡ told v n → room′ ≡ laid reply room
+      → Answers s (outcome v reply next) room r room′
+  answers-fits room′ n en h e l = rw (le-leb (length reply) (length room) (omega arith)) (e ∙ rw en, l)
 
-pub ends-so : (s : State) (o o′ : Outcome) (room : List ℕ) (r : Ran) (room′ : List ℕ) → o ≡ o′ → Ends s o′ room r room′ → Ends s o room r room′
-ends-so s o o′ room r room′ e h = subst (λ (p : Outcome). Ends s p room r room′) (sym e) h
+  -- and the image: as it was, or that of the next state
+
+  pub ends-short : (image : List ℕ) → image ≡ imageOf s → length room < length reply → r ≡ told Room 0 → Ends s (outcome v reply next) room r image room
+  ends-short image i h e = (answers-short h e, rw (lt-leb (length reply) (length room) h) i)
+
+  pub ends-fits : (image′ room′ : List ℕ) (n : ℕ) → image′ ≡ imageOf next → n ≡ length reply → n ≤ length room → r ≡ told v n → room′ ≡ laid reply room
+      → Ends s (outcome v reply next) room r image′ room′
+  ends-fits image′ room′ n i en h e l = (answers-fits room′ n en h e l, rw (le-leb (length reply) (length room) (omega arith)) i)
+
+-- a refused line's state is as it was, whether the reply fits or not
+pub ends-refused : (s : State) (v : Verdict) (reply image room : List ℕ) (r : Told) (room′ : List ℕ) → image ≡ imageOf s
+    → Answers s (outcome v reply s) room r room′ → Ends s (outcome v reply s) room r image room′
+ends-refused s v reply image room r room′ i h = (h, i ∙ ap imageOf (sym (by (leb (length reply) (length room)))))
+  where
+    by : (b : Bool) → cond b (outcome v reply s) (outcome Room [] s) .next ≡ s
+    by true = refl
+    by false = refl
+
+pub ends-so : (s : State) (o o′ : Outcome) (room : List ℕ) (r : Told) (image′ room′ : List ℕ) → o ≡ o′ → Ends s o′ room r image′ room′
+    → Ends s o room r image′ room′
+ends-so s o o′ room r image′ room′ e h = subst (λ (p : Outcome). Ends s p room r image′ room′) (sym e) h
 
 -- the line
 
@@ -77,7 +91,7 @@ module _ (s : State) (line : List ℕ) where
   run-accepted e h q = rw (e, le-leb (length (textOf line)) 100 h, q)
 
   -- the same as the code finds it: the text before the end, and whether that is plain
-  abbrev part : ℕ → List ℕ
+  abbrev pub part : ℕ → List ℕ
   part e = take ((length line - e) - 0) line
 
   module _ (e : ℕ) (ends : e ≡ endOf line) where
@@ -153,41 +167,9 @@ step-series s line room =
 
 -- the image
 
-module _ (image : List ℕ) (d : Decoded) (e : d ≡ decodeOf image) where
-  pub decoded-few : d .answer ≡ Is → d .state .count ≤ entriesN
-  decoded-few q =
-      let h = decoded-is image d e q in
-      rw (h .1) (state-parts entriesN (stateIn image) (image-of image (h .0) .0) .few)
+pub call-none : (image line room : List ℕ) → isImage image ≡ false → Calls image line room (told NoState 0) image room
+call-none image line room n = rw n (refl, (refl, refl))
 
-  pub call-none : d .answer ≡ Not → (line room : List ℕ) → Calls image line room (told NoState 0) image room
-  call-none q line room = rw (decoded-not image d e q) (refl, (refl, refl))
-
--- a line that ran on the state of a lent image
-pub record RanOn (image line room : List ℕ) (r : Ran) (room′ : List ℕ) : Type 0 where
-  pub decoded : Decoded
-  pub is : decoded ≡ decodeOf image
-  pub known : decoded .answer ≡ Is
-  pub ends : Ends (decoded .state) (run (decoded .state) line) room r room′
-
-module _ (image line room : List ℕ) (r : Ran) (room′ : List ℕ) (h : RanOn image line room r room′) where
-  pub ran-image : isImage image ≡ true
-  ran-image = decoded-is image (h .decoded) (h .is) (h .known) .0
-
-  pub ran-ends : Ends (stateIn image) (run (stateIn image) line) room r room′
-  ran-ends = subst (λ (s : State). Ends s (run s line) room r room′) (decoded-is image (h .decoded) (h .is) (h .known) .1) (h .ends)
-
-  ran-series : r .state .series ≡ seriesIn image
-  ran-series =
-      let s = h .decoded .state in
-      ap (λ (x : Ran). x .state .series) (h .ends .0) ∙ step-series s line (length room) ∙ decoded-series image (h .decoded) (h .is) (h .known)
-
-  -- laid down, as the image is as long as one of its series
-  pub laid-down : encodedIn (r .state) image ≡ imageOf (r .state)
-  laid-down =
-      let long : eqb (length image) (imageN (seriesIn image)) ≡ true = and-eq-true-iff (eqb (length image) (imageN (seriesIn image))) _ .0 ran-image .0 in
-      rw (ran-series, long)
-
-  pub call-some : (image′ : List ℕ) → image′ ≡ encodedIn (r .state) image → Calls image line room (r .told) image′ room′
-  call-some image′ l =
-      let down = l ∙ laid-down ∙ ap (λ (x : Ran). imageOf (x .state)) (ran-ends .0) in
-      rw ran-image (ap (λ (x : Ran). x .told) (ran-ends .0), (down, ran-ends .1))
+pub call-some : (image line room : List ℕ) (r : Told) (image′ room′ : List ℕ) → isImage image ≡ true
+    → Ends (stateIn image) (run (stateIn image) line) room r image′ room′ → Calls image line room r image′ room′
+call-some image line room r image′ room′ is h = rw is (h .0 .0, (h .1, h .0 .1))

@@ -14,5 +14,6 @@ pub mod Replying
 pub mod Sorts
 pub mod Telling
 pub mod Calling
+pub mod Altering
 pub mod Longest
 pub mod Determined

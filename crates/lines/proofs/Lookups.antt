@@ -1,6 +1,6 @@
 -- Laws of the lookups: a setting by its number, a stored value by two characters, the groups of GET one by one.
 use Prim.Native.Nat.{ℕ, zero, suc, _+_, _/_, _<_, _≤_}
-use mathlib.Core.Path.{_≡_, refl, sym, ap}
+use mathlib.Core.Path.{_≡_, refl, sym, ap, _∙_}
 use mathlib.Core.Bool.{Bool, true, false, cond, _&&_}
 use mathlib.Core.List.{List, [], _∷_, flatMap}
 use native.Mathlib.Omega.{arith}
@@ -14,7 +14,7 @@ use Rattle.figures.specs.Decimal.{isDigit, numberOf}
 use Rattle.figures.proofs.Tests.{both}
 use Rattle.units.specs.Kinds.{indexOf}
 use Rattle.instrument.specs.Rows.{seek}
-use Rattle.instrument.specs.Settings.{rows100, rows300, rowsOf, noRow, settingNumber, settingPlace, settingsN, settingsMost}
+use Rattle.instrument.specs.Settings.{rows100, rows300, rowsOf, noRow, settingNumber, settingPlace, settingsN, parameterAt, parameterOf}
 use Rattle.instrument.specs.Values.{stored, noStored, storedAt, indexNumber, valuePlace, valuesN}
 use Rattle.instrument.specs.declared.settings.Series.{Series}
 use Rattle.instrument.specs.declared.settings.Series.the-variants.{Tps100, Tps300}
@@ -22,9 +22,11 @@ use Rattle.instrument.specs.declared.settings.Row.{Row}
 use Rattle.instrument.specs.declared.settings.Found.{Found}
 use Rattle.instrument.specs.declared.settings.Found.the-variants.{Nothing, At}
 use Rattle.instrument.specs.declared.values.Value.{Value}
+use Rattle.state.specs.Image.{stateIn}
+use Rattle.state.specs.Keeping.{Imaged}
 use Rattle.state.specs.declared.entries.State.{State}
 use Rattle.instrument.proofs.Seek.{found-at}
-use Rattle.instrument.proofs.Ranges.{settings-few}
+use Rattle.state.proofs.Places.{series-read, parameter-read}
 use Rattle.commands.specs.Shapes.{groupRight, groupsRight, groupsIn, indexesIn}
 use Rattle.commands.proofs.Shape.{group-number}
 use Rattle.lines.specs.Verdicts.{setBy, setVerdict, placeNamed, getBy, getVerdict}
@@ -58,8 +60,11 @@ setting-none k n h = seek-above (rowsOf k) 0 n (rows-four k) h
 pub setting-in : (k : Series) (n i : ℕ) → settingPlace k n ≡ At i → i < settingsN k
 setting-in k n i e = found-at settingNumber (rowsOf k) noRow n i e .0
 
-pub setting-below : (k : Series) (n i : ℕ) → settingPlace k n ≡ At i → i < settingsMost
-setting-below k n i e = omega (arith, setting-in k n i e, settings-few k)
+-- so the parameter is read there from an image
+pub parameter-found : {k : Series} {l : List ℕ} → Imaged k l → (n i : ℕ) → settingPlace k n ≡ At i
+    → getD l (1 + i) 0 ≡ parameterOf (stateIn l .series) (stateIn l .settings) n
+parameter-found {k} {l} im n i e =
+    parameter-read im i (setting-in k n i e) ∙ sym (ap (parameterAt (stateIn l .settings)) (ap (λ (t : Series). settingPlace t n) (series-read im) ∙ e))
 
 pub value-found : (n i : ℕ) → valuePlace n ≡ At i → (i < valuesN) × (indexNumber (storedAt i) ≡ n)
 unfolding stored
@@ -83,8 +88,8 @@ pub place-in : (tens ones i : ℕ) → placeNamed tens ones ≡ At i → i < val
 place-in tens ones i e = value-found (indexOf tens ones) i (named tens ones i e .2) .0
 
 -- a SET is judged as by the series and the count alone
-pub set-judged : (s : State) (n p : ℕ) → setVerdictBy (s .series) (s .count) n p ≡ setVerdict s n p
-set-judged s n p = by (settingPlace (s .series) n)
+pub set-judged : (s : State) (k : Series) (count n p : ℕ) → s .series ≡ k → count ≡ s .count → setVerdictBy k count n p ≡ setVerdict s n p
+set-judged s k count n p ek ec = rw (← ek, ec) (by (settingPlace (s .series) n))
   where
     by : (f : Found) → setBy (bareState (s .series) (s .count)) p f ≡ setBy s p f
     by Nothing = refl

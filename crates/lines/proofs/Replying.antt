@@ -6,7 +6,7 @@ use mathlib.Core.List.{List, [], _∷_, _++_, append-assoc, append-nil}
 use native.Mathlib.Nat.{zero-mul, suc-mul, add-comm}
 use native.Mathlib.Omega.{arith}
 use borrow.Rule.Slice.PartMut.{putMid, midOf}
-use lib.ListN.{length, getD, take, drop, length-append, length-drop}
+use lib.ListN.{length, getD, set, take, drop, length-append, length-drop}
 use lib.Seq.{take-nil, drop-drop, getD-drop}
 use Rattle.figures.specs.Bytes.{laid}
 use Rattle.figures.specs.Decimal.{digitsOf}
@@ -14,7 +14,7 @@ use Rattle.figures.proofs.Bytes.{laid-fits, laid-on, length-on}
 use Rattle.figures.proofs.Decimal.{digits-on, digits-length}
 use Rattle.words.specs.Reading.{wordSize}
 use Rattle.instrument.specs.Settings.{settingPlace}
-use Rattle.instrument.specs.Values.{isPut, getWord, wordIn, valuesN}
+use Rattle.instrument.specs.Values.{isPut, getWord, wordIn}
 use Rattle.instrument.specs.declared.settings.Series.{Series}
 use Rattle.instrument.specs.declared.settings.Found.{Found}
 use Rattle.instrument.specs.declared.settings.Found.the-variants.{Nothing, At}
@@ -34,10 +34,7 @@ use Rattle.commands.specs.declared.shapes.Order.the-variants as order
 use Rattle.lines.specs.declared.verdicts.Verdict.{Verdict}
 use Rattle.lines.specs.declared.verdicts.Verdict.the-variants.{Accepted, NeverPut}
 use Rattle.commands.proofs.Shape.{groups-length, order-get, to-end}
-use Rattle.lines.proofs.Lookups.{place-in, groups-verdict, groups-words}
-
-pub same-place : (f : Found) (i j : ℕ) → f ≡ At i → f ≡ At j → i ≡ j
-same-place f i j p q = cc
+use Rattle.lines.proofs.Lookups.{groups-verdict, groups-words}
 
 pub not-both : (f : Found) (i : ℕ) → f ≡ At i → f ≡ Nothing → ⊥
 not-both f i p q = let z : _≡_ {A = ℕ} 0 1 = cc in omega arith
@@ -52,6 +49,21 @@ pub laid-then : (w e room₀ room last : List ℕ) (a : ℕ) → a ≡ length w 
     → last ≡ laid e (midOf a (length room - a) room) → putMid a (length room - a) room last ≡ laid (w ++ e) room₀
 laid-then w e room₀ room last a ea h er el =
     laid-on w e room₀ room last a ea h (er ∙ laid-fits w room₀ (omega arith)) el ∙ sym (laid-fits (w ++ e) room₀ (omega (arith, length-append w e)))
+
+-- an end, byte by byte
+
+pub end-some : (lf : Bool) → 1 ≤ length (endBytes lf)
+end-some true = omega arith
+end-some false = omega arith
+
+pub cr-laid : (room : List ℕ) → 1 ≤ length room → set room 0 13 ≡ laid (endBytes false) room
+cr-laid [] h = absurd (omega arith)
+cr-laid (a ∷ room) h = sym (laid-fits (endBytes false) (a ∷ room) h)
+
+pub crlf-laid : (room : List ℕ) → 2 ≤ length room → set (set room 0 13) 1 10 ≡ laid (endBytes true) room
+crlf-laid [] h = absurd (omega arith)
+crlf-laid (a ∷ []) h = absurd (omega arith)
+crlf-laid (a ∷ (b ∷ room)) h = sym (laid-fits (endBytes true) (a ∷ (b ∷ room)) h)
 
 -- GET: its words
 
@@ -143,12 +155,11 @@ module _ (wide : Bool) (values : List Value) (g room₀ : List ℕ) (fit : GetFi
         rw is (h .stands ∙ sym (laid-fits (h .done) room₀ (omega (arith, got-fits .0, h .here))))
 
     -- the next group names a value
-    pub got-named : i < length g → (i + 5 ≤ length g) × ((p : ℕ) × ((placeNamed (getD g (i + 3) 0) (getD g (i + 4) 0) ≡ At p) × (p < valuesN)))
+    pub got-named : i < length g → (i + 5 ≤ length g) × ((p : ℕ) × (placeNamed (getD g (i + 3) 0) (getD g (i + 4) 0) ≡ At p))
     got-named e =
         let z : h .left ≡ suc (h .left - 1) = omega (arith, h .long) in
         let r = first-right values (h .left - 1) (drop i g) (rw z at (h .accepted)) .1 in
-        let q : placeNamed (getD g (i + 3) 0) (getD g (i + 4) 0) ≡ At (r .0) = rw (← getD-drop i g 3 0, ← getD-drop i g 4 0) (r .1 .0) in
-        (omega (arith, h .long), (r .0, (q, place-in (getD g (i + 3) 0) (getD g (i + 4) 0) (r .0) q)))
+        (omega (arith, h .long), (r .0, rw (← getD-drop i g 3 0, ← getD-drop i g 4 0) (r .1 .0)))
 
     pub got-more : (p n : ℕ) (last : List ℕ) → i < length g → placeNamed (getD g (i + 3) 0) (getD g (i + 4) 0) ≡ At p → n ≡ wordSize wide
         → last ≡ laid (wordIn wide (getWord p (valueHeld values p .kept))) (midOf at (length room - at) room)

@@ -1,44 +1,43 @@
--- How the code keeps what the other files define: what a line comes to before the image is laid down, and what may be relied on there.
+-- How the code keeps what the other files define: what a line comes to, and what may be relied on on the way.
 use Prim.Native.Nat.{ℕ, zero, suc, _+_, _*_, _≤_}
 use mathlib.Core.Path.{_≡_}
 use mathlib.Core.List.{List, [], _++_}
-use mathlib.Core.Bool.{Bool, true, _||_}
+use mathlib.Core.Bool.{Bool, true}
 use lib.ListN.{length, getD, drop}
-use Rattle.figures.specs.Bytes.{startsWith, laid}
+use Rattle.figures.specs.Bytes.{laid}
 use Rattle.figures.specs.Text.{starBytes}
 use Rattle.words.specs.Reading.{wordSize}
-use Rattle.state.specs.Entries.{contentsOf, contentsBack}
+use Rattle.state.specs.Image.{imageOf}
+use Rattle.state.specs.Keeping.{parameterLaid, valueLaid}
 use Rattle.state.specs.declared.entries.Item.{Item}
+use Rattle.state.specs.declared.entries.Item.the-variants.{Free, Setting, Stored}
 use Rattle.state.specs.declared.entries.Former.{Former}
 use Rattle.state.specs.declared.entries.State.{State}
-use Rattle.lines.specs.Orders.{stateWith}
 use Rattle.lines.specs.declared.verdicts.Verdict.{Verdict}
-use Rattle.lines.specs.declared.machine.Ran.{Ran}
+use Rattle.lines.specs.declared.machine.Told.{Told}
 use Rattle.lines.specs.Machine.{Outcome, replyInRoom, told}
 use Rattle.instrument.specs.declared.settings.Series.{Series}
 use Rattle.instrument.specs.declared.values.Value.{Value}
-use Rattle.commands.specs.Shapes.{conf-slash, get-i, groupsRight, groupsIn, orderOf}
+use Rattle.commands.specs.Shapes.{groupsRight, groupsIn, orderOf}
 use Rattle.lines.specs.Verdicts.{setVerdict, placeNamed, getBy, orderVerdict}
 use Rattle.commands.specs.declared.shapes.Order.{Order}
 use Rattle.lines.specs.declared.verdicts.Verdict.the-variants.{Accepted}
 use Rattle.lines.specs.Replies.{wordAt}
 
--- how the code tells an accepted line that alters nothing: by how it starts; `asking-asks`, in proofs/Leaves.antt, shows that such a line asks
-abbrev pub isAsking : List ℕ → Bool
-isAsking line = startsWith conf-slash line || startsWith get-i line
+-- what a line that runs to an outcome is answered in a room
+abbrev pub Answers : State → Outcome → List ℕ → Told → List ℕ → Type 0
+Answers s o room r room′ =
+    let f = replyInRoom s (length room) o in (r ≡ told (f .verdict) (length (f .reply))) × (room′ ≡ laid (f .reply) room)
 
--- what a line that runs to an outcome comes to in a room
-abbrev pub ranOf : Verdict → ℕ → State → Ran
-ranOf v n s = record { told = told v n; state = s }
+-- and the image that it leaves
+abbrev pub Ends : State → Outcome → List ℕ → Told → List ℕ → List ℕ → Type 0
+Ends s o room r image′ room′ = Answers s o room r room′ × (image′ ≡ imageOf (replyInRoom s (length room) o .next))
 
-abbrev pub Ends : State → Outcome → List ℕ → Ran → List ℕ → Type 0
-Ends s o room r room′ =
-    let f = replyInRoom s (length room) o in (r ≡ ranOf (f .verdict) (length (f .reply)) (f .next)) × (room′ ≡ laid (f .reply) room)
-
--- an item with its former content again, and the list as it stands
-abbrev pub restored : State → Item → Former → State
-restored s item former =
-    stateWith (contentsBack (contentsOf s) (record { item = item; former = former })) (s .undo) (s .count)
+-- an image with an item's former content laid down again
+abbrev pub backLaid : Series → Item → Former → List ℕ → List ℕ
+backLaid k Free f l = l
+backLaid k (Setting i) f l = parameterLaid i (f .parameter) l
+backLaid k (Stored i) f l = valueLaid k i (f .kept) l
 
 -- what the code that runs a line and writes its reply may rely on: the line is accepted
 abbrev pub Accepts : State → List ℕ → Order → Type 0

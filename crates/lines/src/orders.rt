@@ -1,12 +1,14 @@
-// What an accepted line does to the state.
+// What an accepted line does: the state is taken out of the image and altered, and what is altered is laid down.
 ghost use mathlib.Core.Path.{_≡_};
-ghost use Prim.Native.Nat.{_+_, _<_, _≤_};
-ghost use Rattle.state.specs.Entries.{entriesN, entryOf, contentsOf};
+ghost use Prim.Native.Nat.{_<_};
+ghost use Rattle.state.specs.Entries.{entriesN, entryOf};
+ghost use Rattle.state.specs.Image.{imageOf, stateIn};
+ghost use Rattle.state.specs.Keeping.{Imaged};
+ghost use Rattle.instrument.specs.Settings.{settingsN};
 ghost use Rattle.instrument.specs.Values.{valuesN};
-ghost use Rattle.instrument.specs.Settings.{settingsMost};
 ghost use Rattle.lines.specs.Verdicts.{setVerdict, putVerdict};
-ghost use Rattle.lines.specs.Orders.{stateWith, setTo, putTo, pushed, changedBy, undoOf, keepOf, setDeed, putDeed, deedOf, doneOf};
-ghost use Rattle.lines.specs.Keeping.{restored, Accepts};
+ghost use Rattle.lines.specs.Orders.{setTo, putTo, changedBy, undoOf, setDeed, putDeed, deedOf, doneOf};
+ghost use Rattle.lines.specs.Keeping.{Accepts, backLaid};
 ghost use Rattle.lines.specs.declared.verdicts.Verdict as Verdict;
 use crate::verdicts::place_named;
 use crate::verdicts::setting_of;
@@ -14,18 +16,26 @@ use crate::verdicts::word_of;
 use commands::shapes::Order;
 use figures::casts::place_of;
 use instrument::settings::Found;
-use instrument::settings::SETTINGS;
+use instrument::settings::Series;
 use instrument::values::Kept;
-use instrument::values::VALUES;
 use instrument::values::Value;
 use instrument::values::put_kept;
-use state::entries::ENTRIES;
 use state::entries::Entry;
 use state::entries::Former;
 use state::entries::Item;
 use state::entries::State;
 use state::entries::blank_entry;
-use state::entries::with_no_entries;
+use state::image::COUNT_AT;
+use state::image::ENTRIES_AT;
+use state::image::REST;
+use state::image::clear;
+use state::image::count_in;
+use state::image::put_count;
+use state::image::put_entry;
+use state::image::put_parameter;
+use state::image::put_value;
+use state::image::state_of;
+use state::image::values_at;
 
 fn byte(n: usize) -> u8
     requires { ⌜ n < 256 ⌝ }
@@ -48,100 +58,91 @@ fn entry_of(item: Item, parameter: u8, kept: Kept) -> Entry
     }
 }
 
-// Adds an entry.
-fn push(s: State, entry: Entry) -> State
-    requires { ⌜ s .count < entriesN ⌝ }
-    ensures { λ r. ⌜ r ≡ stateWith (contentsOf s) (pushed s entry) (s .count + 1) ⌝ }
+// Takes the state out of its image.
+fn state_in(series: Series, image: &[u8]) -> State
+    requires { ⌜ Imaged series (now image) ⌝ }
+    ensures { λ r. ⌜ r ≡ stateIn (now (image .entry)) ⌝ }
 {
-    let n = s.count;
-    let mut t = s;
-    t.undo[n] = entry;
-    t.count = n + 1;
-    t
+    let values = values_at(series);
+    let count = values + COUNT_AT;
+    let entries = values + ENTRIES_AT;
+    let end = values + REST;
+    let n = count_in(series, image);
+    state_of(
+        series,
+        &image[1..values],
+        &image[values..count],
+        &image[entries..end],
+        n,
+    )
 }
 
 // Stores the parameter, and keeps the former one in an entry.
-pub(crate) fn set(s: State, place: usize, parameter: u8) -> State
-    requires { ⌜ (place < settingsMost) × (s .count < entriesN) ⌝ }
-    ensures { λ r. ⌜ r ≡ changedBy s (setTo place parameter) ⌝ }
+fn set(series: Series, place: usize, parameter: u8, image: &mut [u8])
+    requires { ⌜ Imaged series (now image) × ((place < settingsN series) × (stateIn (now image) .count < entriesN)) ⌝ }
+    ensures { λ _. ⌜ now (image .exit) ≡ imageOf (changedBy (stateIn (now (image .entry))) (setTo place parameter)) ⌝ }
 {
+    let mut s = state_in(series, image);
+    let n = s.count;
     let item = Item::Setting(byte(place));
     let never = Kept::Never;
-    let entry = entry_of(item, s.settings[place], never);
-    let mut t = push(s, entry);
-    t.settings[place] = parameter;
-    t
+    s.undo[n] = entry_of(item, s.settings[place], never);
+    s.settings[place] = parameter;
+    s.count = n + 1;
+    put_parameter(place, s.settings[place], image);
+    put_entry(series, n, s.undo[n], image);
+    put_count(series, s.count, image);
 }
 
 // Stores the value, and keeps the former one in an entry.
-pub(crate) fn put(s: State, place: usize, kept: Kept) -> State
-    requires { ⌜ (place < valuesN) × (s .count < entriesN) ⌝ }
-    ensures { λ r. ⌜ r ≡ changedBy s (putTo place kept) ⌝ }
+fn put(series: Series, place: usize, kept: Kept, image: &mut [u8])
+    requires { ⌜ Imaged series (now image) × ((place < valuesN) × (stateIn (now image) .count < entriesN)) ⌝ }
+    ensures { λ _. ⌜ now (image .exit) ≡ imageOf (changedBy (stateIn (now (image .entry))) (putTo place kept)) ⌝ }
 {
+    let mut s = state_in(series, image);
+    let n = s.count;
     let item = Item::Stored(byte(place));
+    let was = s.values[place];
+    let former = was.kept;
+    s.undo[n] = entry_of(item, 0, former);
+    s.values[place] = Value { kept: kept };
+    s.count = n + 1;
     let value = s.values[place];
-    let was = value.kept;
-    let entry = entry_of(item, 0, was);
-    let mut t = push(s, entry);
-    t.values[place] = Value { kept: kept };
-    t
+    let next = value.kept;
+    put_value(series, place, next, image);
+    put_entry(series, n, s.undo[n], image);
+    put_count(series, s.count, image);
 }
 
-// Gives an item its former content again; a place past the end changes nothing.
-fn restore(s: State, item: Item, former: Former) -> State
-    ensures { λ r. ⌜ r ≡ restored s item former ⌝ }
+// Lays an item's former content down again.
+fn put_back(series: Series, item: Item, former: Former, image: &mut [u8])
+    ensures { λ _. ⌜ now (image .exit) ≡ backLaid series item former (now (image .entry)) ⌝ }
 {
     match item {
-        Item::Free => s,
-        Item::Setting(b) => {
-            let place = place_of(b);
-            if SETTINGS <= place {
-                return s;
-            }
-            let mut t = s;
-            t.settings[place] = former.parameter;
-            t
-        }
+        Item::Free => {}
+        Item::Setting(b) => put_parameter(place_of(b), former.parameter, image),
         Item::Stored(b) => {
-            let place = place_of(b);
-            if VALUES <= place {
-                return s;
-            }
             let kept = former.kept;
-            let mut t = s;
-            t.values[place] = Value { kept: kept };
-            t
+            put_value(series, place_of(b), kept, image);
         }
     }
 }
 
 // Takes the newest entry back.
-pub(crate) fn undo(s: State) -> State
-    requires { ⌜ s .count ≤ entriesN ⌝ }
-    ensures { λ r. ⌜ r ≡ undoOf s ⌝ }
+fn undo(series: Series, image: &mut [u8])
+    requires { ⌜ Imaged series (now image) × (0 < stateIn (now image) .count) ⌝ }
+    ensures { λ _. ⌜ now (image .exit) ≡ imageOf (undoOf (stateIn (now (image .entry)))) ⌝ }
 {
-    if s.count == 0 {
-        return s;
-    }
+    let mut s = state_in(series, image);
     let n = s.count - 1;
     let entry = s.undo[n];
     let item = entry.item;
     let former = entry.former;
-    let blank = blank_entry();
-    let mut t = s;
-    t.undo[n] = blank;
-    t.count = n;
-    restore(t, item, former)
-}
-
-// Empties the list.
-pub(crate) fn keep(s: State) -> State
-    ensures { λ r. ⌜ r ≡ keepOf s ⌝ }
-{
-    let series = s.series;
-    let settings = s.settings;
-    let values = s.values;
-    with_no_entries(series, settings, values)
+    s.undo[n] = blank_entry();
+    s.count = n;
+    put_back(series, item, former, image);
+    put_entry(series, n, s.undo[n], image);
+    put_count(series, s.count, image);
 }
 
 fn small(n: u64) -> u8
@@ -151,37 +152,36 @@ fn small(n: u64) -> u8
     n as u8
 }
 
-fn set_done(s: State, number: u64, parameter: u64) -> State
-    requires { ⌜ setVerdict s number parameter ≡ Verdict.Verdict.Accepted ⌝ }
-    ensures { λ r. ⌜ r ≡ doneOf s (setDeed (s .series) number parameter) ⌝ }
+fn run_set(series: Series, number: u64, parameter: u64, image: &mut [u8])
+    requires { ⌜ Imaged series (now image) × (setVerdict (stateIn (now image)) number parameter ≡ Verdict.Verdict.Accepted) ⌝ }
+    ensures { λ _. ⌜ now (image .exit) ≡ imageOf (doneOf (stateIn (now (image .entry))) (setDeed series number parameter)) ⌝ }
 {
-    let series = s.series;
     let Found::At(place) = setting_of(series, number) else {
-        return s;
+        return;
     };
-    set(s, place, small(parameter))
+    set(series, place, small(parameter), image);
 }
 
-fn put_done(s: State, word: [u8; 16]) -> State
-    requires { ⌜ putVerdict (s .count) word ≡ Verdict.Verdict.Accepted ⌝ }
-    ensures { λ r. ⌜ r ≡ doneOf s (putDeed word) ⌝ }
+fn run_put(series: Series, word: [u8; 16], image: &mut [u8])
+    requires { ⌜ Imaged series (now image) × (putVerdict (stateIn (now image) .count) word ≡ Verdict.Verdict.Accepted) ⌝ }
+    ensures { λ _. ⌜ now (image .exit) ≡ imageOf (doneOf (stateIn (now (image .entry))) (putDeed word)) ⌝ }
 {
     let Found::At(place) = place_named(word[0], word[1]) else {
-        return s;
+        return;
     };
-    put(s, place, put_kept(word))
+    put(series, place, put_kept(word), image);
 }
 
-// Gives the state once an accepted line has run.
-pub(crate) fn done(s: State, text: &[u8], order: Order) -> State
-    requires { ⌜ (s .count ≤ entriesN) × Accepts s (now text) order ⌝ }
-    ensures { λ r. ⌜ r ≡ doneOf s (deedOf (s .series) (now (text .entry)) order) ⌝ }
+// Does what an accepted line does; CONF and GET alter nothing.
+pub(crate) fn alter(series: Series, text: &[u8], order: Order, image: &mut [u8])
+    requires { ⌜ Imaged series (now image) × Accepts (stateIn (now image)) (now text) order ⌝ }
+    ensures { λ _. ⌜ now (image .exit) ≡ imageOf (doneOf (stateIn (now (image .entry))) (deedOf series (now (text .entry)) order)) ⌝ }
 {
     match order {
-        Order::Set(number, parameter) => set_done(s, number, parameter),
-        Order::Put => put_done(s, word_of(text)),
-        Order::Undo => undo(s),
-        Order::Keep => keep(s),
-        _ => s,
+        Order::Set(number, parameter) => run_set(series, number, parameter, image),
+        Order::Put => run_put(series, word_of(text), image),
+        Order::Undo => undo(series, image),
+        Order::Keep => clear(series, image),
+        _ => {}
     }
 }

@@ -6,6 +6,8 @@ ghost use lib.ListN.{length};
 ghost use Rattle.figures.specs.Bytes.{laid};
 ghost use Rattle.words.specs.Reading.{wordSize};
 ghost use Rattle.instrument.specs.Values.{wordIn};
+ghost use Rattle.state.specs.Image.{stateIn};
+ghost use Rattle.state.specs.Keeping.{Imaged};
 ghost use Rattle.commands.specs.Shapes.{groupsIn};
 ghost use Rattle.lines.specs.Verdicts.{confVerdict};
 ghost use Rattle.lines.specs.Replies.{endsLf, answersWide, replyEnd, warning, confBody, bodyOf};
@@ -17,50 +19,48 @@ use crate::verdicts::setting_of;
 use commands::shapes::Order;
 use figures::casts::wide;
 use instrument::settings::Found;
-use instrument::settings::SETTINGS;
 use instrument::settings::Series;
 use instrument::tps100::END_100;
 use instrument::tps300::END_300;
 use instrument::tps300::WIDE_300;
-use instrument::values::VALUES;
-use instrument::values::Value;
 use instrument::values::get_word;
 use instrument::values::widen;
-use state::entries::State;
+use state::image::parameter_in;
+use state::image::value_in;
 
 // The longest reply: a `*`, as many wide words as a GET of 100 characters asks for, and CR LF.
 pub const REPLY_MOST: usize = 1 + 19 * 24 + 2;
 
 // Tells whether a reply ends in CR LF: setting 73, which every reply asks for and which is therefore taken by its place.
-pub(crate) fn ends_lf(s: State) -> bool
-    ensures { λ r. ⌜ r ≡ endsLf s ⌝ }
+pub(crate) fn ends_lf(series: Series, image: &[u8]) -> bool
+    requires { ⌜ Imaged series (now image) ⌝ }
+    ensures { λ r. ⌜ r ≡ endsLf (stateIn (now (image .entry))) ⌝ }
 {
-    let series = s.series;
     match series {
-        Series::Tps100 => s.settings[END_100] != 0,
-        Series::Tps300 => s.settings[END_300] != 0,
+        Series::Tps100 => parameter_in(END_100, image) != 0,
+        Series::Tps300 => parameter_in(END_300, image) != 0,
     }
 }
 
 // Tells whether GET answers in wide words: setting 137, where the series has it.
-fn is_wide(s: State) -> bool
-    ensures { λ r. ⌜ r ≡ answersWide s ⌝ }
+fn is_wide(series: Series, image: &[u8]) -> bool
+    requires { ⌜ Imaged series (now image) ⌝ }
+    ensures { λ r. ⌜ r ≡ answersWide (stateIn (now (image .entry))) ⌝ }
 {
-    let series = s.series;
     match series {
         Series::Tps100 => false,
-        Series::Tps300 => s.settings[WIDE_300] != 0,
+        Series::Tps300 => parameter_in(WIDE_300, image) != 0,
     }
 }
 
 // Lays CR or CR LF.
 fn put_end(lf: bool, room: &mut [u8])
+    requires { ⌜ length (endBytes lf) ≤ length (now room) ⌝ }
     ensures { λ _. ⌜ now (room .exit) ≡ laid (endBytes lf) (now (room .entry)) ⌝ }
 {
+    room[0] = b'\r';
     if lf {
-        figures::lay(b"\r\n", room);
-    } else {
-        figures::lay(b"\r", room);
+        room[1] = b'\n';
     }
 }
 
@@ -99,9 +99,9 @@ fn put_word(wide: bool, word: [u8; 16], room: &mut [u8]) -> usize
 }
 
 // Lays the words that GET answers, each into the part of the room that starts after the words before it.
-fn put_get(wide: bool, values: [Value; VALUES], groups: &[u8], room: &mut [u8])
-    requires { ⌜ GetFits values (now groups) (groupsWords wide values (groupsIn (now groups)) (now groups)) (now room) ⌝ }
-    ensures { λ _. ⌜ now (room .exit) ≡ laid (groupsWords wide values (groupsIn (now (groups .entry))) (now (groups .entry))) (now (room .entry)) ⌝ }
+fn put_get(wide: bool, series: Series, image: &[u8], groups: &[u8], room: &mut [u8])
+    requires { ⌜ Imaged series (now image) × GetFits (stateIn (now image) .values) (now groups) (groupsWords wide (stateIn (now image) .values) (groupsIn (now groups)) (now groups)) (now room) ⌝ }
+    ensures { λ _. ⌜ now (room .exit) ≡ laid (groupsWords wide (stateIn (now (image .entry)) .values) (groupsIn (now (groups .entry))) (now (groups .entry))) (now (room .entry)) ⌝ }
 {
     let mut i = 0;
     let mut at = 0;
@@ -109,12 +109,7 @@ fn put_get(wide: bool, values: [Value; VALUES], groups: &[u8], room: &mut [u8])
         let Found::At(place) = place_named(groups[i + 3], groups[i + 4]) else {
             return;
         };
-        if VALUES <= place {
-            return;
-        }
-        let value = values[place];
-        let kept = value.kept;
-        let word = get_word(place, kept);
+        let word = get_word(place, value_in(series, place, image));
         let n = put_word(wide, word, &mut room[at..]);
         at += n;
         i += 5;
@@ -122,28 +117,25 @@ fn put_get(wide: bool, values: [Value; VALUES], groups: &[u8], room: &mut [u8])
 }
 
 // Lays what GET answers: the words, after a `*` where they are wide.
-fn put_words(wide: bool, values: [Value; VALUES], groups: &[u8], room: &mut [u8])
-    requires { ⌜ GetFits values (now groups) (groupsBody wide values (groupsIn (now groups)) (now groups)) (now room) ⌝ }
-    ensures { λ _. ⌜ now (room .exit) ≡ laid (groupsBody wide values (groupsIn (now (groups .entry))) (now (groups .entry))) (now (room .entry)) ⌝ }
+fn put_words(wide: bool, series: Series, image: &[u8], groups: &[u8], room: &mut [u8])
+    requires { ⌜ Imaged series (now image) × GetFits (stateIn (now image) .values) (now groups) (groupsBody wide (stateIn (now image) .values) (groupsIn (now groups)) (now groups)) (now room) ⌝ }
+    ensures { λ _. ⌜ now (room .exit) ≡ laid (groupsBody wide (stateIn (now (image .entry)) .values) (groupsIn (now (groups .entry))) (now (groups .entry))) (now (room .entry)) ⌝ }
 {
     let at = put_star(wide, room);
-    put_get(wide, values, groups, &mut room[at..]);
+    put_get(wide, series, image, groups, &mut room[at..]);
 }
 
 // Makes the nine characters that CONF answers.
-fn conf_body(series: Series, settings: [u8; SETTINGS], number: u64) -> [u8; 9]
-    requires { ⌜ confVerdict series number ≡ Verdict.Verdict.Accepted ⌝ }
-    ensures { λ r. ⌜ r ≡ confBody series settings number ⌝ }
+fn conf_body(series: Series, image: &[u8], number: u64) -> [u8; 9]
+    requires { ⌜ Imaged series (now image) × (confVerdict series number ≡ Verdict.Verdict.Accepted) ⌝ }
+    ensures { λ r. ⌜ r ≡ confBody series (stateIn (now (image .entry)) .settings) number ⌝ }
 {
     let mut body = [b'/'; 9];
     let Found::At(place) = setting_of(series, number) else {
         return body;
     };
-    if SETTINGS <= place {
-        return body;
-    }
     figures::put_number(number, &mut body[0..4]);
-    figures::put_number(wide(settings[place]), &mut body[5..9]);
+    figures::put_number(wide(parameter_in(place, image)), &mut body[5..9]);
     body
 }
 
@@ -159,16 +151,16 @@ fn get_length(wide: bool, indexes: usize) -> usize
 }
 
 // Gives the length of the reply to an accepted line, without its end.
-pub(crate) fn body_length(s: State, text: &[u8], order: Order) -> usize
-    requires { ⌜ Accepts s (now text) order ⌝ }
-    ensures { λ r. ⌜ r ≡ length (bodyOf s (now (text .entry)) order) ⌝ }
+pub(crate) fn body_length(series: Series, image: &[u8], text: &[u8], order: Order) -> usize
+    requires { ⌜ Imaged series (now image) × Accepts (stateIn (now image)) (now text) order ⌝ }
+    ensures { λ r. ⌜ r ≡ length (bodyOf (stateIn (now (image .entry))) (now (text .entry)) order) ⌝ }
 {
     match order {
         Order::WrongShape => 0,
         Order::Set(_, _) => 1,
         Order::Conf(_) => 9,
         Order::Put => 1,
-        Order::Get => get_length(is_wide(s), (text.len() - 5) / 5),
+        Order::Get => get_length(is_wide(series, image), (text.len() - 5) / 5),
         Order::Undo => 1,
         Order::Keep => 1,
         Order::NoKeyword => 0,
@@ -176,23 +168,20 @@ pub(crate) fn body_length(s: State, text: &[u8], order: Order) -> usize
 }
 
 // Lays the reply to an accepted line.
-pub(crate) fn put_reply(s: State, text: &[u8], order: Order, room: &mut [u8])
-    requires { ⌜ Accepts s (now text) order × (length (bodyOf s (now text) order) + length (replyEnd s) ≤ length (now room)) ⌝ }
-    ensures { λ _. ⌜ now (room .exit) ≡ laid (bodyOf s (now (text .entry)) order ++ replyEnd s) (now (room .entry)) ⌝ }
+pub(crate) fn put_reply(series: Series, image: &[u8], text: &[u8], order: Order, room: &mut [u8])
+    requires { ⌜ Imaged series (now image) × (Accepts (stateIn (now image)) (now text) order × (length (bodyOf (stateIn (now image)) (now text) order) + length (replyEnd (stateIn (now image))) ≤ length (now room))) ⌝ }
+    ensures { λ _. ⌜ now (room .exit) ≡ laid (bodyOf (stateIn (now (image .entry))) (now (text .entry)) order ++ replyEnd (stateIn (now (image .entry)))) (now (room .entry)) ⌝ }
 {
-    let lf = ends_lf(s);
+    let lf = ends_lf(series, image);
     match order {
         Order::Conf(number) => {
-            let series = s.series;
-            let settings = s.settings;
-            let body = conf_body(series, settings, number);
+            let body = conf_body(series, image, number);
             put_text(&body, lf, room);
         }
         Order::Get => {
-            let values = s.values;
-            let wide = is_wide(s);
+            let wide = is_wide(series, image);
             let n = get_length(wide, (text.len() - 5) / 5);
-            put_words(wide, values, &text[5..], room);
+            put_words(wide, series, image, &text[5..], room);
             put_end(lf, &mut room[n..]);
         }
         Order::WrongShape => put_end(lf, room),
@@ -202,9 +191,9 @@ pub(crate) fn put_reply(s: State, text: &[u8], order: Order, room: &mut [u8])
 }
 
 // Lays the reply to a refused line.
-pub(crate) fn put_wrong(s: State, room: &mut [u8])
-    requires { ⌜ 5 + length (replyEnd s) ≤ length (now room) ⌝ }
-    ensures { λ _. ⌜ now (room .exit) ≡ laid (warning ++ replyEnd s) (now (room .entry)) ⌝ }
+pub(crate) fn put_wrong(series: Series, image: &[u8], room: &mut [u8])
+    requires { ⌜ Imaged series (now image) × (5 + length (replyEnd (stateIn (now image))) ≤ length (now room)) ⌝ }
+    ensures { λ _. ⌜ now (room .exit) ≡ laid (warning ++ replyEnd (stateIn (now (image .entry)))) (now (room .entry)) ⌝ }
 {
-    put_text(b"@W127", ends_lf(s), room);
+    put_text(b"@W127", ends_lf(series, image), room);
 }

@@ -4,6 +4,8 @@ ghost use Prim.Native.Nat.{_≤_};
 ghost use lib.ListN.{length, drop};
 ghost use mathlib.Core.Bool.{true};
 ghost use Rattle.instrument.specs.Settings.{settingPlace};
+ghost use Rattle.state.specs.Image.{stateIn};
+ghost use Rattle.state.specs.Keeping.{Imaged};
 ghost use Rattle.commands.specs.Shapes.{groupsRight, groupsIn, orderOf};
 ghost use Rattle.lines.specs.Verdicts.{verdictNumber, verdictWhich, verdictByte, isAccepted};
 ghost use Rattle.lines.specs.Verdicts.{fullVerdict, confVerdict, placeNamed, putVerdict, orderVerdict};
@@ -14,13 +16,12 @@ use instrument::settings::Series;
 use instrument::settings::in_range;
 use instrument::settings::row_at;
 use instrument::settings::setting_at;
-use instrument::values::VALUES;
-use instrument::values::Value;
 use instrument::values::is_put;
 use instrument::values::put_judged;
 use instrument::values::value_place;
 use state::entries::ENTRIES;
-use state::entries::State;
+use state::image::count_in;
+use state::image::value_in;
 use units::kinds::Named;
 use units::kinds::named_by;
 use words::reading::Fault;
@@ -183,21 +184,16 @@ fn put_verdict(count: usize, word: [u8; 16]) -> Verdict
 }
 
 // Judges the indexes of GET, one after the other: 25, then 27.
-fn get_verdict(values: [Value; VALUES], groups: &[u8]) -> Verdict
-    requires { ⌜ groupsRight (groupsIn (now groups)) (now groups) ≡ true ⌝ }
-    ensures { λ r. ⌜ r ≡ groupsVerdict values (groupsIn (now (groups .entry))) (now (groups .entry)) ⌝ }
+fn get_verdict(series: Series, image: &[u8], groups: &[u8]) -> Verdict
+    requires { ⌜ Imaged series (now image) × (groupsRight (groupsIn (now groups)) (now groups) ≡ true) ⌝ }
+    ensures { λ r. ⌜ r ≡ groupsVerdict (stateIn (now (image .entry)) .values) (groupsIn (now (groups .entry))) (now (groups .entry)) ⌝ }
 {
     let mut at = 0;
     while at < groups.len() {
         let Found::At(place) = place_named(groups[at + 3], groups[at + 4]) else {
             return Verdict::Index;
         };
-        if VALUES <= place {
-            return Verdict::Index;
-        }
-        let value = values[place];
-        let kept = value.kept;
-        if !is_put(kept) {
+        if !is_put(value_in(series, place, image)) {
             return Verdict::NeverPut;
         }
         at += 5;
@@ -206,21 +202,17 @@ fn get_verdict(values: [Value; VALUES], groups: &[u8]) -> Verdict
 }
 
 // Judges a line's order: 22 to 29, 38 or 39, or accepted.
-pub(crate) fn order_verdict(s: State, text: &[u8], order: Order) -> Verdict
-    requires { ⌜ order ≡ orderOf (now text) ⌝ }
-    ensures { λ r. ⌜ r ≡ orderVerdict s (now (text .entry)) order ⌝ }
+pub(crate) fn order_verdict(series: Series, image: &[u8], text: &[u8], order: Order) -> Verdict
+    requires { ⌜ Imaged series (now image) × (order ≡ orderOf (now text)) ⌝ }
+    ensures { λ r. ⌜ r ≡ orderVerdict (stateIn (now (image .entry))) (now (text .entry)) order ⌝ }
 {
-    let series = s.series;
-    let count = s.count;
+    let count = count_in(series, image);
     match order {
         Order::WrongShape => Verdict::Shape,
         Order::Set(number, parameter) => set_verdict(series, count, number, parameter),
         Order::Conf(number) => conf_verdict(series, number),
         Order::Put => put_verdict(count, word_of(text)),
-        Order::Get => {
-            let values = s.values;
-            get_verdict(values, &text[5..])
-        }
+        Order::Get => get_verdict(series, image, &text[5..]),
         Order::Undo => {
             if count == 0 {
                 return Verdict::NoEntry;

@@ -1,21 +1,20 @@
 -- Laws of the keys that the rows of the tables hold, by one computed test of every row.
-use Prim.Native.Nat.{ℕ, _-_, _≤_}
-use mathlib.Core.Path.{_≡_, refl, sym, ap}
+use Prim.Native.Nat.{ℕ, _-_, _≤_, _<_}
+use mathlib.Core.Path.{_≡_, refl, sym}
 use mathlib.Core.Bool.{Bool, true, false, cond, _&&_, and-eq-true-iff}
-use mathlib.Core.List.{List, []}
+use mathlib.Core.List.{List, [], _∷_}
 use native.Mathlib.Nat.{sub-zero}
 use native.Mathlib.Omega.{arith}
-use borrow.Author.Tests.{eqb-true, leb-true}
+use borrow.Author.Tests.{eqb-true, leb-true, ltb-true}
 use borrow.Rule.Slice.PartMut.{midOf}
-use lib.Dec.{eqb, leb}
+use lib.Dec.{eqb, leb, ltb}
 use lib.ListN.{length, getD, take}
 use Rattle.figures.specs.Bytes.{startsWith, sameBytes}
 use Rattle.figures.specs.Decimal.{digitsOf, digitsNBy}
-use Rattle.figures.specs.Rooms.{Puts}
 use Rattle.figures.proofs.Bytes.{same-true}
-use Rattle.figures.proofs.Putting.{puts-as}
-use Rattle.instrument.specs.Settings.{settingNumber, noRow, rows100, rows300, rowsOf, rowAt}
-use Rattle.instrument.specs.Values.{noStored, stored, storedAt, indexNumber}
+use Rattle.figures.proofs.Tests.{both, Even, along}
+use Rattle.instrument.specs.Settings.{settingNumber, noRow, rows100, rows300, rowsOf, rowAt, settingsN}
+use Rattle.instrument.specs.Values.{noStored, stored, storedAt, indexNumber, valuesN}
 use Rattle.instrument.specs.Rows.{keyOf, keyBytes}
 use Rattle.instrument.proofs.Seek.{eachRow, row-tested}
 use Rattle.instrument.specs.declared.settings.Series.{Series}
@@ -44,6 +43,10 @@ keyed held key most e =
       few = leb-true (length key) most (rest .1);
     }
 
+-- the part of what a row holds that the code takes for its key
+pub key-part : {held key : List ℕ} {most : ℕ} → Keyed held key most → {own : List ℕ} {n : ℕ} → own ≡ held → n ≡ keyLength own → midOf 0 (n - 0) own ≡ key
+key-part k e en = rw (en, e, sub-zero) (k .is)
+
 -- whatever a row holds, no key is taken for longer than five bytes
 pub key-most : (held : List ℕ) → keyLength held ≤ 5
 key-most held = by (eqb (getD held 4 0) 0) (eqb (getD held 3 0) 0)
@@ -52,13 +55,6 @@ key-most held = by (eqb (getD held 4 0) 0) (eqb (getD held 3 0) 0)
     by true true = omega arith
     by true false = omega arith
     by false fourth = omega arith
-
--- the part of what a row holds that is put is its key
-key-put : {held key : List ℕ} {most : ℕ} → Keyed held key most → (room : List ℕ) (at : ℕ) {own one : List ℕ} {n m : ℕ} → own ≡ held → n ≡ keyLength own
-    → Puts room at (midOf 0 (n - 0) own) m one → Puts room at key m one
-key-put {held} {key} k room at {own} {n = n} e en p =
-    let cut : midOf 0 (n - 0) own ≡ key = rw (en, e, sub-zero) (k .is) in
-    puts-as room at (midOf 0 (n - 0) own) key (sym cut) refl refl p
 
 -- the settings' rows
 
@@ -77,9 +73,21 @@ pub setting-keyed : (k : Series) (i : ℕ) → Keyed (keyHeld k i) (settingKey (
 setting-keyed k i =
     keyed (keyHeld k i) (settingKey (rowAt k i)) 5 (row-tested settingKeyed (rowsOf k) noRow (settings-keyed k .0) (settings-keyed k .1) i)
 
-pub setting-key-put : (k : Series) (i n : ℕ) (key room : List ℕ) (at : ℕ) {one : List ℕ} {m : ℕ} → key ≡ keyHeld k i → n ≡ keyLength key
-    → Puts room at (midOf 0 (n - 0) key) m one → Puts room at (settingKey (rowAt k i)) m one
-setting-key-put k i n key room at e en p = key-put (setting-keyed k i) room at e en p
+-- a setting's number has two digits or three
+
+abbrev isNumbered : Series → ℕ → Bool
+isNumbered k i = leb 10 (settingNumber (rowAt k i)) && ltb (settingNumber (rowAt k i)) 1000
+
+all-numbered : (k : Series) → Even (isNumbered k) true 0 (settingsN k)
+unfolding rows100 rows300
+all-numbered Tps100 = refl
+all-numbered Tps300 = refl
+
+pub setting-numbered : (k : Series) (i : ℕ) → i < settingsN k → (10 ≤ settingNumber (rowAt k i)) × (settingNumber (rowAt k i) < 1000)
+setting-numbered k i h =
+    let n = settingNumber (rowAt k i) in
+    let e = both (leb 10 n) (ltb n 1000) (sym (along (isNumbered k) 0 (settingsN k) (all-numbered k) (omega arith) h)) in
+    (leb-true 10 n (e .0), ltb-true n 1000 (e .1))
 
 -- the values' rows
 
@@ -93,6 +101,12 @@ values-keyed = (refl, refl)
 pub value-keyed : (i : ℕ) → Keyed (storedAt i .key) (valueKey i) 4
 value-keyed i = keyed (storedAt i .key) (valueKey i) 4 (row-tested valueKeyed stored noStored (values-keyed .0) (values-keyed .1) i)
 
-pub value-key-put : (i n : ℕ) (r : Stored) (room : List ℕ) (at : ℕ) {one : List ℕ} {m : ℕ} → r ≡ storedAt i → n ≡ keyLength (r .key)
-    → Puts room at (midOf 0 (n - 0) (r .key)) m one → Puts room at (valueKey i) m one
-value-key-put i n r room at e en p = key-put (value-keyed i) room at (ap (λ (x : Stored). x .key) e) en p
+-- a value's is the first four of the bytes that its row holds
+
+abbrev pub firstFour : List ℕ → List ℕ
+firstFour l = getD l 0 0 ∷ getD l 1 0 ∷ getD l 2 0 ∷ getD l 3 0 ∷ []
+
+pub value-key : (i : ℕ) → i < valuesN → valueKey i ≡ firstFour (storedAt i .key)
+unfolding stored digitsOf digitsNBy startsWith
+value-key i h =
+    same-true (valueKey i) (firstFour (storedAt i .key)) (sym (along (λ j. sameBytes (valueKey j) (firstFour (storedAt j .key))) 0 valuesN refl (omega arith) h))

@@ -2,6 +2,7 @@ pub mod Keyed
 pub mod Linewise
 pub mod Partwise
 pub mod Says
+pub mod Takes
 pub mod Ended
 pub mod Sheets
 pub mod Sizes

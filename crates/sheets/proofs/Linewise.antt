@@ -1,36 +1,32 @@
--- Laws of lines: one line more, a line or a sheet as the code keeps it, and how long a line is.
-use Prim.Native.Nat.{ℕ, suc, _+_, _-_, _*_, _/_, _^_, _<_, _≤_, min}
+-- Laws of lines: one line more, whether the next one fits, and how long a line is.
+use Prim.Native.Nat.{ℕ, suc, _+_, _*_, _/_, _%_, _^_, _<_, _≤_}
 use mathlib.Core.Path.{_≡_, refl, sym, ap, _∙_}
 use mathlib.Core.Bool.{cond}
-use mathlib.Core.List.{List, [], _∷_, _++_, append-assoc, append-nil}
-use native.Mathlib.Nat.{add-zero, sub-zero}
+use mathlib.Core.List.{List, [], _∷_, _++_, append-assoc, append-nil, foldr}
+use native.Mathlib.Nat.{add-zero}
 use native.Mathlib.Numerals.{add-one}
 use native.Mathlib.Omega.{arith}
-use borrow.Author.Tests.{ltb-true, lt-ltb}
-use borrow.Rule.Slice.PartMut.{midOf}
+use borrow.Author.Tests.{ltb-true, lt-ltb, le-ltb}
 use lib.Dec.{ltb}
-use lib.ListN.{length, getD, take, drop, replicate, length-append}
-use lib.Seq.{take-suc, take-all, take-at, length-take-le}
+use lib.ListN.{length, getD, take, drop, length-append, take-append-drop, drop-of-length-le}
+use lib.Seq.{take-suc, take-all, drop-cons, length-take-le}
 use Rattle.figures.specs.Text.{codes}
-use Rattle.figures.specs.Bytes.{laid}
-use Rattle.figures.specs.Decimal.{digitsNBy, digitsN, decimalOf}
+use Rattle.figures.specs.Decimal.{digitsOf, digitsNBy, digitsN, decimalOf}
 use Rattle.figures.specs.Rooms.{Puts}
-use Rattle.figures.proofs.Bytes.{laid-fits, length-laid}
 use Rattle.figures.proofs.Decimal.{digits-length}
 use Rattle.figures.proofs.Tests.{by-test}
-use Rattle.figures.proofs.Putting.{puts-as, puts-more, puts-nothing}
-use Rattle.instrument.specs.Settings.{rowAt, held}
-use Rattle.instrument.specs.Values.{isPut, getWord}
+use Rattle.figures.proofs.Putting.{puts-as, puts-more, puts-nothing, puts-long}
+use Rattle.instrument.specs.Settings.{rows100, rows300, rowsOf, settingsN, rowAt, noRow, held}
+use Rattle.instrument.specs.Values.{isPut}
 use Rattle.instrument.specs.declared.settings.Series.{Series}
-use Rattle.instrument.specs.declared.values.Eight.{Eight}
+use Rattle.instrument.specs.declared.settings.Series.the-variants.{Tps100, Tps300}
+use Rattle.instrument.specs.declared.settings.Row.{Row}
 use Rattle.instrument.specs.declared.values.Kept.{Kept}
 use Rattle.instrument.specs.declared.values.Kept.the-variants.{Never, Put}
 use Rattle.state.specs.declared.entries.State.{State}
 use Rattle.sheets.specs.Lines.{LinesOf, linesBy}
 use Rattle.sheets.specs.Sheet.{seriesLine, settingKey, settingLines, charactersN, charactersOf, valueKey, keptLine, valueLines, sheetOf}
-use Rattle.sheets.specs.Keeping.{lineMost, sheetMost, lineAs, sheetAs}
-use Rattle.sheets.specs.declared.writing.Line.{Line}
-use Rattle.sheets.specs.declared.writing.Sheet.{Sheet}
+use Rattle.sheets.specs.Keeping.{lineMost, keysN}
 use Rattle.sheets.proofs.Keyed.{setting-keyed, value-keyed}
 
 -- one line more, whatever a line is
@@ -56,6 +52,28 @@ module _ {A : Type 0} (l : LinesOf A) where
   unfolding linesBy
   lines-none room at xs h = puts-nothing room at h
 
+  -- how long the lines before a place are: none, and one more
+
+  pub long-none : (xs : List A) → length (linesBy l 0 (take 0 xs)) ≡ 0
+  unfolding linesBy
+  long-none xs = refl
+
+  pub long-more : (xs : List A) (i : ℕ) (d : A) → i < length xs
+      → length (linesBy l 0 (take (i + 1) xs)) ≡ length (linesBy l 0 (take i xs)) + length (l .write i (getD xs i d))
+  long-more xs i d h = ap length (lines-more xs i d h) ∙ length-append (linesBy l 0 (take i xs)) (l .write i (getD xs i d))
+
+  long-all : (xs : List A) (i : ℕ) → length (linesBy l 0 (take i xs)) ≤ length (linesBy l 0 xs)
+  long-all xs i =
+      let done = take i xs in
+      let whole = ap (linesBy l 0) (sym (take-append-drop i xs)) ∙ lines-append 0 done (drop i xs) in
+      omega (arith, ap length whole, length-append (linesBy l 0 done) (linesBy l (0 + length done) (drop i xs)))
+
+  -- where all lines fit the next does
+  pub lines-fit : (room : List ℕ) (at : ℕ) (xs : List A) (i : ℕ) (d : A) {one : List ℕ} {m : ℕ} → i < length xs
+      → at + length (linesBy l 0 xs) ≤ length room → Puts room at (linesBy l 0 (take i xs)) m one → m + length (l .write i (getD xs i d)) ≤ length one
+  lines-fit room at xs i d h fits p =
+      omega (arith, p .0, puts-long room at (linesBy l 0 (take i xs)) p, long-more xs i d h, long-all xs (i + 1))
+
   -- the line of the next place is put after those before it
   pub lines-put : (room : List ℕ) (at : ℕ) (xs : List A) (i : ℕ) (d : A) {text one two : List ℕ} {m n : ℕ} → i < length xs → text ≡ l .write i (getD xs i d)
       → Puts room at (linesBy l 0 (take i xs)) m one → Puts one m text n two → Puts room at (linesBy l 0 (take (i + 1) xs)) n two
@@ -67,49 +85,26 @@ module _ {A : Type 0} (l : LinesOf A) where
       → Puts room at (linesBy l 0 (take i xs)) m one → Puts room at (linesBy l 0 xs) m one
   lines-all room at xs i h p = rw (take-all i xs h) at p
 
--- what is put from the start of a room, and what is held there
+-- a number of up to three digits, by them
 
-module _ (room l : List ℕ) where
-  put-held : (at : ℕ) (bytes : List ℕ) → Puts room 0 l at bytes → (bytes ≡ laid l room) × (at ≡ min (length l) (length room))
-  put-held at bytes p = (p .1, omega (arith, p .0))
+module _ (n : ℕ) where
+  pub one-digit : n < 10 → decimalOf n ≡ (48 + n % 10) ∷ []
+  unfolding digitsNBy digitsOf
+  one-digit h = rw (lt-ltb n 10 h)
 
-  held-put : (at : ℕ) (bytes : List ℕ) → bytes ≡ laid l room → at ≡ min (length l) (length room) → Puts room 0 l at bytes
-  held-put at bytes e n = (omega (arith, n), e)
+  pub two-digits : 10 ≤ n → n < 100 → decimalOf n ≡ (48 + n / 10 % 10) ∷ (48 + n % 10) ∷ []
+  unfolding digitsNBy digitsOf
+  two-digits low h = rw (le-ltb n 10 low, lt-ltb (n / 10) 10 (omega arith))
 
-  pub held-whole : (at : ℕ) (bytes : List ℕ) → length l ≤ length room → bytes ≡ laid l room → at ≡ min (length l) (length room)
-      → (at ≡ length l) × (take at bytes ≡ l)
-  held-whole at bytes h e n =
-      let long : at ≡ length l = omega (arith, n) in
-      (long, rw (e, long, laid-fits l room h) (take-at l (drop (length l) room) (length l) refl))
+  pub three-digits : 100 ≤ n → n < 1000 → decimalOf n ≡ (48 + n / 100 % 10) ∷ (48 + n / 10 % 10) ∷ (48 + n % 10) ∷ []
+  unfolding digitsNBy digitsOf
+  three-digits low h =
+      let first : n / 10 / 10 ≡ n / 100 = omega arith in
+      rw (le-ltb n 10 (omega arith), le-ltb (n / 10) 10 (omega arith), lt-ltb (n / 10 / 10) 10 (omega arith), first)
 
--- a key, what follows it, and LF: the line as the code keeps it
-pub line-put : (key b : List ℕ) {one two bytes : List ℕ} {m n at : ℕ} → Puts (replicate lineMost 0) 0 key m one → Puts one m b n two
-    → Puts two n (codes "\n") at bytes → record { bytes = bytes; n = at } ≡ lineAs (key ++ (b ++ codes "\n"))
-line-put key b {bytes = bytes} {at = at} p q r =
-    let all = puts-more (replicate lineMost 0) 0 key (b ++ codes "\n") p (puts-more _ _ b (codes "\n") q r) in
-    let is = put-held (replicate lineMost 0) (key ++ (b ++ codes "\n")) at bytes all in
-    λ j. record { bytes = is .0 j; n = is .1 j }
-
-pub characters-cut : (i : ℕ) (k : Kept) (word : List ℕ) {u m : ℕ} {d : Eight} → k ≡ Put u m d → word ≡ getWord i k → charactersOf i k ≡ take 15 word
-characters-cut i k word e q = rw (q, e)
-
--- the part of a kept line that is put into a sheet
-pub line-cut : (l : List ℕ) (r : Line) → length l ≤ lineMost → r ≡ lineAs l → midOf 0 (r .n - 0) (r .bytes) ≡ l
-line-cut l r h e = rw (e, sub-zero) (held-whole (replicate lineMost 0) l (min (length l) lineMost) (laid l (replicate lineMost 0)) h refl refl .1)
-
-pub line-long : (l : List ℕ) (r : Line) → length l ≤ lineMost → r ≡ lineAs l → r .n ≡ length l
-line-long l r h e = omega (arith, ap (λ (x : Line). x .n) e)
-
-pub line-within : (l : List ℕ) (r : Line) → r ≡ lineAs l → r .n ≤ length (r .bytes)
-line-within l r e = omega (arith, ap (λ (x : Line). x .n) e, ap (λ (x : Line). length (x .bytes)) e, length-laid l (replicate lineMost 0))
-
--- a sheet, or its start, as the code keeps it
-
-pub sheet-put : (l : List ℕ) {at : ℕ} {bytes : List ℕ} → Puts (replicate sheetMost 0) 0 l at bytes → record { bytes = bytes; n = at } ≡ sheetAs l
-sheet-put l {at} {bytes} p = let is = put-held (replicate sheetMost 0) l at bytes p in λ j. record { bytes = is .0 j; n = is .1 j }
-
-pub put-sheet : (l : List ℕ) (r : Sheet) → r ≡ sheetAs l → Puts (replicate sheetMost 0) 0 l (r .n) (r .bytes)
-put-sheet l r e = held-put (replicate sheetMost 0) l (r .n) (r .bytes) (ap (λ (x : Sheet). x .bytes) e) (ap (λ (x : Sheet). x .n) e)
+  -- and how many they are
+  pub digits-as : {t : List ℕ} → decimalOf n ≡ t → digitsN n ≡ length t
+  digits-as e = sym (digits-length (digitsN n) n) ∙ ap length e
 
 -- how long a line is
 
@@ -129,6 +124,32 @@ kept-long i Never = omega (arith, length-append (valueKey i) (codes "\n"))
 kept-long i (Put u m d) =
     let c = charactersOf i (Put u m d) in
     omega (arith, length-append (valueKey i) (c ++ codes "\n"), length-append c (codes "\n"))
+
+-- the lines of the settings before the place i, and the keys and LFs of those from there on
+
+abbrev pub keysFrom : Series → ℕ → ℕ
+keysFrom k i = foldr (λ (r : Row) n. length (settingKey r) + 1 + n) 0 (drop i (rowsOf k))
+
+abbrev pub sizeTo : Series → List ℕ → ℕ → ℕ
+sizeTo k ps i = length (linesBy (settingLines k) 0 (take i ps)) + keysFrom k i
+
+pub keys-few : (k : Series) → keysN k ≤ 164
+unfolding keysN rows100 rows300 digitsOf digitsNBy
+keys-few Tps100 = omega arith
+keys-few Tps300 = omega arith
+
+pub size-none : (k : Series) (ps : List ℕ) → keysN k ≡ sizeTo k ps 0
+unfolding keysN
+size-none k ps = omega (arith, long-none (settingLines k) ps)
+
+module _ (k : Series) (ps : List ℕ) (all : length ps ≡ settingsN k) where
+  pub size-more : (i : ℕ) → i < length ps → sizeTo k ps (i + 1) ≡ sizeTo k ps i + digitsN (getD ps i 0)
+  size-more i h =
+      let keys : keysFrom k i ≡ length (settingKey (rowAt k i)) + 1 + keysFrom k (i + 1) = rw (drop-cons (rowsOf k) i noRow (omega arith), add-one i) in
+      omega (arith, keys, long-more (settingLines k) ps i 0 h, setting-long k i (getD ps i 0))
+
+  pub size-all : (i : ℕ) → length ps ≤ i → sizeTo k ps i ≡ length (linesBy (settingLines k) 0 ps)
+  size-all i h = rw (drop-of-length-le (rowsOf k) {i = i} (omega arith), take-all i ps h, add-zero)
 
 pub setting-few : (k : Series) (i p : ℕ) → p < 1000 → length (settingLines k .write i p) ≤ 9
 setting-few k i p h = omega (arith, setting-long k i p, setting-keyed k i .few, short-decimal p h .0)

@@ -1,21 +1,23 @@
 -- Laws of what loading answers: what is kept of a part that came to its end, what the sheet is loaded as, and the image of that.
 use Prim.Native.Nat.{ℕ, _≤_}
 use mathlib.Core.Path.{_≡_, sym, ap, _∙_}
-use mathlib.Core.Bool.{Bool, true, false, cond, and-eq-true-iff}
+use mathlib.Core.Bool.{Bool, true, false, cond}
 use mathlib.Core.List.{List, _++_, append-nil}
 use native.Mathlib.Omega.{arith}
 use borrow.Author.Tests.{eq-eqb, ne-eqb}
-use lib.Dec.{eqb}
 use lib.ListN.{length, take, drop, replicate, drop-of-length-le, length-replicate, take-append-drop}
 use lib.Seq.{length-take-le}
 use Rattle.figures.specs.Bytes.{startsWith}
-use Rattle.figures.proofs.Bytes.{laid-fits, starts-length}
+use Rattle.figures.proofs.Bytes.{laid-fits, length-laid, starts-length}
 use Rattle.figures.proofs.Tests.{by-test}
 use Rattle.state.specs.Entries.{valueOf, noEntries}
 use Rattle.instrument.specs.Values.{valuesN}
 use Rattle.instrument.specs.Settings.{settingsN, settingsMost, padded}
 use Rattle.instrument.specs.declared.settings.Series.{Series}
-use Rattle.state.specs.Image.{imageN, imageOf, seriesIn, isImage, encodedIn}
+use Rattle.state.specs.Image.{imageOf, seriesIn, isImage}
+use Rattle.state.specs.Keeping.{Imaged, cleared, contentsLaid}
+use Rattle.state.proofs.Images.{padded-held}
+use Rattle.state.proofs.Places.{contents-cleared}
 use Rattle.instrument.specs.declared.values.Kept.the-variants.{Never}
 use Rattle.instrument.specs.declared.values.Value.{Value}
 use Rattle.sheets.specs.Sheet.{seriesLine, settingLines, valueLines}
@@ -50,22 +52,29 @@ values-kept at got h =
     let all : got ++ drop (length got) nevers ≡ got = rw (drop-of-length-le nevers {i = length got} (omega arith)) (append-nil got) in
     λ j. record { came = To at; values = all j }
 
-within-by : (k : Series) (sheet : List ℕ) (at : ℕ) (settings : List ℕ) → settingsIn k sheet ≡ came at settings → at ≤ length sheet
-within-by k sheet at settings q =
+-- settings that came to their end are as many as the series has, and end within the sheet
+
+taken-by : (k : Series) (sheet : List ℕ) (at : ℕ) (settings : List ℕ) → settingsIn k sheet ≡ came at settings
+    → (length settings ≡ settingsN k) × (at ≤ length sheet)
+taken-by k sheet at settings q =
     let head = seriesLine k in
     by-test (startsWith head sheet)
-    (λ e. taken-within (part-taken (settingLines k) (settingsN k) (length head) sheet at settings (setting-said k) (rw e at q)) (starts-length head sheet e))
+    (λ e.
+    let t = part-taken (settingLines k) (settingsN k) (length head) sheet at settings (setting-said k) (rw e at q) in
+    (t .long, taken-within t (starts-length head sheet e)))
     (λ e. absurd (wrong-came (rw e at q)))
 
-pub settings-within : (k : Series) (sheet : List ℕ) (at : ℕ) → settingsIn k sheet .came ≡ To at → at ≤ length sheet
-settings-within k sheet at e = within-by k sheet at (settingsIn k sheet .got) (λ j. record { came = e j; got = settingsIn k sheet .got })
+pub settings-taken : (k : Series) (sheet : List ℕ) (at : ℕ) → settingsIn k sheet .came ≡ To at
+    → (length (settingsIn k sheet .got) ≡ settingsN k) × (at ≤ length sheet)
+settings-taken k sheet at e = taken-by k sheet at (settingsIn k sheet .got) (λ j. record { came = e j; got = settingsIn k sheet .got })
 
-pub values-got : (sheet : List ℕ) (start end : ℕ) → valuesFrom sheet start .came ≡ To end
-    → valuesAs (valuesFrom sheet start) .values ≡ valuesFrom sheet start .got
-values-got sheet start end e =
+values-taken : (sheet : List ℕ) (start end : ℕ) → valuesFrom sheet start .came ≡ To end
+    → (length (valuesFrom sheet start .got) ≡ valuesN) × (valuesAs (valuesFrom sheet start) .values ≡ valuesFrom sheet start .got)
+values-taken sheet start end e =
     let got = valuesFrom sheet start .got in
     let all : valuesFrom sheet start ≡ came end got = λ j. record { came = e j; got = got } in
-    ap (λ (s : Values). s .values) (ap valuesAs all ∙ values-kept end got (part-taken valueLines valuesN start sheet end got value-said all .long))
+    let long = part-taken valueLines valuesN start sheet end got value-said all .long in
+    (long, ap (λ (s : Values). s .values) (ap valuesAs all ∙ values-kept end got long))
 
 -- what the sheet is loaded as
 
@@ -96,20 +105,26 @@ module _ (image sheet : List ℕ) where
       ap (λ (b : Bool). cond b (loadedBy k image (loadingOf k sheet)) (record { answer = answer.NoState; image = image })) i in
       (ap (λ (l : Loaded·image). l .answer) (sym e), ap (λ (l : Loaded·image). l .image) (sym e))
 
-  module _ (i : isImage image ≡ true) (k : Series) (is : k ≡ seriesIn image) where
-    by : (l : Loading) → loadingOf k sheet ≡ l → loaded image sheet ≡ loadedBy k image l
-    by l e =
-        ap (λ (b : Bool). cond b (loadedBy (seriesIn image) image (loadingOf (seriesIn image) sheet)) (record { answer = answer.NoState; image = image })) i
-        ∙ ap (λ (t : Series). loadedBy t image (loadingOf t sheet)) (sym is)
-        ∙ ap (loadedBy k image) e
+module _ {k : Series} {image : List ℕ} (im : Imaged k image) (sheet : List ℕ) where
+  by : (l : Loading) → loadingOf k sheet ≡ l → loaded image sheet ≡ loadedBy k image l
+  by l e =
+      ap (λ (b : Bool). cond b (loadedBy (seriesIn image) image (loadingOf (seriesIn image) sheet)) (record { answer = answer.NoState; image = image })) (im .is)
+      ∙ ap (λ (t : Series). loadedBy t image (loadingOf t sheet)) (sym (im .series))
+      ∙ ap (loadedBy k image) e
 
-    pub loads-wrong : (at : ℕ) → loadingOf k sheet ≡ wrong at → Loads image sheet (answer.Wrong at) image
-    loads-wrong at e = (ap (λ (l : Loaded·image). l .answer) (sym (by (wrong at) e)), ap (λ (l : Loaded·image). l .image) (sym (by (wrong at) e)))
+  pub loads-wrong : (at : ℕ) → loadingOf k sheet ≡ wrong at → Loads image sheet (answer.Wrong at) image
+  loads-wrong at e = (ap (λ (l : Loaded·image). l .answer) (sym (by (wrong at) e)), ap (λ (l : Loaded·image). l .image) (sym (by (wrong at) e)))
 
-    pub loads-right : (settings : List ℕ) (values : List Value) (image′ : List ℕ) → loadingOf k sheet ≡ right settings values
-        → image′ ≡ encodedIn (noEntries k (padded settings) values) image → Loads image sheet answer.Loaded image′
-    loads-right settings values image′ e laid =
-        let so = by (right settings values) e in
-        let long : eqb (length image) (imageN k) ≡ true = rw is (and-eq-true-iff (eqb (length image) (imageN (seriesIn image))) _ .0 i .0) in
-        let image-is = ap (λ (b : Bool). cond b (imageOf (noEntries k (padded settings) values)) image) long in
-        (ap (λ (l : Loaded·image). l .answer) (sym so), laid ∙ image-is ∙ ap (λ (l : Loaded·image). l .image) (sym so))
+  -- what was read is laid into the image, and then the list is cleared
+  pub loads-right : (at end : ℕ) → settingsIn k sheet .came ≡ To at → valuesFrom sheet at .came ≡ To end → end ≡ length sheet
+      → (settings : List ℕ) (values : List Value) (one two : List ℕ) → settings ≡ padded (settingsIn k sheet .got)
+      → values ≡ valuesAs (valuesFrom sheet at) .values → one ≡ contentsLaid k settings values image → two ≡ cleared k one → Loads image sheet answer.Loaded two
+  loads-right at end came next whole settings values one two es ev e1 e2 =
+      let got = settingsIn k sheet .got in
+      let vs = valuesFrom sheet at .got in
+      let (lv, held) = values-taken sheet at end next in
+      let so = by (right got vs) (all-right k sheet at came end next whole) in
+      let image-is : two ≡ imageOf (noEntries k (padded got) vs) =
+      e2 ∙ ap (cleared k) (e1 ∙ (λ j. contentsLaid k (es j) ((ev ∙ held) j) image))
+      ∙ contents-cleared im (padded got) vs (length-laid got (replicate settingsMost 0)) (ap padded (padded-held k got (settings-taken k sheet at came .0))) lv in
+      (ap (λ (l : Loaded·image). l .answer) (sym so), image-is ∙ ap (λ (l : Loaded·image). l .image) (sym so))

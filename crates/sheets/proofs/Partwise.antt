@@ -7,18 +7,14 @@ use mathlib.Core.List.{List, [], _∷_, _++_, append-assoc, append-nil}
 use native.Mathlib.Nat.{add-zero}
 use native.Mathlib.Numerals.{add-one}
 use native.Mathlib.Omega.{arith}
-use borrow.Rule.Slice.PartMut.{midOf}
 use lib.ListN.{length, set, take, drop, length-append, length-drop, take-append-drop}
 use lib.Seq.{append-snoc, take-all, take-suc-set, drop-drop, drop-append-seam}
 use Rattle.figures.specs.Bytes.{startsWith}
 use Rattle.figures.proofs.Bytes.{starts-append, starts-true, starts-length}
 use Rattle.figures.proofs.Tests.{both, by-test}
-use Rattle.commands.proofs.Shape.{to-end}
 use Rattle.sheets.specs.Lines.{LinesOf, linesBy, Part, wrongAt, partBy}
-use Rattle.sheets.specs.Keeping.{lineMost, lineAs}
-use Rattle.sheets.specs.declared.writing.Line.{Line}
+use Rattle.sheets.specs.Keeping.{isRight}
 use Rattle.sheets.specs.declared.loading.Came.the-variants.{To}
-use Rattle.sheets.proofs.Linewise.{line-cut, line-long}
 
 -- what is held at the places from i on, after what the lines before them hold, may all be held in its turn
 unfoldable pub rightBy : {A : Type 0} → LinesOf A → List A → ℕ → List A → Bool
@@ -59,11 +55,11 @@ taken-within {l = l} {i = i} {sheet = sheet} {at = at} {to = to} {all = all} t h
 abbrev pub leftOf : {A : Type 0} → LinesOf A → ℕ → ℕ → ℕ → List ℕ → List A → Part A
 leftOf l n i at sheet got = partBy l (n - i) i at (drop at sheet) (take i got)
 
--- a turn that got x and judged that its line of m bytes stands there, or not
-pub record Turned {A : Type 0} (l : LinesOf A) (n i at : ℕ) (sheet : List ℕ) (got : List A) (x : A) (m : ℕ) (stands : Bool) : Type 0 where
-  pub astray : stands ≡ false → leftOf l n i at sheet got ≡ wrongAt at
-  pub within : stands ≡ true → at + m ≤ length sheet
-  pub more : stands ≡ true → leftOf l n i at sheet got ≡ leftOf l n (i + 1) (at + m) sheet (set got i x)
+-- a turn whose line has m bytes, none where it isn't right, and holds x
+pub record Turned {A : Type 0} (l : LinesOf A) (n i at : ℕ) (sheet : List ℕ) (got : List A) (x : A) (m : ℕ) : Type 0 where
+  pub astray : m ≡ 0 → leftOf l n i at sheet got ≡ wrongAt at
+  pub within : (m ≡ 0 → ⊥) → at + m ≤ length sheet
+  pub more : (m ≡ 0 → ⊥) → leftOf l n i at sheet got ≡ leftOf l n (i + 1) (at + m) sheet (set got i x)
 
 -- no line that may stand at a place stands there
 abbrev pub NoLine : {A : Type 0} → LinesOf A → List A → ℕ → List ℕ → Type 0
@@ -77,38 +73,33 @@ pub data Went {A : Type 0} (l : LinesOf A) (n : ℕ) (got : List A) (i : ℕ) (s
       → Went l n got i sheet at p
 
 module _ {A : Type 0} (l : LinesOf A) where
-  -- a turn of the loop, by what the calls in it answer
+  -- a turn of the loop, by what the call in it answers: `some` where the line is right, which may not turn on what the lines before it hold
 
-  abbrev next : ℕ → ℕ → ℕ → List ℕ → List A → A → Part A
-  next n i at rest got x = partBy l n (i + 1) (at + length (l .write i x)) (drop (length (l .write i x)) rest) (got ++ (x ∷ []))
-
-  turn : (n i at : ℕ) (rest : List ℕ) (got : List A) (x : A) → i < n → x ≡ l .says i rest
-      → partBy l (n - i) i at rest got ≡ cond (l .may got i x && startsWith (l .write i x) rest) (next (n - (i + 1)) i at rest got x) (wrongAt at)
+  pub part-turned : (n i at : ℕ) (sheet : List ℕ) (got : List A) → i < n → i < length got → at ≤ length sheet
+      → ((before : List A) (x : A) → l .may before i x ≡ l .may [] i x) → (rest : List ℕ) → rest ≡ drop at sheet
+      → {T : Type 0} (size : T → ℕ) (held : T → A) (t some none : T) → t ≡ cond (isRight l i rest) some none
+      → size some ≡ length (l .write i (l .says i rest)) → 0 < size some → held some ≡ l .says i rest → size none ≡ 0
+      → Turned l n i at sheet got (held t) (size t)
   unfolding partBy
-  turn n i at rest got x h e =
+  part-turned n i at sheet got hn hg ha any rest here size held t some none is long pos holds nought =
+      let x = l .says i rest in
+      let w = l .write i x in
       let left : n - i ≡ suc (n - (i + 1)) = omega arith in
-      rw (left, e)
-
-  module _ (n i at : ℕ) (sheet : List ℕ) (got : List A) (x : A) (h : i < n) (said : x ≡ l .says i (midOf at (length sheet - at) sheet)) where
-    says-so : x ≡ l .says i (drop at sheet)
-    says-so = said ∙ ap (l .says i) (to-end at sheet)
-
-    pub part-unright : l .may (take i got) i x ≡ false → leftOf l n i at sheet got ≡ wrongAt at
-    part-unright r = turn n i at (drop at sheet) (take i got) x h says-so ∙ rw r
-
-    pub part-turned : l .may (take i got) i x ≡ true → at ≤ length sheet → i < length got → (kept : Line) → kept ≡ lineAs (l .write i x)
-        → length (l .write i x) ≤ lineMost → {b : Bool} → b ≡ startsWith (midOf 0 (kept .n - 0) (kept .bytes)) (midOf at (length sheet - at) sheet)
-        → Turned l n i at sheet got x (kept .n) b
-    part-turned r ha hg kept is few {b} eb =
-        let w = l .write i x in
-        let stands : b ≡ startsWith w (drop at sheet) = eb ∙ (λ j. startsWith (line-cut w kept few is j) (to-end at sheet j)) in
-        let long = line-long w kept few is in
-        let whole = turn n i at (drop at sheet) (take i got) x h says-so in
-        record {
-          astray = λ e. whole ∙ rw (r, ← stands, e);
-          within = λ e. omega (arith, starts-length w (drop at sheet) (sym stands ∙ e), length-drop at sheet);
-          more = λ e. whole ∙ rw (r, ← stands, e, long, drop-drop (length w) at sheet, add-one i, take-suc-set got i x hg);
-        }
+      let past : drop (length w) rest ≡ drop (at + length w) sheet = ap (drop (length w)) here ∙ drop-drop (length w) at sheet in
+      let next = partBy l (n - (i + 1)) (i + 1) (at + length w) (drop (length w) rest) (take i got ++ (x ∷ [])) in
+      let turn : leftOf l n i at sheet got ≡ cond (isRight l i rest) next (wrongAt at) =
+      rw (left, ← here, any (take i got) x) in
+      by-test (isRight l i rest)
+      (λ e.
+      let so : t ≡ some = is ∙ rw e in
+      let stands = both (l .may [] i x) (startsWith w rest) e .1 in record {
+        astray = λ z. absurd (omega (arith, ap size so));
+        within = λ z. omega (arith, ap size so, starts-length w rest stands, ap length here, length-drop at sheet);
+        more = λ z. turn ∙ rw (e, so, long, holds, past, add-one i, take-suc-set got i x hg);
+      })
+      (λ e.
+      let so : size t ≡ 0 = ap size (is ∙ rw e) ∙ nought in
+      record { astray = λ z. turn ∙ rw e; within = λ z. absurd (z so); more = λ z. absurd (z so) })
 
   pub part-ended : (n i at : ℕ) (sheet : List ℕ) (got : List A) → i ≡ n → leftOf l n i at sheet got ≡ came at (take i got)
   unfolding partBy

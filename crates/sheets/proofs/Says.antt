@@ -1,23 +1,20 @@
--- What a line says: the line of a setting in its range says its parameter, and the line of a value that may be held says that value. And how the
--- code reads them.
-use Prim.Native.Nat.{ℕ, zero, suc, _+_, _-_, _*_, _/_, _%_, _^_, _≤_, _<_}
+-- What a line says: the line of a setting in its range says its parameter, and the line of a value that may be held says that value.
+use Prim.Native.Nat.{ℕ, zero, suc, _+_, _-_, _*_, _/_, _%_, _≤_, _<_}
 use mathlib.Core.Path.{_≡_, refl, sym, ap, _∙_}
 use mathlib.Core.Bool.{Bool, true, false, cond, _&&_}
 use mathlib.Core.List.{List, [], _∷_, _++_, append-assoc}
-use native.Mathlib.Nat.{lt-of-lt-of-le, pow-le-pow-right}
 use native.Mathlib.Numerals.{add-one}
 use native.Mathlib.Omega.{arith}
 use borrow.Author.Tests.{leb-true, eq-eqb, ne-eqb}
 use lib.Dec.{leb}
-use lib.ListN.{length, getD, drop, replicate, drop-of-length-le, getD-replicate}
-use lib.Seq.{take-nil, drop-cons, drop-append-seam, getD-drop}
-use Rattle.figures.specs.Bytes.{startsWith, every, laid}
+use lib.ListN.{length, drop, drop-of-length-le}
+use lib.Seq.{drop-cons, drop-append-seam}
+use Rattle.figures.specs.Bytes.{startsWith, every}
 use Rattle.figures.specs.Decimal.{isDigit, numberFrom, digitsN, decimalOf}
 use Rattle.figures.proofs.Bytes.{starts-append}
 use Rattle.figures.proofs.Decimal.{digits-length, digits-are, number-digits}
 use Rattle.figures.proofs.Tests.{both}
 use Rattle.units.proofs.Positions.{sign-on}
-use Rattle.units.specs.Information.{signOf}
 use Rattle.instrument.specs.Settings.{noRow, rowsOf, rowAt, held, inRanges, settingsN}
 use Rattle.instrument.specs.Values.{valuesN, storedAt, putRight, putKept, keptRight, valueWord}
 use Rattle.state.specs.Entries.{valueOf, valuesRight, isState}
@@ -32,35 +29,6 @@ use Rattle.instrument.proofs.Ranges.{range-byte}
 use Rattle.sheets.specs.Sheet.{settingKey, saidBy, settingLines, charactersOf, valueKey, keptLine, keptSaid, valueLines}
 use Rattle.sheets.proofs.Linewise.{short-decimal}
 use Rattle.sheets.proofs.Partwise.{rightBy, Said}
-
--- a turn of the loop that reads digits
-
-module _ (n : ℕ) (s : List ℕ) (at : ℕ) where
-  pub said-past : (k : ℕ) → length s ≤ at → saidBy k n (drop at s) ≡ n
-  unfolding saidBy
-  said-past zero h = refl
-  said-past (suc k) h = rw (drop-of-length-le s {i = at} h)
-
-  pub said-other : (k : ℕ) → at < length s → isDigit (getD s at 0) ≡ false → saidBy k n (drop at s) ≡ n
-  unfolding saidBy
-  said-other zero h e = refl
-  said-other (suc k) h e = rw (drop-cons s at 0 h, e)
-
-  pub said-more : (i : ℕ) → i < 3 → at < length s → isDigit (getD s at 0) ≡ true
-      → saidBy (3 - i) n (drop at s) ≡ saidBy (3 - (i + 1)) (n * 10 + (getD s at 0 - 48)) (drop (at + 1) s)
-  unfolding saidBy
-  said-more i hi h e =
-      let left : 3 - i ≡ suc (3 - (i + 1)) = omega arith in
-      rw (left, drop-cons s at 0 h, e, add-one at)
-
-  pub said-all : (i : ℕ) → 3 ≤ i → saidBy (3 - i) n (drop at s) ≡ n
-  unfolding saidBy
-  said-all i h =
-      let none : 3 - i ≡ 0 = omega arith in
-      rw none
-
-pub said-small : (n i : ℕ) → i ≤ 3 → n < 10 ^ i → n < 1000
-said-small n i h e = lt-of-lt-of-le e (pow-le-pow-right {n = 10} (omega arith) {i = i} {j = 3} h)
 
 -- digits, and after them a byte that is none
 said-digits : (k n : ℕ) (l rest : List ℕ) → length l ≤ k → every isDigit l ≡ true → saidBy k n (l ++ (10 ∷ rest)) ≡ numberFrom n l
@@ -148,34 +116,3 @@ state-named s e =
       values-long = r .values-long;
       values-right = sym (values-right [] 0 (s .values)) ∙ r .values-right;
     }
-
--- what `kept_in` answers: never put, or what the word that it lays down holds
-
-pub kept-never : (place : ℕ) (s : List ℕ) → startsWith (keptLine place Never) s ≡ true → Never ≡ keptSaid place s
-kept-never place s e = rw e
-
-laid-noughts : (w : List ℕ) (n i : ℕ) → i < n → getD (laid w (replicate n 0)) i 0 ≡ getD w i 0
-laid-noughts [] n i h = rw take-nil (getD-replicate n i 0 0 h)
-laid-noughts (x ∷ w) zero i h = absurd (omega arith)
-laid-noughts (x ∷ w) (suc n) zero h = refl
-laid-noughts (x ∷ w) (suc n) (suc i) h = laid-noughts w n i (omega arith)
-
-word-kept : (w : List ℕ) → putKept (laid w (replicate 16 0)) ≡ putKept w
-word-kept w =
-    let word = laid w (replicate 16 0) in
-    let at : (i : ℕ) → i < 16 → getD word i 0 ≡ getD w i 0 = laid-noughts w 16 in
-    let past : (i : ℕ) → 7 + i < 16 → getD (drop 7 word) i 0 ≡ getD (drop 7 w) i 0 = λ i h. getD-drop 7 word i 0 ∙ at (7 + i) h ∙ sym (getD-drop 7 w i 0) in
-    λ j. Put (at 5 (omega arith) j) (signOf (at 6 (omega arith) j)) (record {
-      0 = past 0 (omega arith) j;
-      1 = past 1 (omega arith) j;
-      2 = past 2 (omega arith) j;
-      3 = past 3 (omega arith) j;
-      4 = past 4 (omega arith) j;
-      5 = past 5 (omega arith) j;
-      6 = past 6 (omega arith) j;
-      7 = past 7 (omega arith) j;
-    })
-
-pub kept-put : (place n : ℕ) (s word : List ℕ) → startsWith (keptLine place Never) s ≡ false → n ≡ length (valueKey place)
-    → word ≡ laid (drop n s) (replicate 16 0) → putKept word ≡ keptSaid place s
-kept-put place n s word e en ew = rw e (ap putKept ew ∙ word-kept (drop n s) ∙ ap (λ (m : ℕ). putKept (drop m s)) en)

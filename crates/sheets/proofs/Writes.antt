@@ -1,33 +1,74 @@
--- Laws of what `write` answers: a state's sheet as the code keeps it, and the sheet in the room.
-use Prim.Native.Nat.{ℕ, _≤_, _<_}
+-- Laws of what `write` reads of an image, and of what it answers.
+use Prim.Native.Nat.{ℕ, _+_, _≤_, _<_}
 use mathlib.Core.Path.{_≡_, refl, sym, ap, _∙_}
 use mathlib.Core.Bool.{Bool, true, false, cond}
-use mathlib.Core.List.{List}
+use mathlib.Core.List.{List, _++_}
 use native.Mathlib.Omega.{arith}
 use borrow.Author.Tests.{le-leb, lt-leb}
 use lib.Dec.{leb}
-use lib.ListN.{length, take, replicate}
+use lib.ListN.{length, getD, length-append}
+use lib.Seq.{getD-take}
 use Rattle.figures.specs.Bytes.{laid}
-use Rattle.figures.proofs.Bytes.{length-laid}
-use Rattle.state.specs.Entries.{isState}
+use Rattle.instrument.specs.Settings.{settingsN, held}
+use Rattle.instrument.specs.Values.{valuesN}
+use Rattle.instrument.specs.declared.settings.Series.{Series}
+use Rattle.instrument.specs.declared.values.Kept.{Kept}
+use Rattle.instrument.specs.declared.values.Kept.the-variants.{Never}
+use Rattle.state.specs.Entries.{valueOf, isState}
 use Rattle.state.specs.Image.{stateIn, isImage}
+use Rattle.state.specs.Keeping.{Imaged, storedIn}
 use Rattle.state.specs.declared.entries.State.{State}
-use Rattle.sheets.specs.Sheet.{sheetOf, Sheet·room, sheetInRoom, writtenSheet, WritesSheet}
-use Rattle.sheets.specs.Keeping.{sheetMost, sheetPut}
-use Rattle.sheets.specs.declared.writing.Sheet.{Sheet}
+use Rattle.state.proofs.Images.{length-held, shaped, image-of}
+use Rattle.state.proofs.Places.{series-read, parameter-read, stored-read}
+use Rattle.sheets.specs.Sheet.{seriesLine, settingLines, keptLine, valueLines, sheetOf, Sheet·room, sheetInRoom, writtenSheet, WritesSheet}
+use Rattle.sheets.specs.Keeping.{sheetMost, settingsText, valuesText}
 use Rattle.sheets.specs.declared.answers.Sheeted.{Sheeted}
 use Rattle.sheets.specs.declared.answers.Sheeted.the-variants as answer
-use Rattle.sheets.proofs.Sizes.{sheet-below}
-use Rattle.sheets.proofs.Linewise.{held-whole}
+use Rattle.sheets.proofs.Sizes.{series-long, sheet-below}
+use Rattle.sheets.proofs.Linewise.{sheet-halves}
 
--- a state's sheet as the code keeps it
-pub sheet-kept : (s : State) (r : Sheet) → isState s ≡ true → r ≡ sheetPut s
-    → (r .n ≡ length (sheetOf s)) × (take (r .n) (r .bytes) ≡ sheetOf s) × (r .n ≤ length (r .bytes))
-sheet-kept s r h e =
-    let bytes : r .bytes ≡ laid (sheetOf s) (replicate sheetMost 0) = ap (λ (x : Sheet). x .bytes) e in
-    let whole = held-whole (replicate sheetMost 0) (sheetOf s) (r .n) (r .bytes) (sheet-below s h) bytes (ap (λ (x : Sheet). x .n) e) in
-    let long : length (r .bytes) ≡ sheetMost = ap length bytes ∙ length-laid (sheetOf s) (replicate sheetMost 0) in
-    (whole .0, whole .1, omega (arith, whole .0, sheet-below s h))
+-- what is read of an image of the series k is its state's
+
+abbrev pub ownIn : List ℕ → List ℕ
+ownIn l = let s = stateIn l in held (s .series) (s .settings)
+
+module _ {k : Series} {l : List ℕ} (im : Imaged k l) where
+  abbrev s : State
+  s = stateIn l
+
+  is-state : isState s ≡ true
+  is-state = image-of l (im .is) .0
+
+  pub own-long : length (ownIn l) ≡ settingsN (s .series)
+  own-long = length-held (s .series) (s .settings) (shaped s is-state .settings-long)
+
+  pub own-count : settingsN k ≡ length (ownIn l)
+  own-count = ap settingsN (sym (series-read im)) ∙ sym own-long
+
+  pub own-read : (i : ℕ) → i < length (ownIn l) → getD l (1 + i) 0 ≡ getD (ownIn l) i 0
+  own-read i h = parameter-read im i (omega (arith, own-count)) ∙ sym (getD-take (settingsN (s .series)) (s .settings) i 0 (omega (arith, own-long)))
+
+  pub setting-read : (i p : ℕ) → i < length (ownIn l) → p ≡ getD l (1 + i) 0
+      → settingLines k .write i p ≡ settingLines (s .series) .write i (getD (ownIn l) i 0)
+  setting-read i p h e = let read = e ∙ own-read i h in λ j. settingLines (sym (series-read im) j) .write i (read j)
+
+  pub values-long : length (s .values) ≡ valuesN
+  values-long = shaped s is-state .values-long
+
+  pub value-read : (i : ℕ) (v : Kept) → i < valuesN → v ≡ storedIn k i l → keptLine i v ≡ valueLines .write i (getD (s .values) i (valueOf Never))
+  value-read i v h e = ap (keptLine i) (e ∙ stored-read im i h)
+
+  -- the sheet by its three parts
+  pub sheet-text : (seriesLine k ++ settingsText s) ++ valuesText s ≡ sheetOf s
+  sheet-text = ap (λ (t : Series). (seriesLine t ++ settingsText s) ++ valuesText s) (sym (series-read im)) ∙ sheet-halves s
+
+  pub sheet-long : length (sheetOf s) ≡ 14 + length (settingsText s) + length (valuesText s)
+  sheet-long =
+      let front = seriesLine k ++ settingsText s in
+      omega (arith, ap length sheet-text, length-append front (valuesText s), length-append (seriesLine k) (settingsText s), series-long k)
+
+  pub sheet-few : length (sheetOf s) ≤ sheetMost
+  sheet-few = sheet-below s is-state
 
 -- the answer
 

@@ -1,24 +1,28 @@
 -- How the code keeps what the other files define: a line, and the parts of a sheet as they are written and loaded.
-use Prim.Native.Nat.{ℕ, min}
+use Prim.Native.Nat.{ℕ, zero, suc, _+_}
 use mathlib.Core.Path.{_≡_}
-use mathlib.Core.Bool.{cond}
-use mathlib.Core.List.{List, [], _++_, map}
+use mathlib.Core.Bool.{Bool, cond, _&&_}
+use mathlib.Core.List.{List, [], _∷_, _++_, map, foldr}
 use lib.Dec.{eqb}
 use lib.ListN.{length, getD, drop, replicate}
-use Rattle.figures.specs.Bytes.{laid}
-use Rattle.instrument.specs.Settings.{held, padded}
+use Rattle.figures.specs.Bytes.{startsWith}
+use Rattle.figures.specs.Decimal.{isDigit}
+use Rattle.instrument.specs.Settings.{rowsOf, held, padded}
 use Rattle.state.specs.Entries.{valueOf}
-use Rattle.instrument.specs.Values.{valuesN}
+use Rattle.instrument.specs.Values.{valuesN, putKept, keptRight}
+use Rattle.instrument.specs.declared.settings.Series.{Series}
+use Rattle.instrument.specs.declared.settings.Row.{Row}
 use Rattle.instrument.specs.declared.values.Kept.the-variants.{Never}
 use Rattle.instrument.specs.declared.values.Value.{Value}
 use Rattle.state.specs.declared.entries.State.{State}
 use Rattle.lines.specs.Sessions.{Lent, imageAfter}
 use Rattle.pieces.specs.Pieces.{pieces}
-use Rattle.sheets.specs.Lines.{linesBy, Part}
-use Rattle.sheets.specs.Sheet.{seriesLine, settingLines, sheetOf}
+use Rattle.sheets.specs.Lines.{LinesOf, linesBy, Part}
+use Rattle.sheets.specs.Sheet.{settingKey, saidBy, settingLines, keptLine, keptSaid, valueLines}
 use Rattle.sheets.specs.Playing.{replyRoom}
-use Rattle.sheets.specs.declared.writing.Line.{Line}
-use Rattle.sheets.specs.declared.writing.Sheet.{Sheet}
+use Rattle.sheets.specs.declared.loading.Said.{Said}
+use Rattle.sheets.specs.declared.loading.Taken.{Taken}
+use Rattle.sheets.specs.declared.loading.TakenValue.{TakenValue}
 use Rattle.sheets.specs.declared.loading.Settings.{Settings}
 use Rattle.sheets.specs.declared.loading.Values.{Values}
 
@@ -26,27 +30,59 @@ use Rattle.sheets.specs.declared.loading.Values.{Values}
 abbrev pub keyLength : List ℕ → ℕ
 keyLength k = cond (eqb (getD k 4 0) 0) (cond (eqb (getD k 3 0) 0) 3 4) 5
 
--- the room that a line is put into, as long as the longest: a key of four bytes, 15 characters and LF
+-- the longest line: a key of four bytes, 15 characters and LF
 abbrev pub lineMost : ℕ
 lineMost = 20
 
--- and a sheet: a TPS300's with each parameter at its highest and each value put
+-- the longest sheet: a TPS300's with each parameter at its highest and each value put
 abbrev pub sheetMost : ℕ
 sheetMost = 441
 
--- a line from the start of its room, and its length
-abbrev pub lineAs : List ℕ → Line
-lineAs l = record { bytes = laid l (replicate lineMost 0); n = min (length l) lineMost }
+-- the settings' lines without their parameters: each has its key and LF
+unfoldable pub keysN : Series → ℕ
+keysN k = foldr (λ r n. length (settingKey r) + 1 + n) 0 (rowsOf k)
 
--- a sheet, or its start, from the start of its room
-abbrev pub sheetAs : List ℕ → Sheet
-sheetAs l = record { bytes = laid l (replicate sheetMost 0); n = min (length l) sheetMost }
+-- a sheet's two parts after the first line
+abbrev pub settingsText : State → List ℕ
+settingsText s = linesBy (settingLines (s .series)) 0 (held (s .series) (s .settings))
 
-abbrev pub settingsPut : State → Sheet
-settingsPut s = sheetAs (seriesLine (s .series) ++ linesBy (settingLines (s .series)) 0 (held (s .series) (s .settings)))
+abbrev pub valuesText : State → List ℕ
+valuesText s = linesBy valueLines 0 (s .values)
 
-abbrev pub sheetPut : State → Sheet
-sheetPut s = sheetAs (sheetOf s)
+-- how many digits stand at the start, k of them at most
+unfoldable pub digitsAt : ℕ → List ℕ → ℕ
+digitsAt zero t = 0
+digitsAt (suc k) [] = 0
+digitsAt (suc k) (b ∷ t) = cond (isDigit b) (suc (digitsAt k t)) 0
+
+abbrev pub saidOf : List ℕ → Said
+saidOf t = record { number = saidBy 3 0 t; digits = digitsAt 3 t }
+
+-- a line is taken as `partBy` (Lines.antt) judges it: its length and what it holds, or nothing
+abbrev pub isRight : {A : Type 0} → LinesOf A → ℕ → List ℕ → Bool
+isRight l i rest = let x = l .says i rest in l .may [] i x && startsWith (l .write i x) rest
+
+abbrev pub noSetting : Taken
+noSetting = record { n = 0; parameter = 0 }
+
+abbrev pub settingTaken : Series → ℕ → List ℕ → Taken
+settingTaken k i rest =
+    let l = settingLines k in
+    cond (isRight l i rest) (record { n = length (l .write i (l .says i rest)); parameter = l .says i rest }) noSetting
+
+abbrev pub noValue : TakenValue
+noValue = record { n = 0; kept = Never }
+
+abbrev pub valueTaken : ℕ → List ℕ → TakenValue
+valueTaken i rest =
+    let l = valueLines in
+    cond (isRight l i rest) (record { n = length (l .write i (l .says i rest)); kept = keptSaid i rest }) noValue
+
+-- the same where the line doesn't end after its key
+abbrev pub putTaken : ℕ → List ℕ → TakenValue
+putTaken i rest =
+    let k = putKept (drop 4 rest) in
+    cond (keptRight i k && startsWith (drop 4 (keptLine i k)) (drop 4 rest)) (record { n = 20; kept = k }) noValue
 
 -- what the lines of a part held; blank where one is wrong
 abbrev pub settingsAs : Part ℕ → Settings

@@ -1,43 +1,37 @@
-// The sheet written from a state: line by line, each put where the one before it ended.
+// The sheet written from an image: its length first, then line by line into the room, each put where the one before it ended.
 ghost use mathlib.Core.Path.{_≡_};
+ghost use mathlib.Core.List.{_++_};
+ghost use Prim.Native.Nat.{_+_, _%_, _≤_, _<_};
 ghost use lib.ListN.{length};
+ghost use Rattle.figures.specs.Decimal.{digitsN, decimalOf};
+ghost use Rattle.figures.specs.Rooms.{Puts};
+ghost use Rattle.figures.specs.Text.{codes};
+ghost use Rattle.instrument.specs.Rows.{keyOf};
+ghost use Rattle.instrument.specs.Settings.{settingsN};
+ghost use Rattle.instrument.specs.Values.{valuesN};
+ghost use Rattle.state.specs.Image.{stateIn};
+ghost use Rattle.state.specs.Keeping.{Imaged};
 ghost use Rattle.sheets.specs.Sheet.{seriesLine, settingLines, keptLine, WritesSheet};
-ghost use Rattle.sheets.specs.Keeping.{keyLength, lineAs, sheetPut, settingsPut};
+ghost use Rattle.sheets.specs.Keeping.{keyLength, keysN, settingsText, valuesText};
 use crate::answers::Sheeted;
-use figures::casts::wide;
-use figures::rooms::put;
-use figures::rooms::put_decimal;
-use instrument::keys::key_at;
 use instrument::settings::Series;
+use instrument::settings::row_at;
 use instrument::settings::settings_of;
 use instrument::values::Kept;
 use instrument::values::VALUES;
 use instrument::values::get_word;
+use instrument::values::is_put;
 use instrument::values::stored_at;
-use state::entries::State;
-use state::image::Known;
-use state::image::decode;
+use state::image::is_image;
+use state::image::parameter_in;
+use state::image::series_in;
+use state::image::value_in;
 
 // The length of the longest sheet of either series.
 pub const LONGEST: usize = 441;
 
 // The length of the first line, which names the series.
 pub(crate) const HEAD: usize = 14;
-
-// The length of the longest line: a value's key, its 15 characters and LF.
-const LINE: usize = 20;
-
-// A line from the start of the longest, and its length; the rest is 0.
-pub struct Line {
-    pub bytes: [u8; LINE],
-    pub n: usize,
-}
-
-// A sheet from the start of the longest, and its length; the rest is 0.
-pub struct Sheet {
-    pub bytes: [u8; LONGEST],
-    pub n: usize,
-}
 
 // Gives the length of a row's key, which stands from the start of five bytes.
 pub(crate) fn key_length(key: [u8; 5]) -> usize
@@ -62,106 +56,221 @@ pub(crate) fn series_line(series: Series) -> [u8; HEAD]
     }
 }
 
-// Makes the line of the setting at a place.
-pub(crate) fn setting_line(series: Series, place: usize, parameter: u8) -> Line
-    ensures { λ r. ⌜ r ≡ lineAs (settingLines series .write place parameter) ⌝ }
+// Counts the digits of a parameter.
+pub(crate) fn digits_in(parameter: u8) -> usize
+    ensures { λ r. ⌜ r ≡ digitsN parameter ⌝ }
 {
-    let key = key_at(series, place);
-    let n = key_length(key);
-    let mut bytes = [0; LINE];
-    let after_key = put(&mut bytes, 0, &key[0..n]);
-    let after_number = put_decimal(&mut bytes, after_key, wide(parameter));
-    let end = put(&mut bytes, after_number, b"\n");
-    Line {
-        bytes: bytes,
-        n: end,
+    if parameter < 10 {
+        return 1;
+    }
+    if parameter < 100 {
+        return 2;
+    }
+    3
+}
+
+// Gives the length of the settings' lines without their parameters: each has its key and LF.
+fn keys_length(series: Series) -> usize
+    ensures { λ r. ⌜ r ≡ keysN series ⌝ }
+{
+    match series {
+        Series::Tps100 => 15 * 5 + 4 * 6,
+        Series::Tps300 => 16 * 5 + 14 * 6,
     }
 }
 
-// Makes the line of the value at a place.
-pub(crate) fn value_line(place: usize, kept: Kept) -> Line
-    ensures { λ r. ⌜ r ≡ lineAs (keptLine place kept) ⌝ }
+// Gives the length of the settings' lines.
+fn settings_length(series: Series, image: &[u8]) -> usize
+    requires { ⌜ Imaged series (now image) ⌝ }
+    ensures { λ r. ⌜ r ≡ length (settingsText (stateIn (now (image .entry)))) ⌝ }
 {
-    let row = stored_at(place);
-    let key = row.key;
-    let n = key_length(key);
-    let mut bytes = [0; LINE];
-    let mut at = put(&mut bytes, 0, &key[0..n]);
-    if let Kept::Put(_, _, _) = kept {
-        let word = get_word(place, kept);
-        at = put(&mut bytes, at, &word[0..15]);
-    }
-    let end = put(&mut bytes, at, b"\n");
-    Line {
-        bytes: bytes,
-        n: end,
-    }
-}
-
-// Puts the series and the settings' lines.
-fn put_settings(s: State) -> Sheet
-    ensures { λ r. ⌜ r ≡ settingsPut s ⌝ }
-{
-    let series = s.series;
-    let settings = s.settings;
-    let head = series_line(series);
     let count = settings_of(series);
-    let mut bytes = [0; LONGEST];
-    let mut at = put(&mut bytes, 0, &head);
+    let mut n = keys_length(series);
     let mut i = 0;
     while i < count {
-        let line = setting_line(series, i, settings[i]);
-        let text = line.bytes;
-        let n = line.n;
-        at = put(&mut bytes, at, &text[0..n]);
+        n += digits_in(parameter_in(i, image));
         i += 1;
     }
-    Sheet {
-        bytes: bytes,
-        n: at,
-    }
+    n
 }
 
-// Puts the whole sheet.
-pub(crate) fn put_sheet(s: State) -> Sheet
-    ensures { λ r. ⌜ r ≡ sheetPut s ⌝ }
+// Gives the length of the values' lines: key and LF, and 15 characters where it was put.
+fn values_length(series: Series, image: &[u8]) -> usize
+    requires { ⌜ Imaged series (now image) ⌝ }
+    ensures { λ r. ⌜ r ≡ length (valuesText (stateIn (now (image .entry)))) ⌝ }
 {
-    let start = put_settings(s);
-    let values = s.values;
-    let mut bytes = start.bytes;
-    let mut at = start.n;
+    let mut n = 0;
     let mut i = 0;
     while i < VALUES {
-        let value = values[i];
-        let kept = value.kept;
-        let line = value_line(i, kept);
-        let text = line.bytes;
-        let n = line.n;
-        at = put(&mut bytes, at, &text[0..n]);
+        n += if is_put(value_in(series, i, image)) {
+            20
+        } else {
+            5
+        };
         i += 1;
     }
-    Sheet {
-        bytes: bytes,
-        n: at,
-    }
+    n
 }
 
-// Writes the sheet of a lent image into the room. 31 and 30 leave the room as it was; room beyond the sheet is untouched.
-pub fn write(image: &[u8], room: &mut [u8]) -> Sheeted
+// Puts a text that fits, and answers where the next begins.
+fn lay_text(room: &mut [u8], at: usize, text: &[u8]) -> usize
+    requires { ⌜ at + length (now text) ≤ length (now room) ⌝ }
+    ensures { λ r. ⌜ Puts (now (room .entry)) at (now (text .entry)) r (now (room .exit)) ⌝ }
+{
+    let end = at + text.len();
+    figures::lay(text, &mut room[at..end]);
+    end
+}
+
+fn figure(n: u16) -> u8
+    ensures { λ r. ⌜ r ≡ 48 + n % 10 ⌝ }
+{
+    b'0' + (n % 10) as u8
+}
+
+// Puts the key of a setting, by its number of two or three digits.
+fn put_key(number: u16, room: &mut [u8], at: usize) -> usize
+    requires { ⌜ ((10 ≤ number) × (number < 1000)) × (at + length (keyOf "s" number) ≤ length (now room)) ⌝ }
+    ensures { λ r. ⌜ Puts (now (room .entry)) at (keyOf "s" number) r (now (room .exit)) ⌝ }
+{
+    let ones = figure(number);
+    let tens = figure(number / 10);
+    if number < 100 {
+        let key = [b's', tens, ones, b'='];
+        return lay_text(room, at, &key);
+    }
+    let key = [b's', figure(number / 100), tens, ones, b'='];
+    lay_text(room, at, &key)
+}
+
+// Puts a parameter in its fewest digits and LF, and answers where the next line begins.
+fn put_parameter(parameter: u16, room: &mut [u8], at: usize) -> usize
+    requires { ⌜ (parameter < 1000) × (at + length (decimalOf parameter ++ codes "\n") ≤ length (now room)) ⌝ }
+    ensures { λ r. ⌜ Puts (now (room .entry)) at (decimalOf parameter ++ codes "\n") r (now (room .exit)) ⌝ }
+{
+    let ones = figure(parameter);
+    if parameter < 10 {
+        let text = [ones, b'\n'];
+        return lay_text(room, at, &text);
+    }
+    let tens = figure(parameter / 10);
+    if parameter < 100 {
+        let text = [tens, ones, b'\n'];
+        return lay_text(room, at, &text);
+    }
+    let text = [figure(parameter / 100), tens, ones, b'\n'];
+    lay_text(room, at, &text)
+}
+
+fn small(b: u8) -> u16
+    ensures { λ r. ⌜ (r ≡ b) × (r < 256) ⌝ }
+{
+    b as u16
+}
+
+// Puts the line of the setting at a place, and answers where the next begins.
+fn put_setting(series: Series, place: usize, parameter: u8, room: &mut [u8], at: usize) -> usize
+    requires { ⌜ (place < settingsN series) × (at + length (settingLines series .write place parameter) ≤ length (now room)) ⌝ }
+    ensures { λ r. ⌜ Puts (now (room .entry)) at (settingLines series .write place parameter) r (now (room .exit)) ⌝ }
+{
+    let row = row_at(series, place);
+    let next = put_key(row.number, room, at);
+    put_parameter(small(parameter), room, next)
+}
+
+// Puts the line of the value at a place, and answers where the next begins.
+fn put_value(place: usize, kept: Kept, room: &mut [u8], at: usize) -> usize
+    requires { ⌜ (place < valuesN) × (at + length (keptLine place kept) ≤ length (now room)) ⌝ }
+    ensures { λ r. ⌜ Puts (now (room .entry)) at (keptLine place kept) r (now (room .exit)) ⌝ }
+{
+    let row = stored_at(place);
+    let k = row.key;
+    if let Kept::Put(_, _, _) = kept {
+        let w = get_word(place, kept);
+        let line = [
+            k[0],
+            k[1],
+            k[2],
+            k[3],
+            w[0],
+            w[1],
+            w[2],
+            w[3],
+            w[4],
+            w[5],
+            w[6],
+            w[7],
+            w[8],
+            w[9],
+            w[10],
+            w[11],
+            w[12],
+            w[13],
+            w[14],
+            b'\n',
+        ];
+        return lay_text(room, at, &line);
+    }
+    let line = [k[0], k[1], k[2], k[3], b'\n'];
+    lay_text(room, at, &line)
+}
+
+// Puts the settings' lines, and answers where the next begins.
+fn put_settings(series: Series, image: &[u8], room: &mut [u8], start: usize) -> usize
+    requires { ⌜ Imaged series (now image) × (start + length (settingsText (stateIn (now image))) ≤ length (now room)) ⌝ }
+    ensures { λ r. ⌜ Puts (now (room .entry)) start (settingsText (stateIn (now (image .entry)))) r (now (room .exit)) ⌝ }
+{
+    let count = settings_of(series);
+    let mut at = start;
+    let mut i = 0;
+    while i < count {
+        at = put_setting(series, i, parameter_in(i, image), room, at);
+        i += 1;
+    }
+    at
+}
+
+// Puts the values' lines, and answers where they end.
+fn put_values(series: Series, image: &[u8], room: &mut [u8], start: usize) -> usize
+    requires { ⌜ Imaged series (now image) × (start + length (valuesText (stateIn (now image))) ≤ length (now room)) ⌝ }
+    ensures { λ r. ⌜ Puts (now (room .entry)) start (valuesText (stateIn (now (image .entry)))) r (now (room .exit)) ⌝ }
+{
+    let mut at = start;
+    let mut i = 0;
+    while i < VALUES {
+        at = put_value(i, value_in(series, i, image), room, at);
+        i += 1;
+    }
+    at
+}
+
+// Writes the sheet of an image of the series: straight into the room, once its length is known to fit.
+fn write_as(series: Series, image: &[u8], room: &mut [u8]) -> Sheeted
+    requires { ⌜ Imaged series (now image) ⌝ }
     ensures { λ r. ⌜ WritesSheet (now (image .entry)) (now (room .entry)) r (now (room .exit)) ⌝ }
 {
-    let decoded = decode(image);
-    let answer = decoded.answer;
-    let s = decoded.state;
-    let Known::Is = answer else {
-        return Sheeted::NoState;
-    };
-    let sheet = put_sheet(s);
-    let bytes = sheet.bytes;
-    let n = sheet.n;
+    let n = HEAD + settings_length(series, image) + values_length(series, image);
     if room.len() < n {
         return Sheeted::Room;
     }
-    figures::lay(&bytes[0..n], room);
+    let head = series_line(series);
+    let settings_at = lay_text(room, 0, &head);
+    let values_at = put_settings(series, image, room, settings_at);
+    put_values(series, image, room, values_at);
     Sheeted::Written(n)
+}
+
+// Writes the sheet of a lent image into the room. 31 and 30 leave the room as it was; room beyond the sheet is untouched. The series is named so that the
+// compiler knows the table.
+pub fn write(image: &[u8], room: &mut [u8]) -> Sheeted
+    ensures { λ r. ⌜ WritesSheet (now (image .entry)) (now (room .entry)) r (now (room .exit)) ⌝ }
+{
+    if !is_image(image) {
+        return Sheeted::NoState;
+    }
+    let series = series_in(image);
+    match series {
+        Series::Tps100 => write_as(Series::Tps100, image, room),
+        Series::Tps300 => write_as(Series::Tps300, image, room),
+    }
 }

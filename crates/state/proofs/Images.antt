@@ -1,7 +1,7 @@
 -- Each state's image gives the state back, so each has one image and each image is of one state.
 use Prim.Native.Nat.{ℕ, zero, suc, _+_, _-_, _*_, _/_, _%_, _<_, _≤_}
 use mathlib.Core.Path.{_≡_, refl, sym, ap, _∙_}
-use mathlib.Core.Bool.{Bool, true, false, cond, _&&_, false≢true}
+use mathlib.Core.Bool.{Bool, true, false, _&&_, false≢true}
 use mathlib.Core.List.{List, [], _∷_, _++_}
 use native.Mathlib.Nat.{sub-zero}
 use native.Mathlib.Omega.{arith}
@@ -9,14 +9,14 @@ use borrow.Author.Tests.{eq-eqb, eqb-true}
 use lib.Dec.{eqb}
 use lib.ListN.{length, getD, take, drop, replicate, length-append, length-replicate, take-append-drop}
 use lib.Seq.{take-all, take-at, drop-at, drop-drop, getD-drop, length-take-le}
-use Rattle.figures.specs.Bytes.{sameBytes}
-use Rattle.figures.proofs.Bytes.{same-refl, same-true, laid-fits}
+use Rattle.figures.specs.Bytes.{laid, sameBytes}
+use Rattle.figures.proofs.Bytes.{same-refl, same-true, laid-fits, laid-cut}
 use Rattle.figures.proofs.Tests.{both}
 use Rattle.instrument.specs.Settings.{rows100, rows300, settingsN, settingsMost, noRow, rowsOf, held, padded, heldRows, factorySettings, inRange, inRanges}
-use Rattle.state.specs.Entries.{factoryState, entriesN, valueOf, entryOf, blankState, valuesRight, contentsOf, contentsRight, isState}
+use Rattle.state.specs.Entries.{factoryState, entriesN, valueOf, entryOf, valuesRight, contentsOf, contentsRight, isState}
 use Rattle.instrument.specs.Values.{valuesN}
 use Rattle.state.specs.Image.{formOf, valuesAt, countAt, entriesAt, restN, imageN, keptBytes, entryBytes, valuesBytes, entriesBytes, restOf, imageOf, encodedIn}
-use Rattle.state.specs.Image.{keptIn, entryIn, valuesIn, entriesIn, seriesIn, stateFrom, stateAsOf, stateAs, stateIn, isImage, decodeOf}
+use Rattle.state.specs.Image.{keptIn, entryIn, valuesIn, entriesIn, seriesIn, stateFrom, stateAsOf, stateAs, stateIn, isImage}
 use Rattle.instrument.specs.declared.settings.Series.{Series}
 use Rattle.instrument.specs.declared.settings.Series.the-variants.{Tps100, Tps300}
 use Rattle.instrument.specs.declared.settings.Row.{Row}
@@ -27,8 +27,6 @@ use Rattle.state.specs.declared.entries.Item.{Item}
 use Rattle.state.specs.declared.entries.Item.the-variants.{Free, Setting, Stored}
 use Rattle.state.specs.declared.entries.Entry.{Entry}
 use Rattle.state.specs.declared.entries.State.{State}
-use Rattle.state.specs.declared.image.Known.the-variants.{Not, Is}
-use Rattle.state.specs.declared.image.Decoded.{Decoded}
 use Rattle.instrument.proofs.Ranges.{settings-100, settings-300, settings-few, held-rows-long, ranges-long, range-high}
 use Rattle.state.proofs.Steps.{state-parts, back-now, none-state}
 use Rattle.state.proofs.Laying.{flat-length, rows-flat, valueBytes, valueIn}
@@ -57,6 +55,23 @@ entry-back e = by (e .item) (e .former .parameter) (e .former .kept)
     by (Setting i) p k = (long k, ap (entryOf (Setting i) p) (back k))
     by (Stored i) p k = (long k, ap (entryOf (Stored i) p) (back k))
 
+-- how long the parts are
+
+pub length-held : (k : Series) (settings : List ℕ) → length settings ≡ settingsMost → length (held k settings) ≡ settingsN k
+length-held k settings h = length-take-le (settingsN k) settings (omega (arith, settings-few k))
+
+pub length-values : (values : List Value) → length values ≡ valuesN → length (valuesBytes values) ≡ countAt
+length-values values h = flat-length valueBytes 11 (λ x. value-back x .0) values ∙ rw h
+
+pub length-entries : (undo : List Entry) → length undo ≡ entriesN → length (entriesBytes undo) ≡ entriesN * 14
+length-entries undo h = flat-length entryBytes 14 (λ x. entry-back x .0) undo ∙ rw h
+
+-- as many settings as there is room for are those of the series
+pub held-laid : (k : Series) (s room g : List ℕ) → length s ≡ settingsMost → length room + 1 ≡ valuesAt k → g ≡ laid s room → g ≡ held k s
+held-laid k s room g hs hr e =
+    let n : length room ≡ settingsN k = omega arith in
+    e ∙ laid-cut s room (omega (arith, settings-few k)) ∙ ap (λ (m : ℕ). take m s) n
+
 -- what of a state its image rests on
 
 pub record Shaped (s : State) : Type 0 where
@@ -72,6 +87,12 @@ drop-replicate : {A : Type 0} (n m : ℕ) (a : A) → drop n (replicate m a) ≡
 drop-replicate zero m a = rw (sub-zero m)
 drop-replicate (suc n) zero a = let q : 0 - suc n ≡ 0 = omega arith in rw q
 drop-replicate (suc n) (suc m) a = let q : suc m - suc n ≡ m - n = omega arith in rw q (drop-replicate n m a)
+
+pub padded-is : (k : Series) (ps : List ℕ) → length ps ≡ settingsN k → padded ps ≡ ps ++ replicate (settingsMost - settingsN k) 0
+padded-is k ps long =
+    let blanks : List ℕ = replicate settingsMost 0 in
+    let fits : length ps ≤ length blanks = omega (arith, settings-few k, length-replicate {A = ℕ} settingsMost 0) in
+    laid-fits ps blanks fits ∙ rw (long, drop-replicate {A = ℕ} (settingsN k) settingsMost 0)
 
 blank-held : (p : ℕ) → inRange noRow p ≡ true → p ≡ 0
 blank-held p e = omega (arith, range-high noRow p e)
@@ -108,13 +129,8 @@ module _ (k : Series) (ps : List ℕ) (e : inRanges (heldRows k) ps ≡ true) wh
 
   pub held-back : padded (held k ps) ≡ ps
   held-back =
-      let n = settingsN k in
-      let blanks : List ℕ = replicate settingsMost 0 in
-      let fits : length (held k ps) ≤ length blanks = omega (arith, held-long, settings-few k, length-replicate {A = ℕ} settingsMost 0) in
-      let past : drop (length (held k ps)) blanks ≡ drop n ps =
-      ap (λ (i : ℕ). drop i blanks) held-long ∙ drop-replicate n settingsMost 0 ∙ sym (blanks-held (settingsMost - n) (drop n ps) (parted .1))
-      in
-      laid-fits (held k ps) blanks fits ∙ ap (λ (t : List ℕ). held k ps ++ t) past ∙ take-append-drop n ps
+      let past = blanks-held (settingsMost - settingsN k) (drop (settingsN k) ps) (parted .1) in
+      padded-is k (held k ps) held-long ∙ ap (λ (t : List ℕ). held k ps ++ t) (sym past) ∙ take-append-drop (settingsN k) ps
 
 pub shaped : (s : State) → isState s ≡ true → Shaped s
 shaped s e =
@@ -133,10 +149,7 @@ shaped s e =
 -- parameters as many as the series has, padded: held again, and right where they are
 
 pub padded-held : (k : Series) (ps : List ℕ) → length ps ≡ settingsN k → held k (padded ps) ≡ ps
-padded-held k ps long =
-    let blanks : List ℕ = replicate settingsMost 0 in
-    let fits : length ps ≤ length blanks = omega (arith, settings-few k, length-replicate {A = ℕ} settingsMost 0) in
-    ap (held k) (laid-fits ps blanks fits) ∙ take-at ps (drop (length ps) blanks) (settingsN k) long
+padded-held k ps long = ap (held k) (padded-is k ps long) ∙ take-at ps (replicate (settingsMost - settingsN k) 0) (settingsN k) long
 
 blanks-right : (n : ℕ) → inRanges (replicate n noRow) (replicate n 0) ≡ true
 unfolding inRanges
@@ -154,12 +167,9 @@ ranges-join (r ∷ rs) more (p ∷ ps) qs e f =
 
 pub padded-right : (k : Series) (ps : List ℕ) → inRanges (rowsOf k) ps ≡ true → inRanges (heldRows k) (padded ps) ≡ true
 padded-right k ps e =
-    let long : length ps ≡ settingsN k = ranges-long (rowsOf k) ps e in
-    let blanks : List ℕ = replicate settingsMost 0 in
-    let fits : length ps ≤ length blanks = omega (arith, settings-few k, length-replicate {A = ℕ} settingsMost 0) in
-    let past : drop (length ps) blanks ≡ replicate (settingsMost - settingsN k) 0 = ap (λ (i : ℕ). drop i blanks) long ∙ drop-replicate (settingsN k) settingsMost 0 in
-    ap (inRanges (heldRows k)) (laid-fits ps blanks fits ∙ ap (λ (t : List ℕ). ps ++ t) past)
-    ∙ ranges-join (rowsOf k) (replicate (settingsMost - settingsN k) noRow) ps (replicate (settingsMost - settingsN k) 0) e (blanks-right (settingsMost - settingsN k))
+    let n = settingsMost - settingsN k in
+    ap (inRanges (heldRows k)) (padded-is k ps (ranges-long (rowsOf k) ps e))
+    ∙ ranges-join (rowsOf k) (replicate n noRow) ps (replicate n 0) e (blanks-right n)
 
 -- the parts of the rest, by their offsets
 
@@ -213,9 +223,9 @@ imaged s hs =
     let h = s .count / 256 % 256 in
     let l = s .count % 256 in
     let r = restOf (s .values) (s .count) (s .undo) in
-    let lg : length g ≡ settingsN k = length-take-le (settingsN k) (s .settings) (omega (arith, hs .settings-long, settings-few k)) in
-    let lv : length v ≡ countAt = flat-length valueBytes 11 (λ x. value-back x .0) (s .values) ∙ rw (hs .values-long) in
-    let le : length e ≡ entriesN * 14 = flat-length entryBytes 14 (λ x. entry-back x .0) (s .undo) ∙ rw (hs .undo-long) in
+    let lg = length-held k (s .settings) (hs .settings-long) in
+    let lv = length-values (s .values) (hs .values-long) in
+    let le = length-entries (s .undo) (hs .undo-long) in
     let rv : valuesIn v ≡ s .values = rw (hs .values-long) at (rows-flat valueBytes valueIn 11 value-back (s .values)) in
     let re : entriesIn e ≡ s .undo = rw (hs .undo-long) at (rows-flat entryBytes entryIn 14 entry-back (s .undo)) in
     let hl : h * 256 + l ≡ s .count = omega (arith, hs .few) in
@@ -248,35 +258,6 @@ unfolding imageOf stateAsOf
 image-series s e = ap (λ (t : State). t .series) (image-back s e)
 
 -- every state's image is accepted, as that state
-
-abbrev chosen : Bool → State → State → Decoded
-chosen t s b = cond t (record { answer = Is; state = s }) (record { answer = Not; state = b })
-
-pub refused : (l : List ℕ) (b : State) → b ≡ blankState → isImage l ≡ false → record { answer = Not; state = b } ≡ decodeOf l
-refused l b e h = ap (chosen false (stateIn l)) e ∙ ap (λ (t : Bool). chosen t (stateIn l) blankState) (sym h)
-
-pub accepted : (l : List ℕ) (s : State) → s ≡ stateIn l → isImage l ≡ true → record { answer = Is; state = s } ≡ decodeOf l
-accepted l s e h = ap (λ (t : State). chosen true t blankState) e ∙ ap (λ (t : Bool). chosen t (stateIn l) blankState) (sym h)
-
--- and what `decode` tells of the bytes
-
-told : (t : Bool) (s b : State) (d : Decoded) → d ≡ chosen t s b → d .answer ≡ Is → (t ≡ true) × (d .state ≡ s)
-told true s b d e q = (refl, ap (λ (x : Decoded). x .state) e)
-told false s b d e q = let z : _≡_ {A = ℕ} 0 1 = cc (ap (λ (x : Decoded). x .answer) e) in absurd (omega arith)
-
-told-not : (t : Bool) (s b : State) (d : Decoded) → d ≡ chosen t s b → d .answer ≡ Not → t ≡ false
-told-not true s b d e q = let z : _≡_ {A = ℕ} 0 1 = cc (ap (λ (x : Decoded). x .answer) e) in absurd (omega arith)
-told-not false s b d e q = refl
-
-pub decoded-is : (l : List ℕ) (d : Decoded) → d ≡ decodeOf l → d .answer ≡ Is → (isImage l ≡ true) × (d .state ≡ stateIn l)
-decoded-is l d e q = told (isImage l) (stateIn l) blankState d e q
-
-pub decoded-series : (l : List ℕ) (d : Decoded) → d ≡ decodeOf l → d .answer ≡ Is → d .state .series ≡ seriesIn l
-unfolding stateAsOf
-decoded-series l d e q = ap (λ (t : State). t .series) (decoded-is l d e q .1)
-
-pub decoded-not : (l : List ℕ) (d : Decoded) → d ≡ decodeOf l → d .answer ≡ Not → isImage l ≡ false
-decoded-not l d e q = told-not (isImage l) (stateIn l) blankState d e q
 
 pub image-is : (s : State) → isState s ≡ true → isImage (imageOf s) ≡ true
 unfolding imageOf stateAsOf

@@ -1,17 +1,23 @@
--- Laws of rows of one width: laid down one after the other, read again; of a room filled from its start, and of a list spelt out.
+-- Laws of rows of one width: laid down one after the other, read again; of a room filled from its start, of bytes laid down from a place on, and of a list
+-- spelt out.
 use Prim.Native.Nat.{ℕ, zero, suc, _+_, _*_, _-_, _<_, _≤_}
 use mathlib.Core.Path.{_≡_, refl, sym, ap, _∙_, subst}
 use mathlib.Core.List.{List, [], _∷_, _++_, append-assoc, append-nil}
-use native.Mathlib.Nat.{zero-mul, suc-mul, add-comm}
+use native.Mathlib.Nat.{zero-add, suc-add, zero-mul, suc-mul, add-comm}
 use native.Mathlib.Numerals.{add-one}
 use native.Mathlib.Omega.{arith}
+use borrow.Author.Tests.{le-leb, lt-leb, leb-true, leb-false}
+use lib.Dec.{leb}
 use borrow.Rule.Slice.PartMut.{putMid, midOf, postOf, same-len-mid, mid-len}
-use lib.ListN.{length, getD, set, take, drop, drop-of-length-le, length-append}
-use lib.Seq.{take-suc, take-suc-set, take-all, take-at, drop-at, drop-drop, length-take-le}
+use lib.ListN.{length, getD, set, take, drop, replicate, drop-of-length-le, length-append, replicate-append-replicate}
+use lib.Seq.{take-suc, take-all, take-at, take-take, take-add, take-append-add, take-append-le, drop-at, drop-drop, drop-append-add, drop-append-le}
+use lib.Seq.{set-at, set-split, append-snoc, length-take-le}
 use Rattle.figures.specs.Bytes.{laid}
 use Rattle.figures.proofs.Bytes.{laid-cut}
+use Rattle.figures.proofs.Tests.{by-test}
 use Rattle.state.specs.Entries.{valueOf}
 use Rattle.state.specs.Image.{flat, rowsIn, keptBytes, keptIn}
+use Rattle.state.specs.Keeping.{laidAt}
 use Rattle.instrument.specs.declared.values.Value.{Value}
 
 -- a list is its elements
@@ -41,13 +47,52 @@ filled done room₀ h e = e ∙ rw (drop-of-length-le room₀ {i = length done} 
 pub row-long : (w a : ℕ) (l : List ℕ) → a + w ≤ length l → length (midOf a (a + w - a) l) ≡ w
 row-long w a l h = mid-len a (a + w) l h ∙ omega arith
 
+-- laid down from a place on
+
+pub laid-fit : (a : ℕ) (w l : List ℕ) → a + length w ≤ length l → laidAt a w l ≡ take a l ++ (w ++ drop (a + length w) l)
+laid-fit a w l h = rw (le-leb (a + length w) (length l) h)
+
+pub laid-not : (a : ℕ) (w l : List ℕ) → length l < a + length w → laidAt a w l ≡ l
+laid-not a w l h = rw (lt-leb (a + length w) (length l) h)
+
+-- put into the part from a on
+pub mid-laid : (a k : ℕ) (l w : List ℕ) → length w ≡ k → a + k ≤ length l → putMid a k l w ≡ laidAt a w l
+mid-laid a k l w hw h = rw (hw, le-leb (a + k) (length l) h, drop-drop k a l)
+
+-- in the second of two lists, in the first, in the whole of one, and one byte
+
+pub laid-after : (p q : ℕ) (w a b : List ℕ) → length a ≡ p → laidAt (p + q) w (a ++ b) ≡ a ++ laidAt q w b
+laid-after p q w a b h = rw (← h) (by-test (leb (q + length w) (length b)) (λ t. fits (leb-true _ _ t)) (λ t. not (leb-false _ _ t)))
+  where
+    n : length a + q + length w ≡ length a + (q + length w)
+    n = omega arith
+
+    fits : q + length w ≤ length b → laidAt (length a + q) w (a ++ b) ≡ a ++ laidAt q w b
+    fits f =
+        laid-fit (length a + q) w (a ++ b) (omega (arith, length-append a b))
+        ∙ rw (n, take-append-add a b q, drop-append-add a b (q + length w), append-assoc, laid-fit q w b f)
+
+    not : length b < q + length w → laidAt (length a + q) w (a ++ b) ≡ a ++ laidAt q w b
+    not f = laid-not (length a + q) w (a ++ b) (omega (arith, length-append a b)) ∙ rw (laid-not q w b f)
+
+pub laid-before : (q : ℕ) (w a b : List ℕ) → q + length w ≤ length a → laidAt q w (a ++ b) ≡ laidAt q w a ++ b
+laid-before q w a b h =
+    laid-fit q w (a ++ b) (omega (arith, length-append a b))
+    ∙ rw (laid-fit q w a h, take-append-le q a b (omega arith), drop-append-le (q + length w) a b h, append-assoc (take q a), append-assoc w)
+
+pub laid-all : (w l : List ℕ) → length w ≡ length l → laidAt 0 w l ≡ w
+laid-all w l h = laid-fit 0 w l (omega arith) ∙ rw (drop-of-length-le l {i = 0 + length w} (omega arith), append-nil)
+
+pub byte-laid : (i p : ℕ) (l : List ℕ) → i < length l → laidAt i (p ∷ []) l ≡ set l i p
+byte-laid i p l h = laid-fit i (p ∷ []) l (omega arith) ∙ rw (add-one i) (sym (set-split l i p h))
+
 -- rows laid down
 
 pub flat-none : {A : Type 0} (f : A → List ℕ) → flat f [] ≡ []
 unfolding flat
 flat-none f = refl
 
-flat-append : {A : Type 0} (f : A → List ℕ) (xs ys : List A) → flat f (xs ++ ys) ≡ flat f xs ++ flat f ys
+pub flat-append : {A : Type 0} (f : A → List ℕ) (xs ys : List A) → flat f (xs ++ ys) ≡ flat f xs ++ flat f ys
 unfolding flat
 flat-append f [] ys = refl
 flat-append f (x ∷ xs) ys = rw (flat-append f xs ys, append-assoc)
@@ -61,6 +106,24 @@ unfolding flat
 flat-length f w long [] = sym (zero-mul w)
 flat-length f w long (x ∷ u) =
     length-append (f x) (flat f u) ∙ rw (long x, flat-length f w long u, suc-mul (length u) w, add-comm (length u * w) w)
+
+-- rows that are alike, and all noughts
+pub flat-zeros : {A : Type 0} (f : A → List ℕ) (w : ℕ) (x : A) → f x ≡ replicate w 0 → (n : ℕ) → flat f (replicate n x) ≡ replicate (n * w) 0
+unfolding flat
+flat-zeros f w x e zero = rw (zero-mul w)
+flat-zeros f w x e (suc n) = rw (e, flat-zeros f w x e n, replicate-append-replicate {A = ℕ} w (n * w) 0, suc-mul n w, add-comm (n * w) w)
+
+-- one row of many laid down anew
+pub row-laid : {A : Type 0} (f : A → List ℕ) (w : ℕ) → ((x : A) → length (f x) ≡ w) → (u : List A) (i : ℕ) (x : A)
+    → i < length u → laidAt (i * w) (f x) (flat f u) ≡ flat f (set u i x)
+unfolding flat
+row-laid f w long [] i x h = absurd (omega arith)
+row-laid f w long (y ∷ u) zero x h =
+    let same : length (f x) ≡ length (f y) = long x ∙ sym (long y) in
+    rw (zero-mul w) (laid-before 0 (f x) (f y) (flat f u) (omega arith) ∙ ap (λ (t : List ℕ). t ++ flat f u) (laid-all (f x) (f y) same))
+row-laid f w long (y ∷ u) (suc i) x h =
+    rw (suc-mul i w, add-comm (i * w) w)
+    (laid-after w (i * w) (f x) (f y) (flat f u) (long y) ∙ ap (λ (t : List ℕ). f y ++ t) (row-laid f w long u i x (omega arith)))
 
 -- a turn of a loop that lays rows down: row i goes into the part from a to a + w
 pub rows-more : {A : Type 0} (f : A → List ℕ) (w : ℕ) (u : List A) (d : A) (i a : ℕ) (out b last : List ℕ)
@@ -87,18 +150,59 @@ pub rows-none : {A : Type 0} (g : List ℕ → A) (w : ℕ) (l : List ℕ) → r
 unfolding rowsIn
 rows-none g w l = refl
 
+-- past one row more
+pub drop-row : {A : Type 0} (w n : ℕ) (l : List A) → drop (suc n * w) l ≡ drop (n * w) (drop w l)
+drop-row w n l = rw (suc-mul n w, add-comm (n * w) w, drop-drop (n * w) w l)
+
 rows-snoc : {A : Type 0} (g : List ℕ → A) (w i : ℕ) (l : List ℕ) → rowsIn g w (suc i) l ≡ rowsIn g w i l ++ (g (take w (drop (i * w) l)) ∷ [])
 unfolding rowsIn
 rows-snoc g w zero l = rw (zero-mul w)
-rows-snoc g w (suc i) l =
-    rw (suc-mul i w, add-comm (i * w) w, ← drop-drop (i * w) w l) (ap (λ (t : List _). g (take w l) ∷ t) (rows-snoc g w i (drop w l)))
+rows-snoc g w (suc i) l = rw (drop-row w i l) (ap (λ (t : List _). g (take w l) ∷ t) (rows-snoc g w i (drop w l)))
 
--- a turn of a loop that reads rows: row i stands in the part from i * w
-pub read-more : {A : Type 0} (g : List ℕ → A) (w i : ℕ) (l : List ℕ) (u : List A) (x : A)
-    → i < length u → x ≡ g (midOf (i * w) (i * w + w - i * w) l) → take i u ≡ rowsIn g w i l → take (i + 1) (set u i x) ≡ rowsIn g w (i + 1) l
-read-more g w i l u x hi hx h =
+pub rows-long : {A : Type 0} (g : List ℕ → A) (w n : ℕ) (l : List ℕ) → length (rowsIn g w n l) ≡ n
+unfolding rowsIn
+rows-long g w zero l = refl
+rows-long g w (suc n) l = ap suc (rows-long g w n (drop w l))
+
+-- the row at a place, and those from there on
+
+pub row-at : {A : Type 0} (g : List ℕ → A) (w i n : ℕ) (l : List ℕ) (d : A) → i < n → getD (rowsIn g w n l) i d ≡ g (take w (drop (i * w) l))
+unfolding rowsIn
+row-at g w i zero l d h = absurd (omega arith)
+row-at g w zero (suc n) l d h = rw (zero-mul w)
+row-at g w (suc i) (suc n) l d h = rw (drop-row w i l) (row-at g w i n (drop w l) d (omega arith))
+
+pub rows-drop : {A : Type 0} (g : List ℕ → A) (w i n : ℕ) (l : List ℕ) → drop i (rowsIn g w (i + n) l) ≡ rowsIn g w n (drop (i * w) l)
+unfolding rowsIn
+rows-drop g w zero n l = rw (zero-add n, zero-mul w)
+rows-drop g w (suc i) n l = rw (suc-add i n, drop-row w i l) (rows-drop g w i n (drop w l))
+
+-- one of them, and the first of them
+
+pub rows-first : {A : Type 0} (g : List ℕ → A) (w n m : ℕ) (l : List ℕ) → n ≤ m → take n (rowsIn g w m l) ≡ rowsIn g w n l
+unfolding rowsIn
+rows-first g w zero m l h = refl
+rows-first g w (suc n) zero l h = absurd (omega arith)
+rows-first g w (suc n) (suc m) l h = rw (rows-first g w n m (drop w l) (omega arith))
+
+-- a row of the first m bytes
+pub row-in : (w n m : ℕ) (l : List ℕ) → n + w ≤ m → m ≤ length l → take w (drop n (take m l)) ≡ take w (drop n l)
+row-in w n m l h hl =
+    let q : m ≡ n + (m - n) = omega arith in
+    let past : drop n (take m l) ≡ take (m - n) (drop n l) =
+    ap (λ (j : ℕ). drop n (take j l)) q ∙ ap (drop n) (take-add n (m - n) l) ∙ drop-at (take n l) (take (m - n) (drop n l)) n (length-take-le n l (omega arith)) in
+    ap (take w) past ∙ take-take w (m - n) (drop n l) (omega arith)
+
+-- a turn of a loop that reads rows into a list of m that is blank past them: row i stands in the part from i * w
+pub read-more : {A : Type 0} (g : List ℕ → A) (w i m : ℕ) (l : List ℕ) (u : List A) (d x : A)
+    → i < m → x ≡ g (midOf (i * w) (i * w + w - i * w) l) → u ≡ rowsIn g w i l ++ replicate (m - i) d
+    → set u i x ≡ rowsIn g w (i + 1) l ++ replicate (m - (i + 1)) d
+read-more g w i m l u d x hi hx h =
     let e : i * w + w - i * w ≡ w = omega arith in
-    rw (add-one i, take-suc-set u i x hi, rows-snoc g w i l, h, hx, e)
+    let n : m - i ≡ suc (m - suc i) = omega arith in
+    let done = rowsIn g w i l in
+    let past = replicate (m - suc i) d in
+    rw (h, n, set-at done d past x i (rows-long g w i l), add-one i, rows-snoc g w i l, append-snoc done (g (take w (drop (i * w) l))) past, hx, e)
 
 -- what was laid down is read again
 pub rows-flat : {A : Type 0} (f : A → List ℕ) (g : List ℕ → A) (w : ℕ)

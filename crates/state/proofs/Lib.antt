@@ -1,6 +1,7 @@
 pub mod Steps
-pub mod Judging
-pub mod Standing
 pub mod Laying
 pub mod Images
+pub mod Held
+pub mod Judging
+pub mod Places
 pub mod Determined

@@ -47,9 +47,6 @@ unused k settings = noEntries k settings (replicate valuesN (valueOf Never))
 abbrev pub factoryState : Series → State
 factoryState k = unused k (factorySettings k)
 
-abbrev pub blankState : State
-blankState = unused Tps100 (replicate settingsMost 0)
-
 abbrev pub isNever : Kept → Bool
 isNever k = not (isPut k)
 

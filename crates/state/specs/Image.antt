@@ -6,7 +6,7 @@ use lib.Dec.{eqb}
 use lib.ListN.{length, getD, take, drop}
 use Rattle.figures.specs.Bytes.{sameBytes}
 use Rattle.instrument.specs.Values.{eightBytes, eightOf, valuesN}
-use Rattle.state.specs.Entries.{entriesN, valueOf, entryOf, blankState, isStateOf}
+use Rattle.state.specs.Entries.{entriesN, valueOf, entryOf, isStateOf}
 use Rattle.instrument.specs.Settings.{settingsN, held, padded}
 use Rattle.instrument.specs.declared.settings.Series.{Series}
 use Rattle.instrument.specs.declared.settings.Series.the-variants.{Tps100, Tps300}
@@ -17,8 +17,6 @@ use Rattle.state.specs.declared.entries.Item.{Item}
 use Rattle.state.specs.declared.entries.Item.the-variants.{Free, Setting, Stored}
 use Rattle.state.specs.declared.entries.Entry.{Entry}
 use Rattle.state.specs.declared.entries.State.{State}
-use Rattle.state.specs.declared.image.Known.the-variants.{Not, Is}
-use Rattle.state.specs.declared.image.Decoded.{Decoded}
 
 -- series and form
 abbrev pub formOf : Series → ℕ
@@ -29,16 +27,23 @@ formOf Tps300 = 17
 abbrev pub valuesAt : Series → ℕ
 valuesAt k = 1 + settingsN k
 
+-- the bytes of a value, and of an entry
+abbrev pub valueN : ℕ
+valueN = 11
+
+abbrev pub entryN : ℕ
+entryN = 14
+
 -- values, count and entries follow in every series alike; their offsets from there
 abbrev pub countAt : ℕ
-countAt = valuesN * 11
+countAt = valuesN * valueN
 
 abbrev pub entriesAt : ℕ
 entriesAt = countAt + 2
 
 -- with room for so many entries
 abbrev pub restNOf : ℕ → ℕ
-restNOf capacity = entriesAt + capacity * 14
+restNOf capacity = entriesAt + capacity * entryN
 
 abbrev pub restN : ℕ
 restN = restNOf entriesN
@@ -90,7 +95,7 @@ abbrev pub itemIn : List ℕ → Item
 itemIn l = cond (eqb (getD l 0 0) 1) (Setting (getD l 1 0)) (cond (eqb (getD l 0 0) 2) (Stored (getD l 1 0)) Free)
 
 abbrev pub entryIn : List ℕ → Entry
-entryIn l = entryOf (itemIn l) (getD l 2 0) (keptIn (take 11 (drop 3 l)))
+entryIn l = entryOf (itemIn l) (getD l 2 0) (keptIn (take valueN (drop 3 l)))
 
 -- n rows of w bytes each
 unfoldable pub rowsIn : {A : Type 0} → (List ℕ → A) → ℕ → ℕ → List ℕ → List A
@@ -98,10 +103,10 @@ rowsIn g w zero l = []
 rowsIn g w (suc n) l = g (take w l) ∷ rowsIn g w n (drop w l)
 
 abbrev pub valuesIn : List ℕ → List Value
-valuesIn = rowsIn (λ (l : List ℕ). valueOf (keptIn l)) 11 valuesN
+valuesIn = rowsIn (λ (l : List ℕ). valueOf (keptIn l)) valueN valuesN
 
 abbrev pub entriesInOf : ℕ → List ℕ → List Entry
-entriesInOf = rowsIn entryIn 14
+entriesInOf = rowsIn entryIn entryN
 
 abbrev pub entriesIn : List ℕ → List Entry
 entriesIn = entriesInOf entriesN
@@ -110,14 +115,18 @@ entriesIn = entriesInOf entriesN
 abbrev pub seriesIn : List ℕ → Series
 seriesIn l = cond (eqb (getD l 0 0) (formOf Tps300)) Tps300 Tps100
 
+-- how many entries stand
+abbrev pub countFrom : List ℕ → ℕ
+countFrom rest = getD rest countAt 0 * 256 + getD rest (countAt + 1) 0
+
 -- the state of a series that has those settings' bytes and the rest
 abbrev pub stateFrom : ℕ → Series → List ℕ → List ℕ → State
 stateFrom capacity k settings rest = record {
   series = k;
   settings = padded settings;
   values = valuesIn (take countAt rest);
-  undo = entriesInOf capacity (take (capacity * 14) (drop entriesAt rest));
-  count = getD rest countAt 0 * 256 + getD rest (countAt + 1) 0;
+  undo = entriesInOf capacity (take (capacity * entryN) (drop entriesAt rest));
+  count = countFrom rest;
 }
 
 -- the state of a series that the bytes would be the image of
@@ -141,6 +150,3 @@ isImageOf capacity l =
 
 abbrev pub isImage : List ℕ → Bool
 isImage = isImageOf entriesN
-
-abbrev pub decodeOf : List ℕ → Decoded
-decodeOf l = cond (isImage l) (record { answer = Is; state = stateIn l }) (record { answer = Not; state = blankState })

@@ -1,16 +1,21 @@
--- How the code judges a state: each entry by itself, then all of them taken back newest first over flags that say which values are put.
--- `state-by`, in proofs/Judging.antt, shows that this is what a state is.
-use Prim.Native.Nat.{ℕ, zero, suc, _-_}
+-- How the code keeps an image: judged where it lies, read at its places, and laid down in part. `image-by`, in proofs/Judging.antt, shows that what is
+-- judged is what an image is; proofs/Places.antt, that what is read is the state's, and that what is laid down is the image of the state so altered.
+use Prim.Native.Nat.{ℕ, zero, suc, _+_, _-_, _*_, _/_, _%_, min}
+use mathlib.Core.Path.{_≡_}
 use mathlib.Core.Bool.{Bool, true, false, cond, not, _&&_}
-use mathlib.Core.List.{List, [], _∷_, map}
+use mathlib.Core.List.{List, [], _∷_, _++_, map}
 use lib.Dec.{eqb, leb, ltb}
-use lib.ListN.{length, getD, set}
-use Rattle.instrument.specs.Settings.{settingsN, rowAt, heldRows, isAsked, inRange, inRanges}
+use lib.ListN.{length, getD, set, take, drop, replicate}
+use Rattle.figures.specs.Bytes.{every, within, sameBytes}
+use Rattle.instrument.specs.Settings.{settingsN, settingsMost, rowsOf, rowAt, isAsked, inRange, inRanges, held, padded}
 use Rattle.instrument.specs.Values.{valuesN, isPut, keptRight}
 use Rattle.instrument.specs.declared.settings.Series.{Series}
 use Rattle.instrument.specs.declared.values.Kept.{Kept}
+use Rattle.instrument.specs.declared.values.Kept.the-variants.{Never}
 use Rattle.instrument.specs.declared.values.Value.{Value}
-use Rattle.state.specs.Entries.{entriesN, blankEntry, isNever, isBlank, valuesRight}
+use Rattle.state.specs.Entries.{entriesN, valueOf, blankEntry, isNever}
+use Rattle.state.specs.Image.{formOf, valueN, entryN, valuesAt, countAt, entriesAt, imageN, keptBytes, entryBytes, valuesBytes}
+use Rattle.state.specs.Image.{keptIn, entryIn, rowsIn, valuesIn, countFrom, seriesIn, isImage}
 use Rattle.state.specs.declared.entries.Item.{Item}
 use Rattle.state.specs.declared.entries.Item.the-variants.{Free, Setting, Stored}
 use Rattle.state.specs.declared.entries.Entry.{Entry}
@@ -25,13 +30,9 @@ itemRight k Free p w = false
 itemRight k (Setting i) p w = settable k i p && isNever w
 itemRight k (Stored i) p w = ltb i valuesN && (eqb p 0 && keptRight i w)
 
+-- an entry that may stand, by itself
 abbrev pub entryRight : Series → Entry → Bool
 entryRight k e = itemRight k (e .item) (e .former .parameter) (e .former .kept)
-
--- the first n entries may stand, and those past them are blank
-unfoldable pub entriesRight : Series → List Entry → ℕ → Bool
-entriesRight k [] n = true
-entriesRight k (e ∷ es) n = cond (ltb 0 n) (entryRight k e) (isBlank e) && entriesRight k es (n - 1)
 
 abbrev pub putsOf : List Value → List Bool
 putsOf = map (λ (v : Value). isPut (v .kept))
@@ -47,16 +48,102 @@ putsBack puts Free k = puts
 putsBack puts (Setting i) k = puts
 putsBack puts (Stored i) k = set puts i (isPut k)
 
--- the first n entries, taken back newest first
-unfoldable pub sound : ℕ → List Bool → List Entry → Bool
-sound zero puts u = true
-sound (suc n) puts u =
-    backRight puts (getD u n blankEntry .item) && sound n (putsBack puts (getD u n blankEntry .item) (getD u n blankEntry .former .kept)) u
+-- eleven bytes that are those of a value, which the place may hold
+abbrev pub valueRight : ℕ → List ℕ → Bool
+valueRight i l = sameBytes l (keptBytes (keptIn l)) && keptRight i (keptIn l)
 
-abbrev pub isStateBy : State → Bool
-isStateBy s =
-    leb (s .count) entriesN
-    && (inRanges (heldRows (s .series)) (s .settings)
-    && ((eqb (length (s .values)) valuesN && valuesRight 0 (s .values))
-    && ((eqb (length (s .undo)) entriesN && entriesRight (s .series) (s .undo) (s .count))
-    && sound (s .count) (putsOf (s .values)) (s .undo))))
+-- n of them, from the place i on
+unfoldable pub valuesHeld : ℕ → ℕ → List ℕ → Bool
+valuesHeld i zero l = true
+valuesHeld i (suc n) l = valueRight i (take valueN l) && valuesHeld (i + 1) n (drop valueN l)
+
+-- fourteen bytes that are those of an entry, which may stand
+abbrev pub entryHeld : Series → List ℕ → Bool
+entryHeld k l = sameBytes l (entryBytes (entryIn l)) && entryRight k (entryIn l)
+
+abbrev pub rowFrom : ℕ → List ℕ → List ℕ
+rowFrom n l = take entryN (drop (n * entryN) l)
+
+-- n entries, taken back newest first, in one pass
+unfoldable pub entriesHeld : Series → ℕ → List Bool → List ℕ → Bool
+entriesHeld k zero puts l = true
+entriesHeld k (suc n) puts l =
+    let e = entryIn (rowFrom n l) in
+    entryHeld k (rowFrom n l) && (backRight puts (e .item) && entriesHeld k n (putsBack puts (e .item) (e .former .kept)) l)
+
+abbrev pub allZeros : List ℕ → Bool
+allZeros = every (within 0 0)
+
+-- what follows the settings, of a series
+abbrev pub restRight : Series → List ℕ → Bool
+restRight k rest =
+    let values = take countAt rest in
+    let entries = drop entriesAt rest in
+    let n = countFrom rest in
+    valuesHeld 0 valuesN values
+    && (leb n entriesN && (allZeros (drop (n * entryN) entries) && entriesHeld k n (putsOf (valuesIn values)) entries))
+
+abbrev pub isImageBy : List ℕ → Bool
+isImageBy l =
+    let k = seriesIn l in
+    eqb (length l) (imageN k)
+    && (eqb (getD l 0 0) (formOf k) && (inRanges (rowsOf k) (take (settingsN k) (drop 1 l)) && restRight k (drop (valuesAt k) l)))
+
+-- what may be relied on once the judge has said yes: the bytes are an image, of that series
+pub record Imaged (k : Series) (l : List ℕ) : Type 0 where
+  pub is : isImage l ≡ true
+  pub series : k ≡ seriesIn l
+
+abbrev pub countIn : Series → List ℕ → ℕ
+countIn k l = countFrom (drop (valuesAt k) l)
+
+-- the value that is stored at a place; past the last, and past the end of the bytes, never put
+abbrev pub storedIn : Series → ℕ → List ℕ → Kept
+storedIn k i l =
+    let at = valuesAt k + i * valueN in
+    cond (ltb i valuesN && leb (at + valueN) (length l)) (keptIn (take valueN (drop at l))) Never
+
+-- values and entries from bytes as many as an image has for them, and blank otherwise; entries past the count are blank
+abbrev pub valuesRead : List ℕ → List Value
+valuesRead l = cond (eqb (length l) (valuesN * valueN)) (valuesIn l) (replicate valuesN (valueOf Never))
+
+abbrev pub entriesRead : ℕ → List ℕ → List Entry
+entriesRead count l =
+    let n = cond (eqb (length l) (entriesN * entryN)) (min count entriesN) 0 in
+    rowsIn entryIn entryN n l ++ replicate (entriesN - n) blankEntry
+
+-- a state by the parts of its image
+abbrev pub stateOf : Series → List ℕ → List ℕ → List ℕ → ℕ → State
+stateOf k settings values entries count = record {
+  series = k;
+  settings = padded settings;
+  values = valuesRead values;
+  undo = entriesRead count entries;
+  count = count;
+}
+
+-- bytes laid down from a place on, where they fit
+abbrev pub laidAt : ℕ → List ℕ → List ℕ → List ℕ
+laidAt at w l = cond (leb (at + length w) (length l)) (take at l ++ (w ++ drop (at + length w) l)) l
+
+abbrev pub parameterLaid : ℕ → ℕ → List ℕ → List ℕ
+parameterLaid i p l = cond (ltb i settingsMost) (laidAt (1 + i) (p ∷ []) l) l
+
+abbrev pub valueLaid : Series → ℕ → Kept → List ℕ → List ℕ
+valueLaid k i w l = cond (ltb i valuesN) (laidAt (valuesAt k + i * valueN) (keptBytes w) l) l
+
+abbrev pub entryLaid : Series → ℕ → Entry → List ℕ → List ℕ
+entryLaid k n e l = cond (ltb n entriesN) (laidAt (valuesAt k + entriesAt + n * entryN) (entryBytes e) l) l
+
+abbrev pub countLaid : Series → ℕ → List ℕ → List ℕ
+countLaid k n l = laidAt (valuesAt k + countAt) ((n / 256 % 256) ∷ (n % 256) ∷ []) l
+
+-- the entries up to the count blank, and the count 0
+abbrev pub cleared : Series → List ℕ → List ℕ
+cleared k l =
+    let n = countIn k l * entryN in
+    let at = valuesAt k + entriesAt in
+    cond (leb (at + n) (length l)) (countLaid k 0 (laidAt at (replicate n 0) l)) l
+
+abbrev pub contentsLaid : Series → List ℕ → List Value → List ℕ → List ℕ
+contentsLaid k settings values l = laidAt 1 (held k settings ++ valuesBytes values) l

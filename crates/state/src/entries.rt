@@ -1,22 +1,17 @@
 // The state, and its undo list: an array by value of entries, each with the item and its former content, blank past the count.
 ghost use mathlib.Core.Path.{_≡_};
-ghost use Prim.Native.Nat.{_≤_};
-ghost use Rattle.state.specs.Entries.{entriesN, noEntries, unused, blankEntry, factoryState, blankState, isNever, isBlank, valuesRight, isState};
-ghost use Rattle.state.specs.Keeping.{putsOf, settable, entryRight, entriesRight, sound};
-use figures::casts::place_of;
+ghost use Rattle.state.specs.Entries.{noEntries, unused, blankEntry, factoryState};
+ghost use Rattle.state.specs.Keeping.{settable};
 use figures::casts::wide;
 use instrument::settings::SETTINGS;
 use instrument::settings::Series;
 use instrument::settings::factory_settings;
 use instrument::settings::in_range;
-use instrument::settings::in_ranges;
 use instrument::settings::row_at;
 use instrument::settings::settings_of;
 use instrument::values::Kept;
 use instrument::values::VALUES;
 use instrument::values::Value;
-use instrument::values::is_put;
-use instrument::values::kept_right;
 
 pub const ENTRIES: usize = 64;
 
@@ -93,20 +88,6 @@ pub fn factory(series: Series) -> State
     with_settings(series, factory_settings(series))
 }
 
-// Gives the state of noughts, for bytes that are no state.
-pub(crate) fn blank_state() -> State
-    ensures { λ r. ⌜ r ≡ blankState ⌝ }
-{
-    let series = Series::Tps100;
-    with_settings(series, [0; SETTINGS])
-}
-
-fn is_never(kept: Kept) -> bool
-    ensures { λ r. ⌜ r ≡ isNever kept ⌝ }
-{
-    !is_put(kept)
-}
-
 fn settable_in(series: Series, place: usize, parameter: u8) -> bool
     ensures { λ r. ⌜ r ≡ settable series place parameter ⌝ }
 {
@@ -121,159 +102,11 @@ fn settable_in(series: Series, place: usize, parameter: u8) -> bool
 }
 
 // Tells whether a SET can leave the parameter at the place. The series is named so that the compiler knows the table.
-fn settable(series: Series, place: usize, parameter: u8) -> bool
+pub(crate) fn settable(series: Series, place: usize, parameter: u8) -> bool
     ensures { λ r. ⌜ r ≡ settable series place parameter ⌝ }
 {
     match series {
         Series::Tps100 => settable_in(Series::Tps100, place, parameter),
         Series::Tps300 => settable_in(Series::Tps300, place, parameter),
     }
-}
-
-// Tells whether an entry that stands may be there.
-fn entry_right(series: Series, entry: Entry) -> bool
-    ensures { λ r. ⌜ r ≡ entryRight series entry ⌝ }
-{
-    let item = entry.item;
-    let former = entry.former;
-    let kept = former.kept;
-    match item {
-        Item::Free => false,
-        Item::Setting(b) => {
-            let place = place_of(b);
-            if !settable(series, place, former.parameter) {
-                return false;
-            }
-            is_never(kept)
-        }
-        Item::Stored(b) => {
-            let place = place_of(b);
-            if VALUES <= place {
-                return false;
-            }
-            if former.parameter != 0 {
-                return false;
-            }
-            kept_right(place, kept)
-        }
-    }
-}
-
-fn entry_blank(entry: Entry) -> bool
-    ensures { λ r. ⌜ r ≡ isBlank entry ⌝ }
-{
-    let item = entry.item;
-    let former = entry.former;
-    let kept = former.kept;
-    match item {
-        Item::Free => {
-            if former.parameter != 0 {
-                return false;
-            }
-            is_never(kept)
-        }
-        _ => false,
-    }
-}
-
-// Tells whether the entries below the count may stand and those past it are blank.
-fn entries_right(series: Series, undo: [Entry; ENTRIES], count: usize) -> bool
-    ensures { λ r. ⌜ r ≡ entriesRight series undo count ⌝ }
-{
-    let mut i = 0;
-    while i < ENTRIES {
-        let entry = undo[i];
-        if i < count {
-            if !entry_right(series, entry) {
-                return false;
-            }
-        } else {
-            if !entry_blank(entry) {
-                return false;
-            }
-        }
-        i += 1;
-    }
-    true
-}
-
-fn values_right(values: [Value; VALUES]) -> bool
-    ensures { λ r. ⌜ r ≡ valuesRight 0 values ⌝ }
-{
-    let mut i = 0;
-    while i < VALUES {
-        let value = values[i];
-        let kept = value.kept;
-        if !kept_right(i, kept) {
-            return false;
-        }
-        i += 1;
-    }
-    true
-}
-
-// Tells which values are put.
-fn puts_of(values: [Value; VALUES]) -> [bool; VALUES]
-    ensures { λ r. ⌜ r ≡ putsOf values ⌝ }
-{
-    let mut puts = [false; VALUES];
-    let mut i = 0;
-    while i < VALUES {
-        let value = values[i];
-        let kept = value.kept;
-        puts[i] = is_put(kept);
-        i += 1;
-    }
-    puts
-}
-
-// Tells whether, with the entries taken back newest first, none names a value that is then never put.
-fn sound_back(values: [Value; VALUES], undo: [Entry; ENTRIES], count: usize) -> bool
-    requires { ⌜ count ≤ entriesN ⌝ }
-    ensures { λ r. ⌜ r ≡ sound count (putsOf values) undo ⌝ }
-{
-    let mut puts = puts_of(values);
-    let mut n = count;
-    while 0 < n {
-        n -= 1;
-        let entry = undo[n];
-        let item = entry.item;
-        let former = entry.former;
-        let kept = former.kept;
-        if let Item::Stored(b) = item {
-            let place = place_of(b);
-            if VALUES <= place {
-                return false;
-            }
-            if !puts[place] {
-                return false;
-            }
-            puts[place] = is_put(kept);
-        }
-    }
-    true
-}
-
-// Tells whether it is a state.
-pub(crate) fn is_state(s: State) -> bool
-    ensures { λ r. ⌜ r ≡ isState s ⌝ }
-{
-    let series = s.series;
-    let settings = s.settings;
-    let values = s.values;
-    let undo = s.undo;
-    let count = s.count;
-    if ENTRIES < count {
-        return false;
-    }
-    if !in_ranges(series, settings) {
-        return false;
-    }
-    if !values_right(values) {
-        return false;
-    }
-    if !entries_right(series, undo, count) {
-        return false;
-    }
-    sound_back(values, undo, count)
 }

@@ -1,56 +1,55 @@
 // The image: a state as the bytes that a host lends (docs/IMAGE.md).
 ghost use mathlib.Core.Path.{_≡_};
-ghost use Prim.Native.Nat.{_<_, _≤_, _+_, _*_};
-ghost use lib.ListN.{length, getD, take, drop};
+ghost use Prim.Native.Nat.{_≤_, _+_, _*_};
+ghost use lib.ListN.{length, getD, replicate};
 ghost use Rattle.state.specs.Entries.{entriesN};
 ghost use Rattle.instrument.specs.Values.{valuesN};
-ghost use Rattle.state.specs.Image.{imageN, keptBytes, itemBytes, entryBytes, valuesBytes, entriesBytes, imageOf, keptIn, entryIn, valuesIn, entriesIn, formOf, valuesAt, restN, restOf, seriesIn, stateAs, decodeOf, encodedIn};
+ghost use Rattle.state.specs.Image.{valueN, entryN, imageN, keptBytes, itemBytes, entryBytes, valuesBytes, entriesBytes, keptIn, entryIn, valuesIn};
+ghost use Rattle.state.specs.Image.{formOf, valuesAt, restN, restOf, seriesIn, isImage, encodedIn};
+ghost use Rattle.state.specs.Keeping.{putsOf, valueRight, valuesHeld, entryHeld, entriesHeld, countIn, storedIn, valuesRead, entriesRead, stateOf};
+ghost use Rattle.state.specs.Keeping.{laidAt, parameterLaid, valueLaid, entryLaid, countLaid, cleared, contentsLaid};
 use crate::entries::ENTRIES;
 use crate::entries::Entry;
 use crate::entries::Former;
 use crate::entries::Item;
 use crate::entries::State;
 use crate::entries::blank_entry;
-use crate::entries::blank_state;
-use crate::entries::is_state;
+use crate::entries::settable;
+use figures::casts::place_of;
 use instrument::settings::SETTINGS;
 use instrument::settings::Series;
+use instrument::settings::in_ranges;
 use instrument::settings::settings_of;
 use instrument::tps100::SETTINGS_100;
 use instrument::values::Eight;
 use instrument::values::Kept;
 use instrument::values::VALUES;
 use instrument::values::Value;
+use instrument::values::parts_right;
 
-const COUNT_AT: usize = VALUES * 11;
+// The bytes of a value, and of an entry.
+const VALUE: usize = 11;
 
-const ENTRIES_AT: usize = COUNT_AT + 2;
+const ENTRY: usize = 14;
+
+// Where count and entries lie after the values' start.
+pub const COUNT_AT: usize = VALUES * VALUE;
+
+pub const ENTRIES_AT: usize = COUNT_AT + 2;
 
 // What follows the settings: values, count and entries.
-const REST: usize = ENTRIES_AT + ENTRIES * 14;
+pub const REST: usize = ENTRIES_AT + ENTRIES * ENTRY;
 
 // A TPS100's image, and a TPS300's, the longest.
 pub const IMAGE_100: usize = 1 + SETTINGS_100 + REST;
 
 pub const IMAGE_300: usize = 1 + SETTINGS + REST;
 
-// Whether the bytes are a state's image.
-pub enum Known {
-    Not,
-    Is,
-}
-
-// The answer, and the state; the state of noughts where there is none.
-pub struct Decoded {
-    pub answer: Known,
-    pub state: State,
-}
-
-fn kept_bytes(kept: Kept) -> [u8; 11]
+fn kept_bytes(kept: Kept) -> [u8; VALUE]
     ensures { λ r. ⌜ r ≡ keptBytes kept ⌝ }
 {
     match kept {
-        Kept::Never => [0; 11],
+        Kept::Never => [0; VALUE],
         Kept::Put(unit, minus, d) => [1, unit, minus, d.0, d.1, d.2, d.3, d.4, d.5, d.6, d.7],
     }
 }
@@ -66,7 +65,7 @@ fn item_bytes(item: Item) -> [u8; 2]
     }
 }
 
-fn entry_bytes(entry: Entry) -> [u8; 14]
+fn entry_bytes(entry: Entry) -> [u8; ENTRY]
     ensures { λ r. ⌜ r ≡ entryBytes entry ⌝ }
 {
     let item = entry.item;
@@ -104,7 +103,7 @@ fn form_of(series: Series) -> u8
 }
 
 // Tells where the values start: after the first byte and as many settings as the series has.
-fn values_at(series: Series) -> usize
+pub fn values_at(series: Series) -> usize
     ensures { λ r. ⌜ (r ≡ valuesAt series) × (r ≤ 31) ⌝ }
 {
     1 + settings_of(series)
@@ -118,7 +117,7 @@ pub fn image_size(series: Series) -> usize
 }
 
 fn put_values(values: [Value; VALUES], out: &mut [u8])
-    requires { ⌜ length (now out) ≡ valuesN * 11 ⌝ }
+    requires { ⌜ length (now out) ≡ valuesN * valueN ⌝ }
     ensures { λ _. ⌜ now (out .exit) ≡ valuesBytes values ⌝ }
 {
     let mut i = 0;
@@ -126,23 +125,23 @@ fn put_values(values: [Value; VALUES], out: &mut [u8])
         let value = values[i];
         let kept = value.kept;
         let b = kept_bytes(kept);
-        let a = i * 11;
-        let z = a + 11;
+        let a = i * VALUE;
+        let z = a + VALUE;
         figures::lay(&b, &mut out[a..z]);
         i += 1;
     }
 }
 
 fn put_entries(undo: [Entry; ENTRIES], out: &mut [u8])
-    requires { ⌜ length (now out) ≡ entriesN * 14 ⌝ }
+    requires { ⌜ length (now out) ≡ entriesN * entryN ⌝ }
     ensures { λ _. ⌜ now (out .exit) ≡ entriesBytes undo ⌝ }
 {
     let mut i = 0;
     while i < ENTRIES {
         let entry = undo[i];
         let b = entry_bytes(entry);
-        let a = i * 14;
-        let z = a + 14;
+        let a = i * ENTRY;
+        let z = a + ENTRY;
         figures::lay(&b, &mut out[a..z]);
         i += 1;
     }
@@ -177,7 +176,7 @@ pub fn encode(s: State, image: &mut [u8])
 }
 
 fn kept_in(s: &[u8]) -> Kept
-    requires { ⌜ length (now s) ≡ 11 ⌝ }
+    requires { ⌜ length (now s) ≡ valueN ⌝ }
     ensures { λ r. ⌜ r ≡ keptIn (now (s .entry)) ⌝ }
 {
     if s[0] == 1 {
@@ -188,7 +187,7 @@ fn kept_in(s: &[u8]) -> Kept
 }
 
 fn entry_in(s: &[u8]) -> Entry
-    requires { ⌜ length (now s) ≡ 14 ⌝ }
+    requires { ⌜ length (now s) ≡ entryN ⌝ }
     ensures { λ r. ⌜ r ≡ entryIn (now (s .entry)) ⌝ }
 {
     let kept = kept_in(&s[3..14]);
@@ -218,16 +217,19 @@ fn entry_in(s: &[u8]) -> Entry
 }
 
 fn values_in(s: &[u8]) -> [Value; VALUES]
-    requires { ⌜ length (now s) ≡ valuesN * 11 ⌝ }
-    ensures { λ r. ⌜ r ≡ valuesIn (now (s .entry)) ⌝ }
+    ensures { λ r. ⌜ r ≡ valuesRead (now (s .entry)) ⌝ }
 {
     let never = Kept::Never;
     let value = Value { kept: never };
     let mut values = [value; VALUES];
+    let mut n = VALUES;
+    if s.len() != COUNT_AT {
+        n = 0;
+    }
     let mut i = 0;
-    while i < VALUES {
-        let a = i * 11;
-        let z = a + 11;
+    while i < n {
+        let a = i * VALUE;
+        let z = a + VALUE;
         let kept = kept_in(&s[a..z]);
         values[i] = Value { kept: kept };
         i += 1;
@@ -235,97 +237,323 @@ fn values_in(s: &[u8]) -> [Value; VALUES]
     values
 }
 
-fn entries_in(s: &[u8]) -> [Entry; ENTRIES]
-    requires { ⌜ length (now s) ≡ entriesN * 14 ⌝ }
-    ensures { λ r. ⌜ r ≡ entriesIn (now (s .entry)) ⌝ }
+// Reads the entries up to the count; past it they are blank.
+fn entries_in(s: &[u8], count: usize) -> [Entry; ENTRIES]
+    ensures { λ r. ⌜ r ≡ entriesRead count (now (s .entry)) ⌝ }
 {
     let entry = blank_entry();
     let mut undo = [entry; ENTRIES];
+    let mut n = count;
+    if ENTRIES < n {
+        n = ENTRIES;
+    }
+    if s.len() != ENTRIES * ENTRY {
+        n = 0;
+    }
     let mut i = 0;
-    while i < ENTRIES {
-        let a = i * 14;
-        let z = a + 14;
+    while i < n {
+        let a = i * ENTRY;
+        let z = a + ENTRY;
         undo[i] = entry_in(&s[a..z]);
         i += 1;
     }
     undo
 }
 
-fn wide(b: u8) -> usize
-    ensures { λ r. ⌜ (r ≡ b) × (r < 256) ⌝ }
+fn byte_at(s: &[u8], at: usize) -> u8
+    ensures { λ r. ⌜ r ≡ getD (now (s .entry)) at 0 ⌝ }
 {
-    b as usize
-}
-
-// Reads the state of the series that the bytes would be the image of.
-fn state_in(series: Series, s: &[u8]) -> State
-    requires { ⌜ length (now s) ≡ imageN series ⌝ }
-    ensures { λ r. ⌜ r ≡ stateAs series (now (s .entry)) ⌝ }
-{
-    let at = values_at(series);
-    let mut settings = [0; SETTINGS];
-    figures::lay(&s[1..at], &mut settings);
-    let rest = &s[at..];
-    let values = values_in(&rest[0..COUNT_AT]);
-    let undo = entries_in(&rest[ENTRIES_AT..REST]);
-    let high = wide(rest[COUNT_AT]);
-    let low = wide(rest[COUNT_AT + 1]);
-    State {
-        series: series,
-        settings: settings,
-        values: values,
-        undo: undo,
-        count: high * 256 + low,
+    if s.len() <= at {
+        return 0;
     }
+    s[at]
 }
 
 // Reads the series that the first byte says.
-fn series_in(s: &[u8]) -> Series
-    ensures { λ r. ⌜ r ≡ seriesIn (now (s .entry)) ⌝ }
+pub fn series_in(image: &[u8]) -> Series
+    ensures { λ r. ⌜ r ≡ seriesIn (now (image .entry)) ⌝ }
 {
-    if s.len() == 0 {
-        return Series::Tps100;
-    }
-    if s[0] == 17 {
+    if byte_at(image, 0) == 17 {
         return Series::Tps300;
     }
     Series::Tps100
 }
 
-// Finds the state whose image the bytes are: the state that they would be is laid down, compared with them, and judged.
-pub fn decode(image: &[u8]) -> Decoded
-    ensures { λ r. ⌜ r ≡ decodeOf (now (image .entry)) ⌝ }
+// Reads how many entries stand.
+pub fn count_in(series: Series, image: &[u8]) -> usize
+    ensures { λ r. ⌜ r ≡ countIn series (now (image .entry)) ⌝ }
 {
-    let blank = blank_state();
+    let at = values_at(series) + COUNT_AT;
+    let high = place_of(byte_at(image, at));
+    let low = place_of(byte_at(image, at + 1));
+    high * 256 + low
+}
+
+// Reads the parameter of the setting at a place.
+pub fn parameter_in(place: usize, image: &[u8]) -> u8
+    ensures { λ r. ⌜ r ≡ getD (now (image .entry)) (1 + place) 0 ⌝ }
+{
+    if image.len() <= place {
+        return 0;
+    }
+    byte_at(image, 1 + place)
+}
+
+// Reads the value that is stored at a place; past the last, and past the bytes' end, none was ever put.
+pub fn value_in(series: Series, place: usize, image: &[u8]) -> Kept
+    ensures { λ r. ⌜ r ≡ storedIn series place (now (image .entry)) ⌝ }
+{
+    if VALUES <= place {
+        return Kept::Never;
+    }
+    let a = values_at(series) + place * VALUE;
+    let z = a + VALUE;
+    if image.len() < z {
+        return Kept::Never;
+    }
+    kept_in(&image[a..z])
+}
+
+// Reads a state from the parts of its image: parameters, stored values, entries up to the count. Only lines that alter the state ask for it.
+pub fn state_of(
+    series: Series,
+    parameters: &[u8],
+    stored: &[u8],
+    entries: &[u8],
+    count: usize,
+) -> State
+    ensures { λ r. ⌜ r ≡ stateOf series (now (parameters .entry)) (now (stored .entry)) (now (entries .entry)) count ⌝ }
+{
+    let mut settings = [0; SETTINGS];
+    figures::lay(parameters, &mut settings);
+    let values = values_in(stored);
+    let undo = entries_in(entries, count);
+    State {
+        series: series,
+        settings: settings,
+        values: values,
+        undo: undo,
+        count: count,
+    }
+}
+
+// Tells whether eleven bytes are a value that the place may hold.
+fn value_right(place: usize, s: &[u8]) -> bool
+    requires { ⌜ length (now s) ≡ valueN ⌝ }
+    ensures { λ r. ⌜ r ≡ valueRight place (now (s .entry)) ⌝ }
+{
+    if s[0] == 0 {
+        return figures::all_within(&s[1..11], 0, 0);
+    }
+    if s[0] != 1 {
+        return false;
+    }
+    parts_right(place, &s[1..11])
+}
+
+fn values_right(s: &[u8]) -> bool
+    requires { ⌜ length (now s) ≡ valuesN * valueN ⌝ }
+    ensures { λ r. ⌜ r ≡ valuesHeld 0 valuesN (now (s .entry)) ⌝ }
+{
+    let mut i = 0;
+    while i < VALUES {
+        let a = i * VALUE;
+        let z = a + VALUE;
+        if !value_right(i, &s[a..z]) {
+            return false;
+        }
+        i += 1;
+    }
+    true
+}
+
+// Tells which values are put.
+fn puts_in(s: &[u8]) -> [bool; VALUES]
+    requires { ⌜ length (now s) ≡ valuesN * valueN ⌝ }
+    ensures { λ r. ⌜ r ≡ putsOf (valuesIn (now (s .entry))) ⌝ }
+{
+    let mut puts = [false; VALUES];
+    let mut i = 0;
+    while i < VALUES {
+        puts[i] = s[i * VALUE] == 1;
+        i += 1;
+    }
+    puts
+}
+
+// Tells whether fourteen bytes are an entry that may stand.
+fn entry_right(series: Series, e: &[u8]) -> bool
+    requires { ⌜ length (now e) ≡ entryN ⌝ }
+    ensures { λ r. ⌜ r ≡ entryHeld series (now (e .entry)) ⌝ }
+{
+    let place = place_of(e[1]);
+    if e[0] == 1 {
+        if !settable(series, place, e[2]) {
+            return false;
+        }
+        return figures::all_within(&e[3..14], 0, 0);
+    }
+    if e[0] != 2 {
+        return false;
+    }
+    if VALUES <= place {
+        return false;
+    }
+    if e[2] != 0 {
+        return false;
+    }
+    value_right(place, &e[3..14])
+}
+
+// Tells whether the entries up to the count may stand and, taken back newest first, none names a value then never put: all in one pass.
+fn entries_right(series: Series, values: &[u8], s: &[u8], count: usize) -> bool
+    requires { ⌜ (length (now values) ≡ valuesN * valueN) × ((length (now s) ≡ entriesN * entryN) × (count ≤ entriesN)) ⌝ }
+    ensures { λ r. ⌜ r ≡ entriesHeld series count (putsOf (valuesIn (now (values .entry)))) (now (s .entry)) ⌝ }
+{
+    let mut puts = puts_in(values);
+    let mut n = count;
+    while 0 < n {
+        n -= 1;
+        let a = n * ENTRY;
+        let z = a + ENTRY;
+        let e = &s[a..z];
+        if !entry_right(series, e) {
+            return false;
+        }
+        if e[0] == 2 {
+            let place = place_of(e[1]);
+            if !puts[place] {
+                return false;
+            }
+            puts[place] = e[3] == 1;
+        }
+    }
+    true
+}
+
+// Tells whether the bytes are a state's image, judged where they lie.
+pub fn is_image(image: &[u8]) -> bool
+    ensures { λ r. ⌜ r ≡ isImage (now (image .entry)) ⌝ }
+{
     let series = series_in(image);
-    let n = image_size(series);
-    if image.len() != n {
-        let answer = Known::Not;
-        return Decoded {
-            answer: answer,
-            state: blank,
-        };
+    if image.len() != image_size(series) {
+        return false;
     }
-    let state = state_in(series, image);
-    let mut again = [0; IMAGE_300];
-    encode(state, &mut again[0..n]);
-    if !figures::same(image, &again[0..n]) {
-        let answer = Known::Not;
-        return Decoded {
-            answer: answer,
-            state: blank,
-        };
+    if image[0] != form_of(series) {
+        return false;
     }
-    if !is_state(state) {
-        let answer = Known::Not;
-        return Decoded {
-            answer: answer,
-            state: blank,
-        };
+    let at = values_at(series);
+    if !in_ranges(series, &image[1..at]) {
+        return false;
     }
-    let answer = Known::Is;
-    Decoded {
-        answer: answer,
-        state: state,
+    let rest = &image[at..];
+    if !values_right(&rest[0..COUNT_AT]) {
+        return false;
     }
+    let count = count_in(series, image);
+    if ENTRIES < count {
+        return false;
+    }
+    let past = ENTRIES_AT + count * ENTRY;
+    if !figures::all_within(&rest[past..REST], 0, 0) {
+        return false;
+    }
+    entries_right(series, &rest[0..COUNT_AT], &rest[ENTRIES_AT..REST], count)
+}
+
+// Lays bytes down from a place on, where they fit; otherwise it does nothing.
+fn lay_at(w: &[u8], at: usize, image: &mut [u8])
+    ensures { λ _. ⌜ now (image .exit) ≡ laidAt at (now (w .entry)) (now (image .entry)) ⌝ }
+{
+    if image.len() < at {
+        return;
+    }
+    let left = image.len() - at;
+    if left < w.len() {
+        return;
+    }
+    let z = at + w.len();
+    figures::lay(w, &mut image[at..z]);
+}
+
+// Lays the parameter of the setting at a place down.
+pub fn put_parameter(place: usize, parameter: u8, image: &mut [u8])
+    ensures { λ _. ⌜ now (image .exit) ≡ parameterLaid place parameter (now (image .entry)) ⌝ }
+{
+    if SETTINGS <= place {
+        return;
+    }
+    lay_at(&[parameter], 1 + place, image);
+}
+
+// Lays the value at a place down.
+pub fn put_value(series: Series, place: usize, kept: Kept, image: &mut [u8])
+    ensures { λ _. ⌜ now (image .exit) ≡ valueLaid series place kept (now (image .entry)) ⌝ }
+{
+    if VALUES <= place {
+        return;
+    }
+    let b = kept_bytes(kept);
+    lay_at(&b, values_at(series) + place * VALUE, image);
+}
+
+// Lays the entry at a place of the list down.
+pub fn put_entry(series: Series, n: usize, entry: Entry, image: &mut [u8])
+    ensures { λ _. ⌜ now (image .exit) ≡ entryLaid series n entry (now (image .entry)) ⌝ }
+{
+    if ENTRIES <= n {
+        return;
+    }
+    let b = entry_bytes(entry);
+    lay_at(&b, values_at(series) + ENTRIES_AT + n * ENTRY, image);
+}
+
+// Lays the number of entries down.
+pub fn put_count(series: Series, count: usize, image: &mut [u8])
+    ensures { λ _. ⌜ now (image .exit) ≡ countLaid series count (now (image .entry)) ⌝ }
+{
+    let b = [(count / 256 % 256) as u8, (count % 256) as u8];
+    lay_at(&b, values_at(series) + COUNT_AT, image);
+}
+
+fn blank(out: &mut [u8])
+    ensures { λ _. ⌜ now (out .exit) ≡ replicate (length (now (out .entry))) 0 ⌝ }
+{
+    let mut i = 0;
+    while i < out.len() {
+        out[i] = 0;
+        i += 1;
+    }
+}
+
+// Blanks the entries up to the count, and the count; past it they are blank.
+pub fn clear(series: Series, image: &mut [u8])
+    ensures { λ _. ⌜ now (image .exit) ≡ cleared series (now (image .entry)) ⌝ }
+{
+    let count = count_in(series, image);
+    let a = values_at(series) + ENTRIES_AT;
+    let z = a + count * ENTRY;
+    if image.len() < z {
+        return;
+    }
+    blank(&mut image[a..z]);
+    put_count(series, 0, image);
+}
+
+// Lays settings and values down.
+pub fn put_contents(
+    series: Series,
+    settings: [u8; SETTINGS],
+    values: [Value; VALUES],
+    image: &mut [u8],
+)
+    ensures { λ _. ⌜ now (image .exit) ≡ contentsLaid series settings values (now (image .entry)) ⌝ }
+{
+    let at = values_at(series);
+    let z = at + COUNT_AT;
+    if image.len() < z {
+        return;
+    }
+    figures::lay(&settings, &mut image[1..at]);
+    put_values(values, &mut image[at..z]);
 }

@@ -6,7 +6,7 @@ use Rattle.figures.specs.Promises.{Determined}
 use Rattle.figures.proofs.Determined.{by-equation}
 use Rattle.units.specs.Kinds.{kindOf, isTextual, namedBy, indexAt}
 use Rattle.units.specs.Information.{infoMarks, infoRight, firstWrong, informedOf, leadOf, signByte, signAt}
-use Rattle.units.specs.Counts.{angleOf, lengthOf, constantOf, valueAt, firstOf, secondOf}
+use Rattle.units.specs.Counts.{angleAt, angleOf, lengthOf, constantOf, valueAt, firstOf, secondOf}
 use Rattle.units.specs.declared.kinds.Family.{Family}
 use Rattle.units.specs.declared.kinds.Kind.{Kind}
 use Rattle.units.specs.declared.kinds.Named.{Named}
@@ -75,6 +75,9 @@ constant-of-determined = by-equation (ℕ × Whole) Count (λ i. constantOf (i .
 
 abbrev valuedBy : Kind × (ℕ × (ℕ × (ℕ × Figures))) → Valued
 valuedBy i = valueAt (i .0) (i .1 .0) (i .1 .1 .0) (i .1 .1 .1 .0) (i .1 .1 .1 .1)
+
+pub angle-at-determined : Determined (ℕ × ℕ × ℕ) Valued (λ i r. r ≡ angleAt (i .0) (i .1) (i .2))
+angle-at-determined = by-equation (ℕ × ℕ × ℕ) Valued (λ i. angleAt (i .0) (i .1) (i .2))
 
 pub value-at-determined : Determined (Kind × (ℕ × (ℕ × (ℕ × Figures)))) Valued (λ i r. r ≡ valuedBy i)
 value-at-determined = by-equation (Kind × (ℕ × (ℕ × (ℕ × Figures)))) Valued valuedBy

@@ -134,7 +134,8 @@ fn mil_at(minus: u8, n: u64) -> Valued
     Valued::Counted(count)
 }
 
-fn angle_at(unit: u8, minus: u8, n: u64) -> Valued
+// Gives the count of an angle of that unit, with that sign before that number.
+pub fn angle_at(unit: u8, minus: u8, n: u64) -> Valued
     ensures { λ r. ⌜ r ≡ angleAt unit minus n ⌝ }
 {
     match unit {

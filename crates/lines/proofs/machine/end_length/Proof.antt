@@ -1,4 +1,4 @@
--- `lines::machine::end_length` meets its contract.
+-- `end_length` meets its contract.
 use mathlib.Core.Path.{sym, _∙_, ap}
 use mathlib.Core.Bool.{Bool}
 use borrow.Author.Needs.{needs}
@@ -14,4 +14,4 @@ returns-2 : tie.Need-returns-2
 returns-2 c = ap (λ (lf : Bool). length (endBytes lf)) (sym (c .if1 .left) ∙ c .before .ends-lf .ensures)
 
 pub end-length-spec : {M : Type 1} → statement M
-end-length-spec = tie.close (tie.spec (λ c κs. search needs) returns returns-2)
+end-length-spec = tie.close (tie.spec (λ c κs. c .before .pre) returns returns-2)

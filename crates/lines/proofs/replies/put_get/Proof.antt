@@ -1,24 +1,27 @@
--- `lines::replies::put_get` meets its contract. The loop's invariant is `Got`; no group is refused, so that neither early return is taken.
-use Prim.Native.Nat.{ℕ, _+_, _-_, _<_, _≤_}
+-- `lines::replies::put_get` meets its contract. The loop's invariant is `Got`; no group is refused, so that the early return isn't taken.
+use Prim.Native.Nat.{ℕ, _+_, _-_, _≤_}
 use mathlib.Core.Bool.{Bool}
 use mathlib.Core.List.{List}
-use mathlib.Core.Path.{_≡_, sym, _∙_}
+use mathlib.Core.Path.{_≡_, sym, ap, _∙_}
 use native.Mathlib.Omega.{arith}
 use borrow.Author.Needs.{needs}
 use lib.ListN.{length, getD}
 use Rattle.words.specs.Reading.{wordSize}
-use Rattle.instrument.specs.Values.{valuesN}
+use Rattle.instrument.specs.Values.{getWord}
 use Rattle.instrument.specs.declared.settings.Found.the-variants.{At}
+use Rattle.state.specs.Image.{stateIn}
+use Rattle.state.proofs.Places.{stored-read}
 use Rattle.lines.specs.Verdicts.{placeNamed}
-use Rattle.lines.proofs.Replying.{same-place, not-both, Got, got-none, got-length, got-room, got-all, got-named, got-more}
+use Rattle.lines.proofs.Lookups.{place-in}
+use Rattle.lines.proofs.Replying.{not-both, Got, got-none, got-length, got-room, got-all, got-named, got-more}
 use Rattle.lines.proofs.replies.put_get.Statement.{statement}
 use Rattle.lines.proofs.replies.put_get.Tie as tie
 
 abbrev Inv-loop : tie.InvT-loop
-Inv-loop wide groups room₀ values i₀ at₀ room i at = Got wide values groups room₀ room i at
+Inv-loop wide series image groups room₀ i₀ at₀ room i at = Got wide (stateIn image .values) groups room₀ room i at
 
 abbrev μ-loop : tie.MeasureT-loop
-μ-loop wide groups room₀ values i₀ at₀ room i at = length groups - i
+μ-loop wide series image groups room₀ i₀ at₀ room i at = length groups - i
 
 record Turn (wide : Bool) (g room₀ room : List ℕ) (i at : ℕ) : Type 0 where
   five : i + 5 ≤ length g
@@ -26,10 +29,9 @@ record Turn (wide : Bool) (g room₀ room : List ℕ) (i at : ℕ) : Type 0 wher
   same : length room ≡ length room₀
   place : ℕ
   named : placeNamed (getD g (i + 3) 0) (getD g (i + 4) 0) ≡ At place
-  below : place < valuesN
 
 abbrev start : tie.At-loop Inv-loop μ-loop → tie.Start Inv-loop μ-loop
-start c = c .before .before .before
+start c = c .before .before .before .before
 
 -- what a turn rests on
 turn : (c : tie.In-loop Inv-loop μ-loop) →
@@ -41,16 +43,15 @@ turn c =
     let l = c .before .loop in
     let g = s .args .groups .now in
     let r = s .args .room .now in
-    let v = s .args .t2 in
+    let v = stateIn (s .args .image .now) .values in
     let w = s .args .wide in
-    let n = got-named w v g r (s .pre) (l .room) (l .i) (l .at) (l .inv) (c .loop-test .taken) in
+    let n = got-named w v g r (s .pre .1) (l .room) (l .i) (l .at) (l .inv) (c .loop-test .taken) in
     record {
       five = n .0;
-      words = got-room w v g r (s .pre) (l .room) (l .i) (l .at) (l .inv) (c .loop-test .taken);
-      same = got-length w v g r (s .pre) (l .room) (l .i) (l .at) (l .inv);
+      words = got-room w v g r (s .pre .1) (l .room) (l .i) (l .at) (l .inv) (c .loop-test .taken);
+      same = got-length w v g r (s .pre .1) (l .room) (l .i) (l .at) (l .inv);
       place = n .1 .0;
-      named = n .1 .1 .0;
-      below = n .1 .1 .1;
+      named = n .1 .1;
     }
 
 -- where the turn began, from where its group is looked up, from where its place is known, and from where its word is laid down
@@ -61,13 +62,15 @@ abbrev from-place : tie.After-known-told Inv-loop μ-loop → tie.In-loop Inv-lo
 from-place c = from-named (c .before .before .before)
 
 abbrev from-word : tie.After-get-word Inv-loop μ-loop → tie.In-loop Inv-loop μ-loop
-from-word c = from-place (c .before .before .before)
+from-word c = from-place (c .before .before)
 
 abbrev from-lay : tie.After-slice-known2 Inv-loop μ-loop → tie.In-loop Inv-loop μ-loop
 from-lay c = from-word (c .before .before .before .before)
 
 loop-holds : tie.Need-loop-holds Inv-loop μ-loop
-loop-holds c = let s = c .before .before in got-none (s .args .wide) (s .args .t2) (s .args .groups .now) (s .args .room .now) (s .pre)
+loop-holds c =
+    let s = c .before .before .before in
+    got-none (s .args .wide) (stateIn (s .args .image .now) .values) (s .args .groups .now) (s .args .room .now) (s .pre .1)
 
 add-place-named : tie.Need-add-place-named Inv-loop μ-loop
 add-place-named c = omega (arith, turn c .five)
@@ -90,17 +93,6 @@ returns c =
     let t = turn (from-named r) in
     absurd (not-both (r .place-named .result) (t .place) (r .place-named .ensures ∙ t .named) (c .enum-told .given .1))
 
-same-length-2 : tie.Need-same-length-2 Inv-loop μ-loop
-same-length-2 c = turn (from-place (c .before)) .same
-
-returns-2 : tie.Need-returns-2 Inv-loop μ-loop
-returns-2 c =
-    let p = c .before .before in
-    let r = p .before .before .place-named in
-    let t = turn (from-place (c .before)) in
-    let e = same-place (r .result) (t .place) (p .place .given .0 .0) (r .ensures ∙ t .named) (p .place .given .1) in
-    absurd (omega (arith, t .below, c .if1 .taken))
-
 sub-put-word : tie.Need-sub-put-word Inv-loop μ-loop
 sub-put-word c = let t = turn (from-word c) in omega (arith, t .words, t .same)
 
@@ -122,24 +114,29 @@ loop-again c =
     let s = start (t .before) in
     let l = t .before .loop in
     let w = c .before .before .before .before in
-    let p = w .before .before .before .before in
-    let found = sym (p .before .before .place-named .ensures) ∙ p .place .given .1 in
+    let p = w .before .before .before in
+    let place = p .place .given .0 .0 in
+    let g = s .args .groups .now in
+    let found : placeNamed (getD g (l .i + 3) 0) (getD g (l .i + 4) 0) ≡ At place = sym (p .before .before .place-named .ensures) ∙ p .place .given .1 in
+    let below = place-in (getD g (l .i + 3) 0) (getD g (l .i + 4) 0) place found in
+    let word = w .get-word .ensures ∙ ap (getWord place) (w .before .value-in .ensures ∙ stored-read (s .pre .0) place below) in
     let last = c .before .before .put-word in
-    got-more (s .args .wide) (s .args .t2) (s .args .groups .now) (s .args .room .now) (s .pre) (l .room) (l .i) (l .at) (l .inv)
-    (p .place .given .0 .0) (last .result) (last .last .1 .1 .0) (t .loop-test .taken) found (last .ensures .0)
-    (rw (← w .get-word .ensures) (last .ensures .1))
+    got-more (s .args .wide) (stateIn (s .args .image .now) .values) g (s .args .room .now) (s .pre .1) (l .room) (l .i) (l .at) (l .inv)
+    place (last .result) (last .last .1 .1 .0) (t .loop-test .taken) found (last .ensures .0)
+    (rw (← word) (last .ensures .1))
 
-same-length-3 : tie.Need-same-length-3 Inv-loop μ-loop
-same-length-3 c =
+same-length-2 : tie.Need-same-length-2 Inv-loop μ-loop
+same-length-2 c =
     let s = start (c .before) in
     let l = c .before .loop in
-    got-length (s .args .wide) (s .args .t2) (s .args .groups .now) (s .args .room .now) (s .pre) (l .room) (l .i) (l .at) (l .inv)
+    got-length (s .args .wide) (stateIn (s .args .image .now) .values) (s .args .groups .now) (s .args .room .now) (s .pre .1) (l .room) (l .i) (l .at) (l .inv)
 
-returns-3 : tie.Need-returns-3 Inv-loop μ-loop
-returns-3 c =
+returns-2 : tie.Need-returns-2 Inv-loop μ-loop
+returns-2 c =
     let s = start (c .before) in
     let l = c .before .loop in
-    got-all (s .args .wide) (s .args .t2) (s .args .groups .now) (s .args .room .now) (s .pre) (l .room) (l .i) (l .at) (l .inv) (c .loop-test .left)
+    got-all (s .args .wide) (stateIn (s .args .image .now) .values) (s .args .groups .now) (s .args .room .now) (s .pre .1) (l .room) (l .i) (l .at) (l .inv)
+    (c .loop-test .left)
 
 pub put-get-spec : {M : Type 1} → statement M
 put-get-spec =
@@ -157,10 +154,7 @@ put-get-spec =
     (λ c. search needs)
     same-length
     returns
-    same-length-2
-    returns-2
-    (λ c. search needs)
-    (λ c. search needs)
+    (λ c κs. search needs)
     (λ c κs. search needs)
     sub-put-word
     part-put-word-start
@@ -170,5 +164,5 @@ put-get-spec =
     add-i
     loop-less
     loop-again
-    same-length-3
-    returns-3)
+    same-length-2
+    returns-2)

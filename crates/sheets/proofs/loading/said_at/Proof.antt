@@ -1,36 +1,38 @@
 -- `said_at` meets its contract. The loop's invariant: what is said turns on the digits from `at` on and the number that those before it say.
 use Prim.Native.Nat.{_-_, _^_, _≤_, _<_}
-use mathlib.Core.Path.{_≡_, refl, sym, _∙_}
+use mathlib.Core.Path.{_≡_, sym, _∙_}
 use mathlib.Core.Bool.{true}
+use native.Mathlib.Nat.{zero-add}
 use native.Mathlib.Omega.{arith}
 use lib.ListN.{getD, drop}
 use Rattle.figures.specs.Decimal.{isDigit}
 use Rattle.figures.proofs.Bytes.{within-bounds}
 use Rattle.figures.proofs.Decimal.{one-digit-more}
 use Rattle.figures.proofs.Tests.{passed, failed}
-use Rattle.sheets.specs.Sheet.{saidBy}
-use Rattle.sheets.proofs.Says.{said-past, said-other, said-more, said-all, said-small}
+use Rattle.sheets.specs.Keeping.{saidOf}
+use Rattle.sheets.proofs.Takes.{saidFrom, said-small, said-more, said-end, digits-past, digits-other, digits-all}
 use Rattle.sheets.proofs.loading.said_at.Statement.{statement}
 use Rattle.sheets.proofs.loading.said_at.Tie as tie
 
 abbrev Inv-loop : tie.InvT-loop
-Inv-loop s start n₀ i₀ at₀ n i at = (i ≤ 3) × (n < 10 ^ i) × (saidBy 3 0 (drop start s) ≡ saidBy (3 - i) n (drop at s))
+Inv-loop s start number₀ i₀ at₀ number i at = (i ≤ 3) × (number < 10 ^ i) × (saidOf (drop start s) ≡ saidFrom number i (drop at s))
 
 abbrev μ-loop : tie.MeasureT-loop
-μ-loop s start n₀ i₀ at₀ n i at = 3 - i
+μ-loop s start number₀ i₀ at₀ number i at = 3 - i
 
-small : (c : tie.At-loop Inv-loop μ-loop) → c .loop .n < 1000
-small c = said-small (c .loop .n) (c .loop .i) (c .loop .inv .0) (c .loop .inv .1)
+small : (c : tie.At-loop Inv-loop μ-loop) → c .loop .number < 1000
+small c = said-small (c .loop .number) (c .loop .i) (c .loop .inv .0) (c .loop .inv .1)
 
 returns : tie.Need-returns Inv-loop μ-loop
 returns c =
     let loop = c .before .before .loop in
-    (sym (loop .inv .2 ∙ said-past _ _ _ _ (c .if1 .taken)), small (c .before .before))
+    (sym (loop .inv .2 ∙ said-end _ _ _ (digits-past _ (loop .at) _ (c .if1 .taken))), small (c .before .before))
 
 returns-2 : tie.Need-returns-2 Inv-loop μ-loop
 returns-2 c =
     let at = c .before .before .before .before .before in
-    (sym (at .loop .inv .2 ∙ said-other _ _ _ _ (c .before .before .before .if1 .left) (failed (c .before .digit .ensures) (c .if2 .taken))), small at)
+    let none = digits-other _ (at .loop .at) _ (c .before .before .before .if1 .left) (failed (c .before .digit .ensures) (c .if2 .taken)) in
+    (sym (at .loop .inv .2 ∙ said-end _ _ _ none), small at)
 
 -- the byte of the turn is a digit
 digit : (c : tie.Else2 Inv-loop μ-loop)
@@ -47,14 +49,14 @@ loop-again c =
     let loop = turn .before .loop in
     rw (c .wide .ensures) (
       omega arith,
-      rw (c .wide .ensures) at (one-digit-more (loop .n) (c .wide .result) (loop .i) (omega (arith, c .wide .ensures, digit (c .before))) (loop .inv .1)),
-      loop .inv .2 ∙ said-more (loop .n) _ (loop .at) (loop .i) (turn .loop-test .taken) (c .before .before .before .before .if1 .left) (digit (c .before) .0),
+      rw (c .wide .ensures) at (one-digit-more (loop .number) (c .wide .result) (loop .i) (omega (arith, c .wide .ensures, digit (c .before))) (loop .inv .1)),
+      loop .inv .2 ∙ said-more (loop .number) (loop .i) _ (loop .at) (turn .loop-test .taken) (c .before .before .before .before .if1 .left) (digit (c .before) .0),
     )
 
 returns-3 : tie.Need-returns-3 Inv-loop μ-loop
 returns-3 c =
     let loop = c .before .loop in
-    (sym (loop .inv .2 ∙ said-all (loop .n) _ (loop .at) (loop .i) (c .loop-test .left)), small (c .before))
+    (sym (loop .inv .2 ∙ said-end _ _ _ (digits-all _ (loop .at) _ (c .loop-test .left))), small (c .before))
 
 pub said-at-spec : {M : Type 1} → statement M
 said-at-spec =
@@ -62,7 +64,7 @@ said-at-spec =
     (tie.spec
     Inv-loop
     μ-loop
-    (λ c. (omega arith, omega arith, refl))
+    (λ c. (omega arith, omega arith, rw zero-add))
     returns
     (λ c. omega arith)
     (λ c κs. tt)

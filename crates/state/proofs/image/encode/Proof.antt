@@ -1,19 +1,17 @@
 -- `encode` meets its contract: the parts are laid down one after the other, as many settings as the series has.
 use Prim.Native.Nat.{ℕ, _+_, _-_}
-use mathlib.Core.Path.{_≡_, refl, sym, ap, _∙_}
+use mathlib.Core.Path.{_≡_, refl, sym, _∙_}
 use mathlib.Core.List.{List, [], _∷_, _++_}
 use native.Mathlib.Omega.{arith}
 use borrow.Author.Needs.{needs}
 use borrow.Author.Tests.{eq-eqb, ne-eqb}
 use borrow.Rule.Slice.PartMut.{putMid, midOf, same-len-mid, mid-len}
-use lib.ListN.{length, set, take, length-set, length-append}
-use Rattle.figures.specs.Bytes.{laid}
-use Rattle.figures.proofs.Bytes.{fill-on, store-on, laid-cut}
-use Rattle.instrument.specs.Settings.{settingsN, settingsMost, held}
-use Rattle.instrument.specs.declared.settings.Series.{Series}
-use Rattle.instrument.proofs.Ranges.{settings-few}
+use lib.ListN.{length, set, length-set, length-append}
+use Rattle.figures.proofs.Bytes.{fill-on, store-on}
+use Rattle.instrument.specs.Settings.{settingsN, settingsMost}
 use Rattle.state.specs.Image.{valuesAt, restN, imageN, imageOf}
 use Rattle.state.proofs.Laying.{filled}
+use Rattle.state.proofs.Images.{held-laid}
 use Rattle.state.proofs.image.encode.Statement.{statement}
 use Rattle.state.proofs.image.encode.Tie as tie
 
@@ -28,12 +26,6 @@ parts x g r f at hx hg hr hl =
     let e2 = fill-on (f ∷ []) x (set x 0 f) g 1 (at - 1) refl e1 (omega arith) in
     let e3 = fill-on (f ∷ g) x (in-2 x f at g) r at (length (in-2 x f at g) - at) (omega arith) e2 (omega arith) in
     filled ((f ∷ g) ++ r) x (omega (arith, length-append g r)) e3
-
--- as many settings as there is room for are those of the series
-held-laid : (k : Series) (s room g : List ℕ) → length s ≡ settingsMost → length room + 1 ≡ valuesAt k → g ≡ laid s room → g ≡ held k s
-held-laid k s room g hs hr e =
-    let n : length room ≡ settingsN k = omega arith in
-    e ∙ laid-cut s room (omega (arith, settings-few k)) ∙ ap (λ (m : ℕ). take m s) n
 
 alike : {f h : ℕ} {g w r q : List ℕ} → f ≡ h → g ≡ w → r ≡ q → f ∷ (g ++ r) ≡ h ∷ (w ++ q)
 alike ef eg er = rw (ef, eg, er)
