@@ -77,7 +77,7 @@ pub fn run_within(s: &[u8], low: u8, high: u8) -> usize
     i
 }
 
-// Tells whether every byte is from low to high. The loop never leaves early, so that many bytes are looked at at once.
+// Tells whether every byte is from low to high. The loop never leaves early, so that many bytes are judged at once.
 pub fn all_within(s: &[u8], low: u8, high: u8) -> bool
     ensures { λ r. ⌜ r ≡ every (within low high) (now (s .entry)) ⌝ }
 {

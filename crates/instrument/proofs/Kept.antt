@@ -1,5 +1,4 @@
--- Laws of what is stored: the rules for a value's word are rules for its parts, what a PUT leaves is right for its place, and the factory's
--- state is a state.
+-- Laws of what is stored: the rules for a value's word are rules for its parts, and what a PUT leaves is right for its place.
 use Prim.Native.Nat.{ℕ, zero, suc, _+_, _/_, _%_, _<_, _≤_}
 use mathlib.Core.Path.{_≡_, refl, sym, ap, _∙_}
 use mathlib.Core.Bool.{Bool, true, false, cond, not, _&&_, _||_, false≢true, and-true, and-false, and-eq-true-iff}

@@ -7,15 +7,15 @@ use native.Mathlib.Numerals.{add-one}
 use native.Mathlib.Omega.{arith}
 use borrow.Author.Tests.{le-leb, leb-true, leb-false, not-true}
 use lib.Dec.{leb}
-use lib.ListN.{length, getD, set, take, drop, replicate, drop-of-length-le, length-map, length-append, length-drop, length-replicate, List·getD-map}
-use lib.Seq.{drop-cons, drop-at, take-suc, take-suc-set, take-all}
+use lib.ListN.{length, getD, set, take, drop, replicate, drop-of-length-le, length-map, length-append, length-replicate, List·getD-map}
+use lib.Seq.{drop-cons, take-suc, take-suc-set, take-all}
 use Rattle.instrument.specs.declared.settings.Row.{Row}
 use Rattle.instrument.specs.declared.settings.Series.{Series}
 use Rattle.instrument.specs.declared.settings.Series.the-variants.{Tps100, Tps300}
 use Rattle.instrument.specs.Settings.{rows100, rows300, settingNumber, rowsOf, settingsN, settingsMost, noRow, rowAt, heldRows, only, isGap, inRange, inRanges, modes161}
 use Rattle.instrument.specs.Rows.{keyBytes}
 use Rattle.instrument.proofs.Seek.{eachRow, row-tested, NoneOf, past-place}
-use Rattle.figures.specs.Bytes.{within, among, every}
+use Rattle.figures.specs.Bytes.{among, every}
 use Rattle.figures.proofs.Tests.{and-on, and-off, by-test, along, among-above}
 
 -- the series

@@ -24,6 +24,6 @@ nameOf letter n = codes letter ++ decimalOf n
 abbrev pub keyOf : String → ℕ → List ℕ
 keyOf letter n = nameOf letter n ++ codes "="
 
--- as a row holds it: from the start of five bytes, the rest 0
+-- as a row holds it: from the start of eight bytes, the rest 0
 abbrev pub keyBytes : String → ℕ → List ℕ
-keyBytes letter n = laid (keyOf letter n) (replicate 5 0)
+keyBytes letter n = laid (keyOf letter n) (replicate 8 0)

@@ -101,7 +101,7 @@ abbrev pub keptRight : ℕ → Kept → Bool
 keptRight place Never = true
 keptRight place (Put u m d) = leb m 1 && putRight place (valueWord (byte ".") place u m d)
 
--- unit, sign and eight characters as they lie in an image
+-- unit, sign and eight characters as they lie in an image; `parts-text`, `parts-length` and `parts-angle`, in proofs/Kept.antt, judge them by themselves
 abbrev pub partsIn : List ℕ → Kept
 partsIn l = Put (getD l 0 0) (getD l 1 0) (eightOf (drop 2 l))
 

@@ -5,89 +5,92 @@ ghost use Rattle.instrument.specs.Rows.{keyBytes};
 ghost use Rattle.instrument.specs.Settings.{rows100, rows300, noRow, settingNumber, rowAt};
 use crate::settings::Series;
 
-// Each from the start of five bytes, by its setting's number. They stand by name: a byte string that is taken out in an arm of a `match` has memory of its
+// The bytes that hold a key, four or five and noughts: eight are handed over in one.
+pub const KEY: usize = 8;
+
+// Each from the start of those, by its setting's number. They stand by name: a byte string that is taken out in an arm of a `match` has memory of its
 // own there, and thirty of those are expensive to prove.
-const K30: [u8; 5] = *b"s30=\0";
+const K30: [u8; KEY] = *b"s30=\0\0\0\0";
 
-const K32: [u8; 5] = *b"s32=\0";
+const K32: [u8; KEY] = *b"s32=\0\0\0\0";
 
-const K34: [u8; 5] = *b"s34=\0";
+const K34: [u8; KEY] = *b"s34=\0\0\0\0";
 
-const K40: [u8; 5] = *b"s40=\0";
+const K40: [u8; KEY] = *b"s40=\0\0\0\0";
 
-const K41: [u8; 5] = *b"s41=\0";
+const K41: [u8; KEY] = *b"s41=\0\0\0\0";
 
-const K42: [u8; 5] = *b"s42=\0";
+const K42: [u8; KEY] = *b"s42=\0\0\0\0";
 
-const K43: [u8; 5] = *b"s43=\0";
+const K43: [u8; KEY] = *b"s43=\0\0\0\0";
 
-const K44: [u8; 5] = *b"s44=\0";
+const K44: [u8; KEY] = *b"s44=\0\0\0\0";
 
-const K49: [u8; 5] = *b"s49=\0";
+const K49: [u8; KEY] = *b"s49=\0\0\0\0";
 
-const K50: [u8; 5] = *b"s50=\0";
+const K50: [u8; KEY] = *b"s50=\0\0\0\0";
 
-const K51: [u8; 5] = *b"s51=\0";
+const K51: [u8; KEY] = *b"s51=\0\0\0\0";
 
-const K55: [u8; 5] = *b"s55=\0";
+const K55: [u8; KEY] = *b"s55=\0\0\0\0";
 
-const K56: [u8; 5] = *b"s56=\0";
+const K56: [u8; KEY] = *b"s56=\0\0\0\0";
 
-const K70: [u8; 5] = *b"s70=\0";
+const K70: [u8; KEY] = *b"s70=\0\0\0\0";
 
-const K71: [u8; 5] = *b"s71=\0";
+const K71: [u8; KEY] = *b"s71=\0\0\0\0";
 
-const K73: [u8; 5] = *b"s73=\0";
+const K73: [u8; KEY] = *b"s73=\0\0\0\0";
 
-const K75: [u8; 5] = *b"s75=\0";
+const K75: [u8; KEY] = *b"s75=\0\0\0\0";
 
-const K76: [u8; 5] = *b"s76=\0";
+const K76: [u8; KEY] = *b"s76=\0\0\0\0";
 
-const K78: [u8; 5] = *b"s78=\0";
+const K78: [u8; KEY] = *b"s78=\0\0\0\0";
 
-const K80: [u8; 5] = *b"s80=\0";
+const K80: [u8; KEY] = *b"s80=\0\0\0\0";
 
-const K81: [u8; 5] = *b"s81=\0";
+const K81: [u8; KEY] = *b"s81=\0\0\0\0";
 
-const K90: [u8; 5] = *b"s90=\0";
+const K90: [u8; KEY] = *b"s90=\0\0\0\0";
 
-const K91: [u8; 5] = *b"s91=\0";
+const K91: [u8; KEY] = *b"s91=\0\0\0\0";
 
-const K95: [u8; 5] = *b"s95=\0";
+const K95: [u8; KEY] = *b"s95=\0\0\0\0";
 
-const K102: [u8; 5] = *b"s102=";
+const K102: [u8; KEY] = *b"s102=\0\0\0";
 
-const K103: [u8; 5] = *b"s103=";
+const K103: [u8; KEY] = *b"s103=\0\0\0";
 
-const K104: [u8; 5] = *b"s104=";
+const K104: [u8; KEY] = *b"s104=\0\0\0";
 
-const K105: [u8; 5] = *b"s105=";
+const K105: [u8; KEY] = *b"s105=\0\0\0";
 
-const K106: [u8; 5] = *b"s106=";
+const K106: [u8; KEY] = *b"s106=\0\0\0";
 
-const K120: [u8; 5] = *b"s120=";
+const K120: [u8; KEY] = *b"s120=\0\0\0";
 
-const K122: [u8; 5] = *b"s122=";
+const K122: [u8; KEY] = *b"s122=\0\0\0";
 
-const K135: [u8; 5] = *b"s135=";
+const K135: [u8; KEY] = *b"s135=\0\0\0";
 
-const K136: [u8; 5] = *b"s136=";
+const K136: [u8; KEY] = *b"s136=\0\0\0";
 
-const K137: [u8; 5] = *b"s137=";
+const K137: [u8; KEY] = *b"s137=\0\0\0";
 
-const K160: [u8; 5] = *b"s160=";
+const K160: [u8; KEY] = *b"s160=\0\0\0";
 
-const K161: [u8; 5] = *b"s161=";
+const K161: [u8; KEY] = *b"s161=\0\0\0";
 
-const K170: [u8; 5] = *b"s170=";
+const K170: [u8; KEY] = *b"s170=\0\0\0";
 
-const K171: [u8; 5] = *b"s171=";
+const K171: [u8; KEY] = *b"s171=\0\0\0";
 
 // The key of a row of noughts, past a series' last.
-const NONE: [u8; 5] = *b"s0=\0\0";
+const NONE: [u8; KEY] = *b"s0=\0\0\0\0\0";
 
 // Gives TPS100's keys. They stand apart from the rows, so that a row is short.
-fn key_100(place: usize) -> [u8; 5]
+fn key_100(place: usize) -> [u8; KEY]
     ensures { λ r. ⌜ r ≡ keyBytes "s" (settingNumber (getD rows100 place noRow)) ⌝ }
 {
     match place {
@@ -115,7 +118,7 @@ fn key_100(place: usize) -> [u8; 5]
 }
 
 // Gives TPS300's keys.
-fn key_300(place: usize) -> [u8; 5]
+fn key_300(place: usize) -> [u8; KEY]
     ensures { λ r. ⌜ r ≡ keyBytes "s" (settingNumber (getD rows300 place noRow)) ⌝ }
 {
     match place {
@@ -154,7 +157,7 @@ fn key_300(place: usize) -> [u8; 5]
 }
 
 // Gives the key of the setting at a place.
-pub fn key_at(series: Series, place: usize) -> [u8; 5]
+pub fn key_at(series: Series, place: usize) -> [u8; KEY]
     ensures { λ r. ⌜ r ≡ keyBytes "s" (settingNumber (rowAt series place)) ⌝ }
 {
     match series {

@@ -2,6 +2,7 @@
 ghost use mathlib.Core.Path.{_≡_};
 ghost use Prim.Native.Nat.{_+_, _%_};
 ghost use Rattle.instrument.specs.Values.{storedAt, valuePlace, putJudged, putKept, valueWord, partsRight, getWord, widened, isPut};
+use crate::keys::KEY;
 use crate::settings::Found;
 use units::counts::Valued;
 use units::counts::angle_at;
@@ -13,12 +14,12 @@ use words::reading::read_word;
 
 pub const VALUES: usize = 11;
 
-// A stored value: its index, first and last unit as they stand at position 6, and its key on a sheet, from the start of five bytes.
+// A stored value: its index, first and last unit as they stand at position 6, and its key on a sheet, from the start of as many bytes as hold any key.
 pub struct Stored {
     pub index: u16,
     pub first: u8,
     pub last: u8,
-    pub key: [u8; 5],
+    pub key: [u8; KEY],
 }
 
 // A value's eight characters.
@@ -48,77 +49,77 @@ const V11: Stored = Stored {
     index: 11,
     first: b'.',
     last: b'.',
-    key: *b"v11=\0",
+    key: *b"v11=\0\0\0\0",
 };
 
 const V16: Stored = Stored {
     index: 16,
     first: b'.',
     last: b'.',
-    key: *b"v16=\0",
+    key: *b"v16=\0\0\0\0",
 };
 
 const V21: Stored = Stored {
     index: 21,
     first: b'2',
     last: b'4',
-    key: *b"v21=\0",
+    key: *b"v21=\0\0\0\0",
 };
 
 const V24: Stored = Stored {
     index: 24,
     first: b'2',
     last: b'4',
-    key: *b"v24=\0",
+    key: *b"v24=\0\0\0\0",
 };
 
 const V34: Stored = Stored {
     index: 34,
     first: b'0',
     last: b'1',
-    key: *b"v34=\0",
+    key: *b"v34=\0\0\0\0",
 };
 
 const V83: Stored = Stored {
     index: 83,
     first: b'0',
     last: b'1',
-    key: *b"v83=\0",
+    key: *b"v83=\0\0\0\0",
 };
 
 const V84: Stored = Stored {
     index: 84,
     first: b'0',
     last: b'1',
-    key: *b"v84=\0",
+    key: *b"v84=\0\0\0\0",
 };
 
 const V85: Stored = Stored {
     index: 85,
     first: b'0',
     last: b'1',
-    key: *b"v85=\0",
+    key: *b"v85=\0\0\0\0",
 };
 
 const V86: Stored = Stored {
     index: 86,
     first: b'0',
     last: b'1',
-    key: *b"v86=\0",
+    key: *b"v86=\0\0\0\0",
 };
 
 const V87: Stored = Stored {
     index: 87,
     first: b'0',
     last: b'1',
-    key: *b"v87=\0",
+    key: *b"v87=\0\0\0\0",
 };
 
 const V88: Stored = Stored {
     index: 88,
     first: b'0',
     last: b'1',
-    key: *b"v88=\0",
+    key: *b"v88=\0\0\0\0",
 };
 
 // Gives the row at a place; past the last it is a row of noughts.
@@ -141,7 +142,7 @@ pub fn stored_at(place: usize) -> Stored
             index: 0,
             first: 0,
             last: 0,
-            key: *b"v0=\0\0",
+            key: *b"v0=\0\0\0\0\0",
         },
     }
 }
@@ -250,8 +251,8 @@ fn value_word(mark: u8, place: usize, unit: u8, minus: u8, d: Eight) -> [u8; 16]
     ]
 }
 
-// Tells whether a PUT can leave those parts at the place: unit, sign (0 or 1) and eight characters. An image asks it of each value and entry, where they
-// lie, so no word is made of them.
+// Tells whether a PUT can leave those parts at the place: unit, sign (0 or 1) and eight characters. An image asks it of each value and entry and a
+// sheet of each line, where they lie, so no word is made of them.
 pub fn parts_right(place: usize, parts: &[u8]) -> bool
     ensures { λ r. ⌜ r ≡ partsRight place (now (parts .entry)) ⌝ }
 {

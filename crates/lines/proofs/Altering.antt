@@ -1,18 +1,17 @@
--- What an altering line lays down is the image of the state that it leaves: its item, one entry and the count, and nothing else.
-use Prim.Native.Nat.{ℕ, suc, _+_, _-_, _<_, _≤_}
-use mathlib.Core.Path.{_≡_, refl, sym, ap, _∙_, subst}
-use mathlib.Core.Bool.{Bool, true, false, not, _&&_, false≢true}
+-- What SET, PUT, UNDO and KEEP lay down is the image of the state that they leave: the item, one entry and the count, and nothing else.
+use Prim.Native.Nat.{ℕ, suc, _+_, _-_, _<_}
+use mathlib.Core.Path.{_≡_, sym, ap, _∙_, subst}
+use mathlib.Core.Bool.{true, false, not, _&&_, false≢true}
 use mathlib.Core.List.{List}
 use native.Mathlib.Omega.{arith}
 use borrow.Author.Tests.{eqb-false, ltb-true, ne-eqb}
 use lib.Dec.{eqb, ltb}
-use lib.ListN.{length, getD, set}
+use lib.ListN.{set}
 use Rattle.figures.proofs.Tests.{both, by-test, clash}
-use Rattle.instrument.specs.Settings.{settingsN, settingsMost, rowAt, isAsked}
+use Rattle.instrument.specs.Settings.{settingsN, rowAt, isAsked}
 use Rattle.instrument.specs.Values.{valuesN, isPut}
 use Rattle.instrument.specs.declared.settings.Series.{Series}
 use Rattle.instrument.specs.declared.values.Kept.{Kept}
-use Rattle.instrument.specs.declared.values.Value.{Value}
 use Rattle.state.specs.Entries.{entriesN, valueOf, valueHeld, blankEntry, isNever, contentsOf, contentsBack, mayGoBack, isState, rightBack}
 use Rattle.state.specs.Image.{imageOf, stateIn}
 use Rattle.state.specs.Keeping.{Imaged, parameterLaid, valueLaid, entryLaid, countLaid, cleared}
@@ -27,7 +26,7 @@ use Rattle.state.proofs.Places.{withContents, withEntries, parameter-laid, valu
 use Rattle.state.proofs.Places.{parameter-shaped, value-shaped, entry-shaped, series-read}
 use Rattle.lines.specs.Verdicts.{undoVerdict}
 use Rattle.lines.specs.declared.verdicts.Verdict.the-variants.{Accepted}
-use Rattle.lines.specs.Orders.{Change, setTo, putTo, entryFor, changedBy, newest, takenBack, undoOf, keepOf}
+use Rattle.lines.specs.Orders.{setTo, putTo, entryFor, changedBy, newest, takenBack, undoOf, keepOf}
 use Rattle.lines.specs.Keeping.{backLaid}
 
 -- an entry and the count, over an image with one item altered

@@ -16,7 +16,7 @@ use Rattle.lines.specs.Verdicts.{isAccepted, orderVerdict, lineVerdict}
 use Rattle.lines.specs.Orders.{takenBack, newest, setTo, putTo, Deed, asks, changes, undoes, keeps, deedOf, lineDeed, doneOf}
 use Rattle.lines.specs.Replies.{replyEnd, warning, bodyOf}
 use Rattle.lines.specs.Machine.{Outcome, outcome, run, step, told, Calls}
-use Rattle.lines.specs.Keeping.{Answers, Ends}
+use Rattle.lines.specs.Keeping.{Answered, Ends}
 use Rattle.commands.specs.declared.shapes.Order.{Order}
 use Rattle.lines.specs.declared.verdicts.Verdict.{Verdict}
 use Rattle.lines.specs.declared.verdicts.Verdict.the-variants.{Accepted, Unended, Long, Room, NoState}
@@ -28,11 +28,11 @@ use Rattle.lines.proofs.Replying.{laid-none}
 -- the room
 
 module _ (s : State) (v : Verdict) (reply : List ℕ) (next : State) (room : List ℕ) (r : Told) where
-  pub answers-short : length room < length reply → r ≡ told Room 0 → Answers s (outcome v reply next) room r room
+  pub answers-short : length room < length reply → r ≡ told Room 0 → Answered s (outcome v reply next) room r room
   answers-short h e = rw (lt-leb (length reply) (length room) h) (e, sym (laid-none room))
 
   pub answers-fits : (room′ : List ℕ) (n : ℕ) → n ≡ length reply → n ≤ length room → r ≡ told v n → room′ ≡ laid reply room
-      → Answers s (outcome v reply next) room r room′
+      → Answered s (outcome v reply next) room r room′
   answers-fits room′ n en h e l = rw (le-leb (length reply) (length room) (omega arith)) (e ∙ rw en, l)
 
   -- and the image: as it was, or that of the next state
@@ -46,7 +46,7 @@ module _ (s : State) (v : Verdict) (reply : List ℕ) (next : State) (room : Lis
 
 -- a refused line's state is as it was, whether the reply fits or not
 pub ends-refused : (s : State) (v : Verdict) (reply image room : List ℕ) (r : Told) (room′ : List ℕ) → image ≡ imageOf s
-    → Answers s (outcome v reply s) room r room′ → Ends s (outcome v reply s) room r image room′
+    → Answered s (outcome v reply s) room r room′ → Ends s (outcome v reply s) room r image room′
 ends-refused s v reply image room r room′ i h = (h, i ∙ ap imageOf (sym (by (leb (length reply) (length room)))))
   where
     by : (b : Bool) → cond b (outcome v reply s) (outcome Room [] s) .next ≡ s

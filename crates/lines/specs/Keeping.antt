@@ -1,4 +1,4 @@
--- How the code keeps what the other files define: what a line comes to, and what may be relied on on the way.
+-- How the code keeps what the other files define: what a line comes to, and what may be relied on meanwhile.
 use Prim.Native.Nat.{ℕ, zero, suc, _+_, _*_, _≤_}
 use mathlib.Core.Path.{_≡_}
 use mathlib.Core.List.{List, [], _++_}
@@ -25,13 +25,13 @@ use Rattle.lines.specs.declared.verdicts.Verdict.the-variants.{Accepted}
 use Rattle.lines.specs.Replies.{wordAt}
 
 -- what a line that runs to an outcome is answered in a room
-abbrev pub Answers : State → Outcome → List ℕ → Told → List ℕ → Type 0
-Answers s o room r room′ =
+abbrev pub Answered : State → Outcome → List ℕ → Told → List ℕ → Type 0
+Answered s o room r room′ =
     let f = replyInRoom s (length room) o in (r ≡ told (f .verdict) (length (f .reply))) × (room′ ≡ laid (f .reply) room)
 
 -- and the image that it leaves
 abbrev pub Ends : State → Outcome → List ℕ → Told → List ℕ → List ℕ → Type 0
-Ends s o room r image′ room′ = Answers s o room r room′ × (image′ ≡ imageOf (replyInRoom s (length room) o .next))
+Ends s o room r image′ room′ = Answered s o room r room′ × (image′ ≡ imageOf (replyInRoom s (length room) o .next))
 
 -- an image with an item's former content laid down again
 abbrev pub backLaid : Series → Item → Former → List ℕ → List ℕ

@@ -9,7 +9,7 @@ ghost use Rattle.lines.specs.Verdicts.{isAccepted};
 ghost use Rattle.lines.specs.Orders.{deedOf, doneOf};
 ghost use Rattle.lines.specs.Replies.{warning, replyEnd, bodyOf};
 ghost use Rattle.lines.specs.Machine.{outcome, run, told, Calls};
-ghost use Rattle.lines.specs.Keeping.{Answers, Ends, Accepts};
+ghost use Rattle.lines.specs.Keeping.{Answered, Ends, Accepts};
 use crate::orders::alter;
 use crate::replies::body_length;
 use crate::replies::ends_lf;
@@ -51,7 +51,7 @@ fn end_length(series: Series, image: &[u8]) -> usize
 // Refuses a line: it is answered `@W127` where that fits.
 fn refuse(series: Series, image: &[u8], verdict: Verdict, room: &mut [u8]) -> Told
     requires { ⌜ Imaged series (now image) × (isAccepted verdict ≡ false) ⌝ }
-    ensures { λ r. ⌜ Answers (stateIn (now (image .entry))) (outcome verdict (warning ++ replyEnd (stateIn (now (image .entry)))) (stateIn (now (image .entry)))) (now (room .entry)) r (now (room .exit)) ⌝ }
+    ensures { λ r. ⌜ Answered (stateIn (now (image .entry))) (outcome verdict (warning ++ replyEnd (stateIn (now (image .entry)))) (stateIn (now (image .entry)))) (now (room .entry)) r (now (room .exit)) ⌝ }
 {
     let n = 5 + end_length(series, image);
     if room.len() < n {

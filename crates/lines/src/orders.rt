@@ -1,4 +1,4 @@
-// What an accepted line does: the state is taken out of the image and altered, and what is altered is laid down.
+// What an accepted SET, PUT or UNDO does: the state is taken out of the image and altered, and what is altered is laid down.
 ghost use mathlib.Core.Path.{_≡_};
 ghost use Prim.Native.Nat.{_<_};
 ghost use Rattle.state.specs.Entries.{entriesN, entryOf};

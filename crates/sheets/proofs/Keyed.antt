@@ -73,21 +73,15 @@ pub setting-keyed : (k : Series) (i : ℕ) → Keyed (keyHeld k i) (settingKey (
 setting-keyed k i =
     keyed (keyHeld k i) (settingKey (rowAt k i)) 5 (row-tested settingKeyed (rowsOf k) noRow (settings-keyed k .0) (settings-keyed k .1) i)
 
--- a setting's number has two digits or three
+-- a setting's number has two digits or three, so its key has four bytes or five
 
-abbrev isNumbered : Series → ℕ → Bool
-isNumbered k i = leb 10 (settingNumber (rowAt k i)) && ltb (settingNumber (rowAt k i)) 1000
+all-four : (k : Series) → Even (λ i. leb 4 (keyLength (keyHeld k i))) true 0 (settingsN k)
+unfolding rows100 rows300 digitsOf digitsNBy
+all-four Tps100 = refl
+all-four Tps300 = refl
 
-all-numbered : (k : Series) → Even (isNumbered k) true 0 (settingsN k)
-unfolding rows100 rows300
-all-numbered Tps100 = refl
-all-numbered Tps300 = refl
-
-pub setting-numbered : (k : Series) (i : ℕ) → i < settingsN k → (10 ≤ settingNumber (rowAt k i)) × (settingNumber (rowAt k i) < 1000)
-setting-numbered k i h =
-    let n = settingNumber (rowAt k i) in
-    let e = both (leb 10 n) (ltb n 1000) (sym (along (isNumbered k) 0 (settingsN k) (all-numbered k) (omega arith) h)) in
-    (leb-true 10 n (e .0), ltb-true n 1000 (e .1))
+pub setting-four : (k : Series) (i : ℕ) → i < settingsN k → 4 ≤ keyLength (keyHeld k i)
+setting-four k i h = leb-true 4 (keyLength (keyHeld k i)) (sym (along (λ j. leb 4 (keyLength (keyHeld k j))) 0 (settingsN k) (all-four k) (omega arith) h))
 
 -- the values' rows
 

@@ -26,8 +26,7 @@ use Rattle.instrument.specs.declared.values.Kept.the-variants.{Never, Put}
 use Rattle.state.specs.declared.entries.State.{State}
 use Rattle.sheets.specs.Lines.{LinesOf, linesBy}
 use Rattle.sheets.specs.Sheet.{seriesLine, settingKey, settingLines, charactersN, charactersOf, valueKey, keptLine, valueLines, sheetOf}
-use Rattle.sheets.specs.Keeping.{lineMost, keysN}
-use Rattle.sheets.proofs.Keyed.{setting-keyed, value-keyed}
+use Rattle.sheets.specs.Keeping.{keysN}
 
 -- one line more, whatever a line is
 
@@ -150,13 +149,6 @@ module _ (k : Series) (ps : List ℕ) (all : length ps ≡ settingsN k) where
 
   pub size-all : (i : ℕ) → length ps ≤ i → sizeTo k ps i ≡ length (linesBy (settingLines k) 0 ps)
   size-all i h = rw (drop-of-length-le (rowsOf k) {i = i} (omega arith), take-all i ps h, add-zero)
-
-pub setting-few : (k : Series) (i p : ℕ) → p < 1000 → length (settingLines k .write i p) ≤ 9
-setting-few k i p h = omega (arith, setting-long k i p, setting-keyed k i .few, short-decimal p h .0)
-
-pub kept-few : (i : ℕ) (k : Kept) → length (keptLine i k) ≤ lineMost
-kept-few i Never = omega (arith, kept-long i Never, value-keyed i .few)
-kept-few i (Put u m d) = omega (arith, kept-long i (Put u m d), value-keyed i .few)
 
 -- the settings' part, and then the values'
 pub sheet-halves : (s : State) → let k = s .series in

@@ -7,13 +7,15 @@ use mathlib.Core.List.{List, [], _∷_, _++_, append-assoc, append-nil}
 use native.Mathlib.Nat.{add-zero}
 use native.Mathlib.Numerals.{add-one}
 use native.Mathlib.Omega.{arith}
+use borrow.Rule.Slice.PartMut.{midOf}
 use lib.ListN.{length, set, take, drop, length-append, length-drop, take-append-drop}
 use lib.Seq.{append-snoc, take-all, take-suc-set, drop-drop, drop-append-seam}
 use Rattle.figures.specs.Bytes.{startsWith}
 use Rattle.figures.proofs.Bytes.{starts-append, starts-true, starts-length}
 use Rattle.figures.proofs.Tests.{both, by-test}
+use Rattle.commands.proofs.Shape.{to-end}
 use Rattle.sheets.specs.Lines.{LinesOf, linesBy, Part, wrongAt, partBy}
-use Rattle.sheets.specs.Keeping.{isRight}
+use Rattle.sheets.specs.Keeping.{lineStands}
 use Rattle.sheets.specs.declared.loading.Came.the-variants.{To}
 
 -- what is held at the places from i on, after what the lines before them hold, may all be held in its turn
@@ -73,23 +75,25 @@ pub data Went {A : Type 0} (l : LinesOf A) (n : ℕ) (got : List A) (i : ℕ) (s
       → Went l n got i sheet at p
 
 module _ {A : Type 0} (l : LinesOf A) where
-  -- a turn of the loop, by what the call in it answers: `some` where the line is right, which may not turn on what the lines before it hold
-
-  pub part-turned : (n i at : ℕ) (sheet : List ℕ) (got : List A) → i < n → i < length got → at ≤ length sheet
-      → ((before : List A) (x : A) → l .may before i x ≡ l .may [] i x) → (rest : List ℕ) → rest ≡ drop at sheet
-      → {T : Type 0} (size : T → ℕ) (held : T → A) (t some none : T) → t ≡ cond (isRight l i rest) some none
+  -- a turn of the loop, by what the call in it answers: `some` where the line is right, whatever the lines before it hold
+  pub part-turned : {T : Type 0} (n i at : ℕ) (sheet : List ℕ) (got : List A) → i < n → i < length got → at ≤ length sheet
+      → ((before : List A) (x : A) → l .may before i x ≡ l .may [] i x)
+      → let rest = midOf at (length sheet - at) sheet in
+      (size : T → ℕ) (held : T → A) (t some none : T) → t ≡ cond (lineStands l i rest) some none
       → size some ≡ length (l .write i (l .says i rest)) → 0 < size some → held some ≡ l .says i rest → size none ≡ 0
       → Turned l n i at sheet got (held t) (size t)
   unfolding partBy
-  part-turned n i at sheet got hn hg ha any rest here size held t some none is long pos holds nought =
+  part-turned n i at sheet got hn hg ha any size held t some none is long pos holds nought =
+      let rest = midOf at (length sheet - at) sheet in
+      let here = to-end at sheet in
       let x = l .says i rest in
       let w = l .write i x in
       let left : n - i ≡ suc (n - (i + 1)) = omega arith in
       let past : drop (length w) rest ≡ drop (at + length w) sheet = ap (drop (length w)) here ∙ drop-drop (length w) at sheet in
       let next = partBy l (n - (i + 1)) (i + 1) (at + length w) (drop (length w) rest) (take i got ++ (x ∷ [])) in
-      let turn : leftOf l n i at sheet got ≡ cond (isRight l i rest) next (wrongAt at) =
-      rw (left, ← here, any (take i got) x) in
-      by-test (isRight l i rest)
+      let turn : leftOf l n i at sheet got ≡ cond (lineStands l i rest) next (wrongAt at) =
+      ap (λ (r : List ℕ). partBy l (n - i) i at r (take i got)) (sym here) ∙ rw (left, any (take i got) x) in
+      by-test (lineStands l i rest)
       (λ e.
       let so : t ≡ some = is ∙ rw e in
       let stands = both (l .may [] i x) (startsWith w rest) e .1 in record {

@@ -7,13 +7,13 @@ use native.Mathlib.Numerals.{add-one}
 use native.Mathlib.Omega.{arith}
 use borrow.Author.Tests.{leb-true, eq-eqb, ne-eqb}
 use lib.Dec.{leb}
-use lib.ListN.{length, drop, drop-of-length-le}
-use lib.Seq.{drop-cons, drop-append-seam}
+use lib.ListN.{length, take, drop, drop-of-length-le}
+use lib.Seq.{drop-cons, take-append-seam, drop-append-seam}
 use Rattle.figures.specs.Bytes.{startsWith, every}
 use Rattle.figures.specs.Decimal.{isDigit, numberFrom, digitsN, decimalOf}
 use Rattle.figures.proofs.Bytes.{starts-append}
 use Rattle.figures.proofs.Decimal.{digits-length, digits-are, number-digits}
-use Rattle.figures.proofs.Tests.{both}
+use Rattle.figures.proofs.Tests.{both, by-test}
 use Rattle.units.proofs.Positions.{sign-on}
 use Rattle.instrument.specs.Settings.{noRow, rowsOf, rowAt, held, inRanges, settingsN}
 use Rattle.instrument.specs.Values.{valuesN, storedAt, putRight, putKept, keptRight, valueWord}
@@ -27,18 +27,47 @@ use Rattle.state.proofs.Images.{held-right, held-long}
 use Rattle.lines.proofs.Deeds.{state-right}
 use Rattle.instrument.proofs.Ranges.{range-byte}
 use Rattle.sheets.specs.Sheet.{settingKey, saidBy, settingLines, charactersOf, valueKey, keptLine, keptSaid, valueLines}
+use Rattle.sheets.specs.Keeping.{digitsFirst}
 use Rattle.sheets.proofs.Linewise.{short-decimal}
 use Rattle.sheets.proofs.Partwise.{rightBy, Said}
 
+-- the digits at the start, k of them at most, and what they say after n
+
+pub record Standing (k n : ℕ) (t : List ℕ) : Type 0 where
+  pub few : digitsFirst k t ≤ k
+  pub long : length (take (digitsFirst k t) t) ≡ digitsFirst k t
+  pub are : every isDigit (take (digitsFirst k t) t) ≡ true
+  pub say : saidBy k n t ≡ numberFrom n (take (digitsFirst k t) t)
+
+pub digits-stand : (k n : ℕ) (t : List ℕ) → Standing k n t
+unfolding saidBy digitsFirst numberFrom every
+digits-stand zero n t = record { few = omega arith; long = refl; are = refl; say = refl }
+digits-stand (suc k) n [] = record { few = omega arith; long = refl; are = refl; say = refl }
+digits-stand (suc k) n (b ∷ t) =
+    by-test (isDigit b)
+    (λ d. let later = digits-stand k (n * 10 + (b - 48)) t in record {
+      few = rw d (omega (arith, later .few));
+      long = rw d (ap suc (later .long));
+      are = rw (d, d) (later .are);
+      say = rw d (later .say);
+    })
+    (λ d. record { few = rw d (omega arith); long = rw d; are = rw d; say = rw d })
+
 -- digits, and after them a byte that is none
-said-digits : (k n : ℕ) (l rest : List ℕ) → length l ≤ k → every isDigit l ≡ true → saidBy k n (l ++ (10 ∷ rest)) ≡ numberFrom n l
-unfolding saidBy numberFrom every
-said-digits zero n [] rest h e = refl
-said-digits zero n (b ∷ l) rest h e = absurd (omega arith)
-said-digits (suc k) n [] rest h e = refl
-said-digits (suc k) n (b ∷ l) rest h e =
+
+pub digits-counted : (k : ℕ) (l rest : List ℕ) → length l ≤ k → every isDigit l ≡ true → digitsFirst k (l ++ (10 ∷ rest)) ≡ length l
+unfolding digitsFirst every
+digits-counted zero [] rest h e = refl
+digits-counted zero (b ∷ l) rest h e = absurd (omega arith)
+digits-counted (suc k) [] rest h e = refl
+digits-counted (suc k) (b ∷ l) rest h e =
     let parts = both (isDigit b) (every isDigit l) e in
-    rw (parts .0) (said-digits k (n * 10 + (b - 48)) l rest (omega arith) (parts .1))
+    rw (parts .0) (ap suc (digits-counted k l rest (omega arith) (parts .1)))
+
+said-digits : (k n : ℕ) (l rest : List ℕ) → length l ≤ k → every isDigit l ≡ true → saidBy k n (l ++ (10 ∷ rest)) ≡ numberFrom n l
+said-digits k n l rest h e =
+    let t = l ++ (10 ∷ rest) in
+    digits-stand k n t .say ∙ ap (λ (m : ℕ). numberFrom n (take m t)) (digits-counted k l rest h e) ∙ ap (numberFrom n) (take-append-seam l (10 ∷ rest))
 
 said-decimal : (p : ℕ) (rest : List ℕ) → p < 1000 → saidBy 3 0 (decimalOf p ++ (10 ∷ rest)) ≡ p
 said-decimal p rest h =

@@ -9,15 +9,14 @@ use native.Mathlib.Omega.{arith}
 use borrow.Author.Tests.{eqb-true, eqb-false, eq-eqb, ne-eqb, leb-true}
 use borrow.Rule.Slice.PartMut.{midOf}
 use lib.Dec.{eqb, leb}
-use lib.ListN.{length, getD, take, drop, drop-of-length-le, length-drop}
+use lib.ListN.{length, getD, take, drop, drop-of-length-le, List·getD-eq-default}
 use lib.Seq.{drop-cons, drop-drop, drop-at, getD-drop}
 use Rattle.figures.specs.Text.{codes}
-use Rattle.figures.specs.Bytes.{startsWith, every}
+use Rattle.figures.specs.Bytes.{startsWith}
 use Rattle.figures.specs.Decimal.{isDigit, numberFrom, numberOf, digitsOf, digitsNBy, digitsN, decimalOf}
 use Rattle.figures.proofs.Bytes.{take-starts, starts-length}
 use Rattle.figures.proofs.Decimal.{digits-length, digits-are, digits-number, number-below}
 use Rattle.figures.proofs.Tests.{both, by-test, along, and-on, and-off}
-use Rattle.commands.proofs.Shape.{to-end}
 use Rattle.units.specs.Information.{signByte, signOf}
 use Rattle.instrument.specs.Settings.{settingsN, rowAt, inRange}
 use Rattle.instrument.specs.Values.{valuesN, stored, storedAt, isText, putKept, keptRight}
@@ -29,55 +28,53 @@ use Rattle.instrument.specs.declared.values.Value.{Value}
 use Rattle.instrument.proofs.Kept.{elements}
 use Rattle.state.specs.Entries.{valueOf}
 use Rattle.sheets.specs.Sheet.{settingKey, saidBy, settingLines, charactersOf, valueKey, keptLine, keptSaid, valueLines}
-use Rattle.sheets.specs.Keeping.{keyLength, digitsAt, saidOf, isRight, noSetting, settingTaken, noValue, valueTaken, putTaken}
-use Rattle.sheets.specs.declared.loading.Said.{Said}
+use Rattle.sheets.specs.Keeping.{keyLength, digitsFirst, saidOf, noSetting, settingTaken, noValue, valueTaken, putTaken}
+use Rattle.sheets.specs.declared.loading.Digits.{Digits}
 use Rattle.sheets.specs.declared.loading.Taken.{Taken}
 use Rattle.sheets.specs.declared.loading.TakenValue.{TakenValue}
 use Rattle.sheets.proofs.Keyed.{value-keyed}
 use Rattle.sheets.proofs.Linewise.{short-decimal, setting-long, kept-long}
 use Rattle.sheets.proofs.Partwise.{starts-parted, Turned, part-turned}
+use Rattle.sheets.proofs.Says.{digits-stand, digits-counted}
 
--- a turn of the loop that reads digits, after i of them that say n
+-- the loop that reads digits, after i of them that say n: a turn, and the end where no digit follows
 
-abbrev pub saidFrom : ℕ → ℕ → List ℕ → Said
-saidFrom n i t = record { number = saidBy (3 - i) n t; digits = i + digitsAt (3 - i) t }
-
-pub said-more : (n i : ℕ) (s : List ℕ) (at : ℕ) → i < 3 → at < length s → isDigit (getD s at 0) ≡ true
-    → saidFrom n i (drop at s) ≡ saidFrom (n * 10 + (getD s at 0 - 48)) (i + 1) (drop (at + 1) s)
-unfolding saidBy digitsAt
-said-more n i s at hi h d =
-    let left : 3 - i ≡ suc (3 - (i + 1)) = omega arith in
-    let on : i + suc (digitsAt (3 - (i + 1)) (drop (suc at) s)) ≡ i + 1 + digitsAt (3 - (i + 1)) (drop (suc at) s) = omega arith in
-    rw (left, drop-cons s at 0 h, d, on, add-one at)
+abbrev pub saidFrom : ℕ → ℕ → List ℕ → Digits
+saidFrom n i t = record { number = saidBy (3 - i) n t; digits = i + digitsFirst (3 - i) t }
 
 pub said-small : (n i : ℕ) → i ≤ 3 → n < 10 ^ i → n < 1000
 said-small n i h e = lt-of-lt-of-le e (pow-le-pow-right {n = 10} (omega arith) {i = i} {j = 3} h)
 
--- and its end: no digit more is read
+module _ (n i : ℕ) (s : List ℕ) (at : ℕ) where
+  pub said-more : i < 3 → at < length s → isDigit (getD s at 0) ≡ true
+      → saidFrom n i (drop at s) ≡ saidFrom (n * 10 + (getD s at 0 - 48)) (i + 1) (drop (at + 1) s)
+  unfolding saidBy digitsFirst
+  said-more hi h d =
+      let left : 3 - i ≡ suc (3 - (i + 1)) = omega arith in
+      let on : i + suc (digitsFirst (3 - (i + 1)) (drop (suc at) s)) ≡ i + 1 + digitsFirst (3 - (i + 1)) (drop (suc at) s) = omega arith in
+      rw (left, drop-cons s at 0 h, d, on, add-one at)
 
-none-said : (k n : ℕ) (t : List ℕ) → digitsAt k t ≡ 0 → saidBy k n t ≡ n
-unfolding saidBy digitsAt
-none-said zero n t e = refl
-none-said (suc k) n [] e = refl
-none-said (suc k) n (b ∷ t) e = by-test (isDigit b) (λ d. absurd (omega (arith, rw d at e))) (λ d. rw d)
+  said-end : digitsFirst (3 - i) (drop at s) ≡ 0 → saidFrom n i (drop at s) ≡ record { number = n; digits = i }
+  unfolding numberFrom
+  said-end e =
+      let said = digits-stand (3 - i) n (drop at s) .say ∙ ap (λ (m : ℕ). numberFrom n (take m (drop at s))) e in
+      rw (said, e, add-zero)
 
-pub said-end : (n i : ℕ) (t : List ℕ) → digitsAt (3 - i) t ≡ 0 → saidFrom n i t ≡ record { number = n; digits = i }
-said-end n i t e = rw (none-said (3 - i) n t e, e, add-zero)
+  pub said-other : isDigit (getD s at 0) ≡ false → saidFrom n i (drop at s) ≡ record { number = n; digits = i }
+  unfolding digitsFirst
+  said-other e = said-end (by (3 - i) (drop at s) (rw (getD-drop, add-zero) e))
+    where
+      by : (k : ℕ) (t : List ℕ) → isDigit (getD t 0 0) ≡ false → digitsFirst k t ≡ 0
+      by zero t d = refl
+      by (suc k) [] d = refl
+      by (suc k) (b ∷ t) d = rw d
 
-module _ (s : List ℕ) (at : ℕ) where
-  pub digits-past : (k : ℕ) → length s ≤ at → digitsAt k (drop at s) ≡ 0
-  unfolding digitsAt
-  digits-past zero h = refl
-  digits-past (suc k) h = rw (drop-of-length-le s {i = at} h)
+  pub said-past : length s ≤ at → saidFrom n i (drop at s) ≡ record { number = n; digits = i }
+  said-past h = said-other (rw (List·getD-eq-default s 0 {n = at} h))
 
-  pub digits-other : (k : ℕ) → at < length s → isDigit (getD s at 0) ≡ false → digitsAt k (drop at s) ≡ 0
-  unfolding digitsAt
-  digits-other zero h e = refl
-  digits-other (suc k) h e = rw (drop-cons s at 0 h, e)
-
-  pub digits-all : (i : ℕ) → 3 ≤ i → digitsAt (3 - i) (drop at s) ≡ 0
-  unfolding digitsAt
-  digits-all i h = let none : 3 - i ≡ 0 = omega arith in rw none
+  pub said-all : 3 ≤ i → saidFrom n i (drop at s) ≡ record { number = n; digits = i }
+  unfolding digitsFirst
+  said-all h = let none : 3 - i ≡ 0 = omega arith in said-end (rw none)
 
 -- a string after another, and a byte, at the start of some bytes
 
@@ -90,80 +87,62 @@ starts-both a b s n h = by a s ∙ ap (λ (m : ℕ). startsWith a s && startsWit
     by (x ∷ a) [] = refl
     by (x ∷ a) (y ∷ s) = rw (by a s, and-assoc)
 
-byte-is : (b : ℕ) (s : List ℕ) (n : ℕ) → n < length s → startsWith (b ∷ []) (drop n s) ≡ eqb (getD s n 0) b
-unfolding startsWith
-byte-is b s n h = rw (drop-cons s n 0 h, and-true)
+module _ (b : ℕ) (s : List ℕ) (n : ℕ) where
+  pub byte-past : length s ≤ n → startsWith (b ∷ []) (drop n s) ≡ false
+  unfolding startsWith
+  byte-past h = rw (drop-of-length-le s {i = n} h)
 
-byte-within : (b : ℕ) (s : List ℕ) (n : ℕ) → startsWith (b ∷ []) (drop n s) ≡ true → n < length s
-byte-within b s n e = omega (arith, starts-length (b ∷ []) (drop n s) e, length-drop n s)
+  pub byte-is : n < length s → startsWith (b ∷ []) (drop n s) ≡ eqb (getD s n 0) b
+  unfolding startsWith
+  byte-is h = rw (drop-cons s n 0 h, and-true)
 
--- the digits at the start, k of them at most
+-- tests that must all pass, and one that fails, by its place among them
 
-pub record Stand (k n : ℕ) (t : List ℕ) : Type 0 where
-  pub few : digitsAt k t ≤ k
-  pub long : length (take (digitsAt k t) t) ≡ digitsAt k t
-  pub are : every isDigit (take (digitsAt k t) t) ≡ true
-  pub say : saidBy k n t ≡ numberFrom n (take (digitsAt k t) t)
+abbrev pub all : List Bool → Bool
+all [] = true
+all (t ∷ ts) = t && all ts
 
-digits-stand : (k n : ℕ) (t : List ℕ) → Stand k n t
-unfolding saidBy digitsAt numberFrom every
-digits-stand zero n t = record { few = omega arith; long = refl; are = refl; say = refl }
-digits-stand (suc k) n [] = record { few = omega arith; long = refl; are = refl; say = refl }
-digits-stand (suc k) n (b ∷ t) =
-    by-test (isDigit b)
-    (λ d. let later = digits-stand k (n * 10 + (b - 48)) t in record {
-      few = rw d (omega (arith, later .few));
-      long = rw d (ap suc (later .long));
-      are = rw (d, d) (later .are);
-      say = rw d (later .say);
-    })
-    (λ d. record { few = rw d (omega arith); long = rw d; are = rw d; say = rw d })
+all-not : (ts : List Bool) (n : ℕ) → getD ts n true ≡ false → all ts ≡ false
+all-not [] n e = absurd (false≢true (sym e))
+all-not (t ∷ ts) zero e = and-off (all ts) e
+all-not (t ∷ ts) (suc n) e = rw (all-not ts n e, and-false)
 
-digits-counted : (k : ℕ) (l rest : List ℕ) → length l ≤ k → every isDigit l ≡ true → digitsAt k (l ++ (10 ∷ rest)) ≡ length l
-unfolding digitsAt every
-digits-counted zero [] rest h e = refl
-digits-counted zero (b ∷ l) rest h e = absurd (omega arith)
-digits-counted (suc k) [] rest h e = refl
-digits-counted (suc k) (b ∷ l) rest h e =
-    let parts = both (isDigit b) (every isDigit l) e in
-    rw (parts .0) (ap suc (digits-counted k l rest (omega arith) (parts .1)))
+-- the number that the digits say stands in its fewest digits where they are as many, and LF after it where it does after them
 
-pub said-below : (t : List ℕ) → saidBy 3 0 t < 1000
+said-below : (t : List ℕ) → saidBy 3 0 t < 1000
 said-below t =
     let d = digits-stand 3 0 t in
-    rw (d .say) (said-small (numberOf (take (digitsAt 3 t) t)) (digitsAt 3 t) (d .few) (rw (d .long) at (number-below (take (digitsAt 3 t) t) (d .are))))
+    rw (d .say) (said-small (numberOf (take (digitsFirst 3 t) t)) (digitsFirst 3 t) (d .few) (rw (d .long) at (number-below (take (digitsFirst 3 t) t) (d .are))))
 
--- the number that they say stands there in its fewest digits where they are as many, and LF after it where it does after them
 decimal-stands : (t : List ℕ) → let p = saidBy 3 0 t in
-    startsWith (decimalOf p ++ codes "\n") t ≡ eqb (digitsAt 3 t) (digitsN p) && startsWith (codes "\n") (drop (digitsAt 3 t) t)
+    startsWith (decimalOf p ++ codes "\n") t ≡ eqb (digitsFirst 3 t) (digitsN p) && startsWith (codes "\n") (drop (digitsFirst 3 t) t)
 decimal-stands t =
     let p = saidBy 3 0 t in
-    let n = digitsAt 3 t in
+    let n = digitsFirst 3 t in
     let d = digits-stand 3 0 t in
-    let few = short-decimal p (said-below t) .0 in
+    let line = decimalOf p ++ codes "\n" in
     by-test (eqb n (digitsN p))
     (λ e.
+    let same = sym (eqb-true n (digitsN p) e) in
+    let long : length (decimalOf p) ≡ n = digits-length (digitsN p) p ∙ same in
     let digits : decimalOf p ≡ take n t =
-    ap (λ (m : ℕ). digitsOf m p) (sym (eqb-true n (digitsN p) e))
-    ∙ (λ j. digitsOf (sym (d .long) j) (d .say j)) ∙ digits-number (take n t) (d .are) in
-    let long : length (decimalOf p) ≡ n = digits-length (digitsN p) p ∙ sym (eqb-true n (digitsN p) e) in
+    ap (λ (m : ℕ). digitsOf m p) (same ∙ sym (d .long)) ∙ ap (digitsOf (length (take n t))) (d .say) ∙ digits-number (take n t) (d .are) in
     let stands : startsWith (decimalOf p) t ≡ true = take-starts (decimalOf p) t (ap (λ (m : ℕ). take m t) long ∙ sym digits) in
     starts-both (decimalOf p) (codes "\n") t n long ∙ rw (stands, e))
-    (λ e. by-test (startsWith (decimalOf p ++ codes "\n") t)
+    (λ e. by-test (startsWith line t)
     (λ s.
-    let rest = drop (length (decimalOf p ++ codes "\n")) t in
-    let all : t ≡ decimalOf p ++ (10 ∷ rest) = starts-parted (decimalOf p ++ codes "\n") t s ∙ append-assoc (decimalOf p) (codes "\n") rest in
-    let count = ap (digitsAt 3) all ∙ digits-counted 3 (decimalOf p) rest (omega (arith, digits-length (digitsN p) p)) (digits-are (digitsN p) p) in
+    let rest = drop (length line) t in
+    let few = short-decimal p (said-below t) .0 in
+    let count = ap (digitsFirst 3) (starts-parted line t s ∙ append-assoc (decimalOf p) (codes "\n") rest)
+    ∙ digits-counted 3 (decimalOf p) rest (omega (arith, digits-length (digitsN p) p)) (digits-are (digitsN p) p) in
     absurd (eqb-false n (digitsN p) e (count ∙ digits-length (digitsN p) p)))
     (λ s. s ∙ rw e))
 
--- the line of a setting: its key of n bytes, and after it digits that were read
+-- the line of a setting: its key of n bytes, and then a number that was read
 
-pub record SettingLine (k : Series) (i : ℕ) (s : List ℕ) (n : ℕ) (r : Said) : Type 0 where
-  pub range : inRange (rowAt k i) (r .number) ≡ true
-  pub fewest : r .digits ≡ digitsN (r .number)
-  pub within : n + r .digits < length s
-  pub ended : getD s (n + r .digits) 0 ≡ 10
+abbrev pub settingTests : Series → ℕ → List ℕ → ℕ → Digits → List Bool
+settingTests k i s n r =
+    inRange (rowAt k i) (r .number) ∷ eqb (r .digits) (digitsN (r .number)) ∷ startsWith (codes "\n") (drop (n + r .digits) s) ∷ []
 
 module _ (k : Series) (i : ℕ) (s : List ℕ) where
   abbrev key : List ℕ
@@ -172,48 +151,31 @@ module _ (k : Series) (i : ℕ) (s : List ℕ) where
   pub setting-unkeyed : startsWith key s ≡ false → noSetting ≡ settingTaken k i s
   setting-unkeyed e = rw (starts-both key (decimalOf (settingLines k .says i s) ++ codes "\n") s (length key) refl, e, and-false)
 
-  module _ (keyed : startsWith key s ≡ true) (n : ℕ) (long : n ≡ length key) (r : Said) (is : r ≡ saidOf (drop n s)) where
-    right : isRight (settingLines k) i s
-        ≡ inRange (rowAt k i) (r .number) && (eqb (r .digits) (digitsN (r .number)) && startsWith (codes "\n") (drop (n + r .digits) s))
-    right =
+  module _ (keyed : startsWith key s ≡ true) (n : ℕ) (long : n ≡ length key) (r : Digits) (is : r ≡ saidOf (drop n s)) where
+    setting-as : let p = r .number in
+        settingTaken k i s ≡ cond (all (settingTests k i s n r)) (record { n = length (settingLines k .write i p); parameter = p }) noSetting
+    setting-as =
         let t = drop (length key) s in
         let p = saidBy 3 0 t in
         let line : startsWith (key ++ (decimalOf p ++ codes "\n")) s ≡ startsWith (decimalOf p ++ codes "\n") t =
         starts-both key (decimalOf p ++ codes "\n") s (length key) refl ∙ and-on keyed in
-        rw (line, decimal-stands t, is, long, drop-drop (digitsAt 3 t) (length key) s)
+        rw (line, decimal-stands t, is, long, drop-drop (digitsFirst 3 t) (length key) s, and-true)
 
-    pub setting-not : (SettingLine k i s n r → ⊥) → noSetting ≡ settingTaken k i s
-    setting-not f = by-test (isRight (settingLines k) i s) (λ e. absurd (f (line e))) (λ e. rw e)
-      where
-        line : isRight (settingLines k) i s ≡ true → SettingLine k i s n r
-        line e =
-            let lf = startsWith (codes "\n") (drop (n + r .digits) s) in
-            let (range, rest) = both (inRange (rowAt k i) (r .number)) (eqb (r .digits) (digitsN (r .number)) && lf) (sym right ∙ e) in
-            let (fewest, end) = both (eqb (r .digits) (digitsN (r .number))) lf rest in
-            let within = byte-within 10 s (n + r .digits) end in
-            record {
-              range = range;
-              fewest = eqb-true _ _ fewest;
-              within = within;
-              ended = eqb-true _ _ (sym (byte-is 10 s (n + r .digits) within) ∙ end);
-            }
+    pub setting-not : (j : ℕ) → getD (settingTests k i s n r) j true ≡ false → noSetting ≡ settingTaken k i s
+    setting-not j e = sym (setting-as ∙ rw (all-not (settingTests k i s n r) j e))
 
-    pub setting-is : SettingLine k i s n r → record { n = n + r .digits + 1; parameter = r .number } ≡ settingTaken k i s
-    setting-is l =
-        let end = n + r .digits in
-        let size : end + 1 ≡ length (settingLines k .write i (r .number)) = omega (arith, setting-long k i (r .number), l .fewest) in
-        let e : isRight (settingLines k) i s ≡ true =
-        right ∙ and-on (l .range) ∙ and-on (eq-eqb _ _ (l .fewest)) ∙ byte-is 10 s end (l .within) ∙ eq-eqb _ _ (l .ended) in
-        rw (e, size, is, long)
+    pub setting-is : r .digits ≡ digitsN (r .number) → all (settingTests k i s n r) ≡ true
+        → record { n = n + r .digits + 1; parameter = r .number } ≡ settingTaken k i s
+    setting-is d e =
+        let size : n + r .digits + 1 ≡ length (settingLines k .write i (r .number)) = omega (arith, setting-long k i (r .number)) in
+        (λ j. record { n = size j; parameter = r .number }) ∙ sym (setting-as ∙ rw e)
 
--- a turn of the loop that takes them
 pub setting-turned : (k : Series) (i at : ℕ) (sheet got : List ℕ) → i < settingsN k → i < length got → at ≤ length sheet
     → (t : Taken) → t ≡ settingTaken k i (midOf at (length sheet - at) sheet) → Turned (settingLines k) (settingsN k) i at sheet got (t .parameter) (t .n)
 setting-turned k i at sheet got hn hg ha t is =
-    let rest = midOf at (length sheet - at) sheet in
-    let p = settingLines k .says i rest in
+    let p = settingLines k .says i (midOf at (length sheet - at) sheet) in
     let some : Taken = record { n = length (settingLines k .write i p); parameter = p } in
-    part-turned (settingLines k) (settingsN k) i at sheet got hn hg ha (λ before x. refl) rest (to-end at sheet) (λ (r : Taken). r .n) (λ (r : Taken). r .parameter)
+    part-turned (settingLines k) (settingsN k) i at sheet got hn hg ha (λ before x. refl) (λ (r : Taken). r .n) (λ (r : Taken). r .parameter)
     t some noSetting is refl (omega (arith, setting-long k i p)) refl refl
 
 -- the line of a value, whose key has four bytes
@@ -268,24 +230,34 @@ module _ (i : ℕ) (there : i < valuesN) (s : List ℕ) where
         rw (never, never, n)
 
     module _ (f : getD s 4 0 ≡ 10 → ⊥) where
-      put-said : keptSaid i s ≡ putKept (drop 4 s)
+      abbrev put : Kept
+      put = putKept (drop 4 s)
+
+      put-said : keptSaid i s ≡ put
       put-said =
           ap (λ (b : Bool). cond b Never (putKept (drop (length (valueKey i)) s))) (never-is ∙ ne-eqb (getD s 4 0) 10 f)
           ∙ ap (λ (n : ℕ). putKept (drop n s)) (key-long i there)
 
+      put-long : length (keptLine i put) ≡ 20
+      put-long = omega (arith, kept-long i put, key-long i there)
+
       pub value-short : length s < 20 → noValue ≡ valueTaken i s
-      value-short few =
-          untaken (λ t. let k = putKept (drop 4 s) in
-          omega (arith, starts-length (keptLine i k) s (rw put-said at t), kept-long i k, key-long i there))
+      value-short few = untaken (λ t. omega (arith, starts-length (keptLine i put) s (rw put-said at t), put-long))
 
       pub value-put : putTaken i s ≡ valueTaken i s
       value-put =
-          let k = putKept (drop 4 s) in
-          let n : length (keptLine i k) ≡ 20 = omega (arith, kept-long i k, key-long i there) in
-          let line = kept-starts k ∙ and-on keyed in
+          let line = kept-starts put ∙ and-on keyed in
           let taken : Kept → TakenValue =
-          λ x. cond (keptRight i x && startsWith (keptLine i x) s) (record { n = length (keptLine i x); kept = x }) noValue in
-          sym (ap taken put-said ∙ (λ j. cond (keptRight i k && line j) (record { n = n j; kept = k }) noValue))
+          λ k. cond (keptRight i k && startsWith (keptLine i k) s) (record { n = length (keptLine i k); kept = k }) noValue in
+          sym (ap taken put-said ∙ (λ j. cond (keptRight i put && line j) (record { n = put-long j; kept = put }) noValue))
+
+pub value-turned : (i at : ℕ) (sheet : List ℕ) (got : List Value) → i < valuesN → i < length got → at ≤ length sheet
+    → (t : TakenValue) → t ≡ valueTaken i (midOf at (length sheet - at) sheet) → Turned valueLines valuesN i at sheet got (valueOf (t .kept)) (t .n)
+value-turned i at sheet got hn hg ha t is =
+    let k = keptSaid i (midOf at (length sheet - at) sheet) in
+    let some : TakenValue = record { n = length (keptLine i k); kept = k } in
+    part-turned valueLines valuesN i at sheet got hn hg ha (λ before x. refl) (λ (r : TakenValue). r .n) (λ (r : TakenValue). valueOf (r .kept))
+    t some noValue is refl (omega (arith, kept-long i k)) refl refl
 
 -- what follows the key of a value that was put, byte by byte
 
@@ -307,15 +279,18 @@ keptAt s = signedAt s (signOf (getD s 10 0))
 put-kept : (s : List ℕ) → putKept (drop 4 s) ≡ keptAt s
 put-kept s = simp getD-drop
 
-pub record PutLine (i : ℕ) (s : List ℕ) : Type 0 where
-  pub tens : getD s 4 0 ≡ getD (storedAt i .key) 1 0
-  pub ones : getD s 5 0 ≡ getD (storedAt i .key) 2 0
-  pub first : getD s 6 0 ≡ 46
-  pub second : getD s 7 0 ≡ 46
-  pub mark : getD s 8 0 ≡ cond (isText i) 46 49
-  pub sign : getD s 10 0 ≡ signByte (signOf (getD s 10 0))
-  pub end : getD s 19 0 ≡ 10
-  pub right : keptRight i (keptAt s) ≡ true
+-- what it holds may be held, and index, dots, mark, sign and LF stand
+abbrev pub putTests : ℕ → List ℕ → List Bool
+putTests i s =
+    keptRight i (keptAt s)
+    ∷ eqb (getD s 4 0) (getD (storedAt i .key) 1 0)
+    ∷ eqb (getD s 5 0) (getD (storedAt i .key) 2 0)
+    ∷ eqb (getD s 6 0) 46
+    ∷ eqb (getD s 7 0) 46
+    ∷ eqb (getD s 8 0) (cond (isText i) 46 49)
+    ∷ eqb (getD s 10 0) (signByte (signOf (getD s 10 0)))
+    ∷ eqb (getD s 19 0) 10
+    ∷ []
 
 elements-on : (n i : ℕ) (b : List ℕ) → i + n ≤ length b → drop i b ≡ elements n i b ++ drop (i + n) b
 unfolding elements
@@ -327,64 +302,25 @@ elements-on (suc n) i b h =
 same : (n : ℕ) → eqb n n ≡ true
 same n = eq-eqb n n refl
 
-abbrev tests : ℕ → List ℕ → Bool
-tests i s =
-    eqb (getD s 4 0) (getD (storedAt i .key) 1 0)
-    && (eqb (getD s 5 0) (getD (storedAt i .key) 2 0)
-    && (eqb (getD s 6 0) 46
-    && (eqb (getD s 7 0) 46
-    && (eqb (getD s 8 0) (cond (isText i) 46 49) && (eqb (getD s 10 0) (signByte (signOf (getD s 10 0))) && eqb (getD s 19 0) 10)))))
-
 module _ (i : ℕ) (there : i < valuesN) (s : List ℕ) (long : 20 ≤ length s) where
-  put-starts : startsWith (drop 4 (keptLine i (keptAt s))) (drop 4 s) ≡ tests i s
+  put-starts : startsWith (drop 4 (keptLine i (keptAt s))) (drop 4 s) ≡ all (drop 1 (putTests i s))
   unfolding startsWith elements
   put-starts =
       let w = charactersOf i (keptAt s) ++ codes "\n" in
       let key = key-digits i there in
-      (λ j. startsWith (drop-at (valueKey i) w 4 (key-long i there) j) (elements-on 16 4 s long j))
-      ∙ rw (key .0, key .1) (simp (same, and-true))
+      (λ j. startsWith (drop-at (valueKey i) w 4 (key-long i there) j) (elements-on 16 4 s long j)) ∙ rw (key .0, key .1) (simp same)
 
-  put-as : putTaken i s ≡ cond (keptRight i (keptAt s) && tests i s) (record { n = 20; kept = keptAt s }) noValue
+  put-as : putTaken i s ≡ cond (all (putTests i s)) (record { n = 20; kept = keptAt s }) noValue
   put-as =
-      let taken : Kept → TakenValue =
+      let by : Kept → TakenValue =
       λ k. cond (keptRight i k && startsWith (drop 4 (keptLine i k)) (drop 4 s)) (record { n = 20; kept = k }) noValue in
-      ap taken (put-kept s) ∙ (λ j. cond (keptRight i (keptAt s) && put-starts j) (record { n = 20; kept = keptAt s }) noValue)
+      ap by (put-kept s) ∙ (λ j. cond (keptRight i (keptAt s) && put-starts j) (record { n = 20; kept = keptAt s }) noValue)
 
-  pub put-not : (PutLine i s → ⊥) → noValue ≡ putTaken i s
-  put-not f = by-test (keptRight i (keptAt s) && tests i s) (λ e. absurd (f (line e))) (λ e. sym (put-as ∙ rw e))
-    where
-      line : keptRight i (keptAt s) && tests i s ≡ true → PutLine i s
-      line e =
-          let (right, one) = both (keptRight i (keptAt s)) _ e in
-          let (tens, two) = both (eqb (getD s 4 0) (getD (storedAt i .key) 1 0)) _ one in
-          let (ones, three) = both (eqb (getD s 5 0) (getD (storedAt i .key) 2 0)) _ two in
-          let (first, four) = both (eqb (getD s 6 0) 46) _ three in
-          let (second, five) = both (eqb (getD s 7 0) 46) _ four in
-          let (mark, six) = both (eqb (getD s 8 0) (cond (isText i) 46 49)) _ five in
-          let (sign, end) = both (eqb (getD s 10 0) (signByte (signOf (getD s 10 0)))) (eqb (getD s 19 0) 10) six in
-          record {
-            tens = eqb-true _ _ tens;
-            ones = eqb-true _ _ ones;
-            first = eqb-true _ _ first;
-            second = eqb-true _ _ second;
-            mark = eqb-true _ _ mark;
-            sign = eqb-true _ _ sign;
-            end = eqb-true _ _ end;
-            right = right;
-          }
+  pub put-not : (n : ℕ) → getD (putTests i s) n true ≡ false → noValue ≡ putTaken i s
+  put-not n e = sym (put-as ∙ rw (all-not (putTests i s) n e))
 
-  pub put-is : PutLine i s → record { n = 20; kept = keptAt s } ≡ putTaken i s
-  put-is l =
-      let e : keptRight i (keptAt s) && tests i s ≡ true =
-      and-on (l .right)
-      ∙ and-on (eq-eqb _ _ (l .tens))
-      ∙ and-on (eq-eqb _ _ (l .ones))
-      ∙ and-on (eq-eqb _ _ (l .first))
-      ∙ and-on (eq-eqb _ _ (l .second))
-      ∙ and-on (eq-eqb _ _ (l .mark))
-      ∙ and-on (eq-eqb _ _ (l .sign))
-      ∙ eq-eqb _ _ (l .end) in
-      sym (put-as ∙ rw e)
+  pub put-is : all (putTests i s) ≡ true → record { n = 20; kept = keptAt s } ≡ putTaken i s
+  put-is e = sym (put-as ∙ rw e)
 
 -- a sign that stands there: plus, minus, or none
 
@@ -396,12 +332,3 @@ sign-minus b e = rw e (refl, refl)
 
 pub sign-none : (b : ℕ) → (b ≡ 43 → ⊥) → (b ≡ 45 → ⊥) → b ≡ signByte (signOf b) → ⊥
 sign-none b p m e = m (e ∙ rw (ne-eqb b 43 p))
-
-pub value-turned : (i at : ℕ) (sheet : List ℕ) (got : List Value) → i < valuesN → i < length got → at ≤ length sheet
-    → (t : TakenValue) → t ≡ valueTaken i (midOf at (length sheet - at) sheet) → Turned valueLines valuesN i at sheet got (valueOf (t .kept)) (t .n)
-value-turned i at sheet got hn hg ha t is =
-    let rest = midOf at (length sheet - at) sheet in
-    let k = keptSaid i rest in
-    let some : TakenValue = record { n = length (keptLine i k); kept = k } in
-    part-turned valueLines valuesN i at sheet got hn hg ha (λ before x. refl) rest (to-end at sheet) (λ (r : TakenValue). r .n)
-    (λ (r : TakenValue). valueOf (r .kept)) t some noValue is refl (omega (arith, kept-long i k)) refl refl

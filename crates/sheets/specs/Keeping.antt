@@ -11,7 +11,6 @@ use Rattle.instrument.specs.Settings.{rowsOf, held, padded}
 use Rattle.state.specs.Entries.{valueOf}
 use Rattle.instrument.specs.Values.{valuesN, putKept, keptRight}
 use Rattle.instrument.specs.declared.settings.Series.{Series}
-use Rattle.instrument.specs.declared.settings.Row.{Row}
 use Rattle.instrument.specs.declared.values.Kept.the-variants.{Never}
 use Rattle.instrument.specs.declared.values.Value.{Value}
 use Rattle.state.specs.declared.entries.State.{State}
@@ -20,19 +19,15 @@ use Rattle.pieces.specs.Pieces.{pieces}
 use Rattle.sheets.specs.Lines.{LinesOf, linesBy, Part}
 use Rattle.sheets.specs.Sheet.{settingKey, saidBy, settingLines, keptLine, keptSaid, valueLines}
 use Rattle.sheets.specs.Playing.{replyRoom}
-use Rattle.sheets.specs.declared.loading.Said.{Said}
+use Rattle.sheets.specs.declared.loading.Digits.{Digits}
 use Rattle.sheets.specs.declared.loading.Taken.{Taken}
 use Rattle.sheets.specs.declared.loading.TakenValue.{TakenValue}
 use Rattle.sheets.specs.declared.loading.Settings.{Settings}
 use Rattle.sheets.specs.declared.loading.Values.{Values}
 
--- the length of the key that a row holds from the start of five bytes
+-- the length of the key that a row holds from the start of eight bytes
 abbrev pub keyLength : List ℕ → ℕ
 keyLength k = cond (eqb (getD k 4 0) 0) (cond (eqb (getD k 3 0) 0) 3 4) 5
-
--- the longest line: a key of four bytes, 15 characters and LF
-abbrev pub lineMost : ℕ
-lineMost = 20
 
 -- the longest sheet: a TPS300's with each parameter at its highest and each value put
 abbrev pub sheetMost : ℕ
@@ -50,17 +45,17 @@ abbrev pub valuesText : State → List ℕ
 valuesText s = linesBy valueLines 0 (s .values)
 
 -- how many digits stand at the start, k of them at most
-unfoldable pub digitsAt : ℕ → List ℕ → ℕ
-digitsAt zero t = 0
-digitsAt (suc k) [] = 0
-digitsAt (suc k) (b ∷ t) = cond (isDigit b) (suc (digitsAt k t)) 0
+unfoldable pub digitsFirst : ℕ → List ℕ → ℕ
+digitsFirst zero t = 0
+digitsFirst (suc k) [] = 0
+digitsFirst (suc k) (b ∷ t) = cond (isDigit b) (suc (digitsFirst k t)) 0
 
-abbrev pub saidOf : List ℕ → Said
-saidOf t = record { number = saidBy 3 0 t; digits = digitsAt 3 t }
+abbrev pub saidOf : List ℕ → Digits
+saidOf t = record { number = saidBy 3 0 t; digits = digitsFirst 3 t }
 
--- a line is taken as `partBy` (Lines.antt) judges it: its length and what it holds, or nothing
-abbrev pub isRight : {A : Type 0} → LinesOf A → ℕ → List ℕ → Bool
-isRight l i rest = let x = l .says i rest in l .may [] i x && startsWith (l .write i x) rest
+-- a line is taken as `partBy` (Lines.antt) judges it: its length and what it holds, or nothing; `setting-turned` and `value-turned`, in proofs/Takes.antt, show it
+abbrev pub lineStands : {A : Type 0} → LinesOf A → ℕ → List ℕ → Bool
+lineStands l i rest = let x = l .says i rest in l .may [] i x && startsWith (l .write i x) rest
 
 abbrev pub noSetting : Taken
 noSetting = record { n = 0; parameter = 0 }
@@ -68,7 +63,7 @@ noSetting = record { n = 0; parameter = 0 }
 abbrev pub settingTaken : Series → ℕ → List ℕ → Taken
 settingTaken k i rest =
     let l = settingLines k in
-    cond (isRight l i rest) (record { n = length (l .write i (l .says i rest)); parameter = l .says i rest }) noSetting
+    cond (lineStands l i rest) (record { n = length (l .write i (l .says i rest)); parameter = l .says i rest }) noSetting
 
 abbrev pub noValue : TakenValue
 noValue = record { n = 0; kept = Never }
@@ -76,7 +71,7 @@ noValue = record { n = 0; kept = Never }
 abbrev pub valueTaken : ℕ → List ℕ → TakenValue
 valueTaken i rest =
     let l = valueLines in
-    cond (isRight l i rest) (record { n = length (l .write i (l .says i rest)); kept = keptSaid i rest }) noValue
+    cond (lineStands l i rest) (record { n = length (l .write i (l .says i rest)); kept = keptSaid i rest }) noValue
 
 -- the same where the line doesn't end after its key
 abbrev pub putTaken : ℕ → List ℕ → TakenValue

@@ -52,7 +52,7 @@ pub struct Values {
 }
 
 // What the digits at the start of some bytes say, three at most, and how many they are.
-pub struct Said {
+pub struct Digits {
     pub number: u64,
     pub digits: usize,
 }
@@ -70,7 +70,7 @@ pub struct TakenValue {
 }
 
 // Reads the digits from a place on, three at most.
-fn said_at(s: &[u8], start: usize) -> Said
+fn said_at(s: &[u8], start: usize) -> Digits
     ensures { λ r. ⌜ (r ≡ saidOf (drop start (now (s .entry)))) × (r .number < 1000) ⌝ }
 {
     let mut number: u64 = 0;
@@ -78,14 +78,14 @@ fn said_at(s: &[u8], start: usize) -> Said
     let mut at = start;
     while i < 3 {
         if s.len() <= at {
-            return Said {
+            return Digits {
                 number: number,
                 digits: i,
             };
         }
         let b = s[at];
         if !figures::digit(b) {
-            return Said {
+            return Digits {
                 number: number,
                 digits: i,
             };
@@ -94,7 +94,7 @@ fn said_at(s: &[u8], start: usize) -> Said
         at += 1;
         i += 1;
     }
-    Said {
+    Digits {
         number: number,
         digits: i,
     }

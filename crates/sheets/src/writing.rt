@@ -2,11 +2,10 @@
 ghost use mathlib.Core.Path.{_≡_};
 ghost use mathlib.Core.List.{_++_};
 ghost use Prim.Native.Nat.{_+_, _%_, _≤_, _<_};
-ghost use lib.ListN.{length};
+ghost use lib.ListN.{length, take};
 ghost use Rattle.figures.specs.Decimal.{digitsN, decimalOf};
 ghost use Rattle.figures.specs.Rooms.{Puts};
 ghost use Rattle.figures.specs.Text.{codes};
-ghost use Rattle.instrument.specs.Rows.{keyOf};
 ghost use Rattle.instrument.specs.Settings.{settingsN};
 ghost use Rattle.instrument.specs.Values.{valuesN};
 ghost use Rattle.state.specs.Image.{stateIn};
@@ -14,8 +13,9 @@ ghost use Rattle.state.specs.Keeping.{Imaged};
 ghost use Rattle.sheets.specs.Sheet.{seriesLine, settingLines, keptLine, WritesSheet};
 ghost use Rattle.sheets.specs.Keeping.{keyLength, keysN, settingsText, valuesText};
 use crate::answers::Sheeted;
+use instrument::keys::KEY;
+use instrument::keys::key_at;
 use instrument::settings::Series;
-use instrument::settings::row_at;
 use instrument::settings::settings_of;
 use instrument::values::Kept;
 use instrument::values::VALUES;
@@ -27,14 +27,11 @@ use state::image::parameter_in;
 use state::image::series_in;
 use state::image::value_in;
 
-// The length of the longest sheet of either series.
-pub const LONGEST: usize = 441;
-
 // The length of the first line, which names the series.
 pub(crate) const HEAD: usize = 14;
 
-// Gives the length of a row's key, which stands from the start of five bytes.
-pub(crate) fn key_length(key: [u8; 5]) -> usize
+// Gives the length of a row's key, which stands from the start of eight bytes.
+pub(crate) fn key_length(key: [u8; KEY]) -> usize
     ensures { λ r. ⌜ r ≡ keyLength key ⌝ }
 {
     if key[4] != 0 {
@@ -69,7 +66,7 @@ pub(crate) fn digits_in(parameter: u8) -> usize
     3
 }
 
-// Gives the length of the settings' lines without their parameters: each has its key and LF.
+// Gives the length of the settings' lines without their parameters: key and LF, for numbers of two digits and of three.
 fn keys_length(series: Series) -> usize
     ensures { λ r. ⌜ r ≡ keysN series ⌝ }
 {
@@ -128,19 +125,15 @@ fn figure(n: u16) -> u8
     b'0' + (n % 10) as u8
 }
 
-// Puts the key of a setting, by its number of two or three digits.
-fn put_key(number: u16, room: &mut [u8], at: usize) -> usize
-    requires { ⌜ ((10 ≤ number) × (number < 1000)) × (at + length (keyOf "s" number) ≤ length (now room)) ⌝ }
-    ensures { λ r. ⌜ Puts (now (room .entry)) at (keyOf "s" number) r (now (room .exit)) ⌝ }
+// Puts a setting's key, of four or five bytes.
+fn put_key(key: [u8; KEY], room: &mut [u8], at: usize) -> usize
+    requires { ⌜ (4 ≤ keyLength key) × (at + keyLength key ≤ length (now room)) ⌝ }
+    ensures { λ r. ⌜ Puts (now (room .entry)) at (take (keyLength key) key) r (now (room .exit)) ⌝ }
 {
-    let ones = figure(number);
-    let tens = figure(number / 10);
-    if number < 100 {
-        let key = [b's', tens, ones, b'='];
-        return lay_text(room, at, &key);
+    if key[4] != 0 {
+        return lay_text(room, at, &key[0..5]);
     }
-    let key = [b's', figure(number / 100), tens, ones, b'='];
-    lay_text(room, at, &key)
+    lay_text(room, at, &key[0..4])
 }
 
 // Puts a parameter in its fewest digits and LF, and answers where the next line begins.
@@ -173,8 +166,7 @@ fn put_setting(series: Series, place: usize, parameter: u8, room: &mut [u8], at:
     requires { ⌜ (place < settingsN series) × (at + length (settingLines series .write place parameter) ≤ length (now room)) ⌝ }
     ensures { λ r. ⌜ Puts (now (room .entry)) at (settingLines series .write place parameter) r (now (room .exit)) ⌝ }
 {
-    let row = row_at(series, place);
-    let next = put_key(row.number, room, at);
+    let next = put_key(key_at(series, place), room, at);
     put_parameter(small(parameter), room, next)
 }
 

@@ -5,7 +5,7 @@ use mathlib.Core.Bool.{Bool, true, false, _&&_, false≢true, and-true, and-fals
 use mathlib.Core.List.{List, [], _∷_}
 use native.Mathlib.Omega.{arith}
 use borrow.Author.Tests.{eq-eqb, eqb-true, eqb-false, ne-eqb, lt-leb, lt-ltb, ltb-true}
-use lib.Dec.{eqb, leb, ltb}
+use lib.Dec.{eqb, ltb}
 use lib.ListN.{length, getD, set, take, drop, replicate, length-drop, length-replicate}
 use lib.Seq.{drop-cons, drop-drop, getD-drop, take-all}
 use Rattle.figures.specs.Bytes.{within, every, startsWith, sameBytes}
@@ -13,13 +13,10 @@ use Rattle.figures.proofs.Bytes.{same-refl}
 use Rattle.figures.proofs.Tests.{both, by-test, and-on, and-off}
 use Rattle.instrument.specs.Values.{valuesN, isPut, keptRight, partsIn, partsN, partsRight, eightOf, eightBytes}
 use Rattle.instrument.specs.declared.settings.Series.{Series}
-use Rattle.instrument.specs.declared.values.Kept.{Kept}
-use Rattle.instrument.specs.declared.values.Kept.the-variants.{Never, Put}
-use Rattle.state.specs.Entries.{entryOf, isNever}
-use Rattle.state.specs.Image.{valueN, entryN, keptBytes, itemBytes, entryBytes, keptIn, itemIn, entryIn}
-use Rattle.state.specs.Keeping.{settable, itemRight, entryRight, backRight, putsBack, valueRight, valuesHeld, entryHeld, rowFrom, entriesHeld, allZeros}
-use Rattle.state.specs.declared.entries.Item.{Item}
-use Rattle.state.specs.declared.entries.Item.the-variants.{Free, Setting, Stored}
+use Rattle.instrument.specs.declared.values.Kept.the-variants.{Never}
+use Rattle.state.specs.Entries.{isNever}
+use Rattle.state.specs.Image.{valueN, entryN, keptBytes, keptIn, entryIn}
+use Rattle.state.specs.Keeping.{settable, backRight, putsBack, valueLies, valuesLie, entryLies, rowFrom, entriesLie, allZeros}
 use Rattle.state.proofs.Laying.{tab, spelt}
 use Rattle.state.proofs.Images.{kept-back}
 
@@ -68,19 +65,19 @@ module _ (i : ℕ) (l : List ℕ) (long : length l ≡ valueN) where
   parts-are : parts ≡ drop 1 l
   parts-are = take-all 10 (drop 1 l) (omega (arith, length-drop 1 l))
 
-  pub value-never : getD l 0 0 ≡ 0 → valueRight i l ≡ allZeros parts
+  pub value-never : getD l 0 0 ≡ 0 → valueLies i l ≡ allZeros parts
   value-never e =
       let not-put : getD l 0 0 ≡ 1 → ⊥ = λ q. absurd (omega (arith, e, q)) in
       rw (never-row l long not-put, ne-eqb (getD l 0 0) 1 not-put, and-true, parts-are) (zeros-first l (omega arith) ∙ rw e)
 
-  pub value-put : getD l 0 0 ≡ 1 → valueRight i l ≡ partsRight i parts
+  pub value-put : getD l 0 0 ≡ 1 → valueLies i l ≡ partsRight i parts
   value-put e =
       let short : length parts ≡ partsN = ap length parts-are ∙ length-drop 1 l ∙ omega arith in
       let same : sameBytes l (keptBytes (keptIn l)) ≡ true = rw (put-bytes l long e) (same-refl l) in
       let is : keptIn l ≡ partsIn parts = rw (eq-eqb (getD l 0 0) 1 e, parts-are) (simp getD-drop) in
       and-on same ∙ rw is (sym (and-on (eq-eqb (length parts) partsN short)))
 
-  pub value-none : (getD l 0 0 ≡ 0 → ⊥) → (getD l 0 0 ≡ 1 → ⊥) → valueRight i l ≡ false
+  pub value-none : (getD l 0 0 ≡ 0 → ⊥) → (getD l 0 0 ≡ 1 → ⊥) → valueLies i l ≡ false
   value-none z n =
       let first : within 0 0 (getD l 0 0) ≡ false = sym (zero-within (getD l 0 0)) ∙ ne-eqb (getD l 0 0) 0 z in
       and-off _ (never-row l long n ∙ zeros-first l (omega arith) ∙ and-off _ first)
@@ -95,17 +92,17 @@ never-held l long =
     (λ e. let n = eqb-false (getD l 0 0) 1 e in rw (never-row l long n, e, and-true))
 
 -- n values, from the place i on
-pub values-held : (m i : ℕ) (l : List ℕ) → i < m
-    → valuesHeld i (m - i) (drop (i * valueN) l)
-    ≡ valueRight i (take valueN (drop (i * valueN) l)) && valuesHeld (i + 1) (m - (i + 1)) (drop ((i + 1) * valueN) l)
-unfolding valuesHeld
-values-held m i l h =
+pub values-lie : (m i : ℕ) (l : List ℕ) → i < m
+    → valuesLie i (m - i) (drop (i * valueN) l)
+    ≡ valueLies i (take valueN (drop (i * valueN) l)) && valuesLie (i + 1) (m - (i + 1)) (drop ((i + 1) * valueN) l)
+unfolding valuesLie
+values-lie m i l h =
     let n : m - i ≡ suc (m - (i + 1)) = omega arith in
     let past : drop ((i + 1) * valueN) l ≡ drop valueN (drop (i * valueN) l) = (let q : (i + 1) * valueN ≡ i * valueN + valueN = omega arith in rw q (sym (drop-drop valueN (i * valueN) l))) in
     rw (n, past)
 
-pub values-done : (i n : ℕ) (l : List ℕ) → n ≡ 0 → valuesHeld i n l ≡ true
-unfolding valuesHeld
+pub values-done : (i n : ℕ) (l : List ℕ) → n ≡ 0 → valuesLie i n l ≡ true
+unfolding valuesLie
 values-done i n l e = rw e
 
 pub put-kept : (l : List ℕ) → isPut (keptIn l) ≡ eqb (getD l 0 0) 1
@@ -140,7 +137,7 @@ module _ (k : Series) (l : List ℕ) (long : length l ≡ entryN) where
       ap (λ (t : List ℕ). sameBytes t (a ∷ b ∷ c ∷ w)) split
       ∙ rw (ea, eb, ec, kept-long, lw, eq-eqb (getD l 0 0) (getD l 0 0) refl, eq-eqb (getD l 1 0) (getD l 1 0) refl, eq-eqb (getD l 2 0) (getD l 2 0) refl)
 
-  pub entry-set : getD l 0 0 ≡ 1 → entryHeld k l ≡ settable k (getD l 1 0) (getD l 2 0) && allZeros kept
+  pub entry-set : getD l 0 0 ≡ 1 → entryLies k l ≡ settable k (getD l 1 0) (getD l 2 0) && allZeros kept
   entry-set e =
       let may = settable k (getD l 1 0) (getD l 2 0) in
       let never = isNever (keptIn kept) in
@@ -148,7 +145,7 @@ module _ (k : Series) (l : List ℕ) (long : length l ≡ entryN) where
       rw (eq-eqb (getD l 0 0) 1 e, rest-same 1 (getD l 1 0) (getD l 2 0) (sym e) refl refl)
       (and-comm same (may && never) ∙ and-assoc may never same ∙ rw (and-comm never same, never-held kept kept-long))
 
-  pub entry-put : getD l 0 0 ≡ 2 → entryHeld k l ≡ ltb (getD l 1 0) valuesN && (eqb (getD l 2 0) 0 && valueRight (getD l 1 0) kept)
+  pub entry-put : getD l 0 0 ≡ 2 → entryLies k l ≡ ltb (getD l 1 0) valuesN && (eqb (getD l 2 0) 0 && valueLies (getD l 1 0) kept)
   entry-put e =
       let one : getD l 0 0 ≡ 1 → ⊥ = λ q. absurd (omega (arith, e, q)) in
       let there = ltb (getD l 1 0) valuesN in
@@ -162,24 +159,24 @@ module _ (k : Series) (l : List ℕ) (long : length l ≡ entryN) where
       moved true b c d = refl
       moved false b c d = sym (rw (and-false c) (and-false b))
 
-  pub entry-none : (getD l 0 0 ≡ 1 → ⊥) → (getD l 0 0 ≡ 2 → ⊥) → entryHeld k l ≡ false
+  pub entry-none : (getD l 0 0 ≡ 1 → ⊥) → (getD l 0 0 ≡ 2 → ⊥) → entryLies k l ≡ false
   entry-none one two = rw (ne-eqb (getD l 0 0) 1 one, ne-eqb (getD l 0 0) 2 two, and-false)
 
   -- taken back: of a setting it changes no flag; of a value that is put it sets the value's
 
-  pub back-set : (puts : List Bool) → entryHeld k l ≡ true → (getD l 0 0 ≡ 2 → ⊥)
+  pub back-set : (puts : List Bool) → entryLies k l ≡ true → (getD l 0 0 ≡ 2 → ⊥)
       → (backRight puts (entryIn l .item) ≡ true) × (putsBack puts (entryIn l .item) (entryIn l .former .kept) ≡ puts)
   back-set puts right two =
       by-test (eqb (getD l 0 0) 1)
       (λ e. (rw e, rw e))
       (λ e. absurd (false≢true (sym (entry-none (eqb-false (getD l 0 0) 1 e) two) ∙ right)))
 
-  pub back-there : entryHeld k l ≡ true → getD l 0 0 ≡ 2 → getD l 1 0 < valuesN
+  pub back-there : entryLies k l ≡ true → getD l 0 0 ≡ 2 → getD l 1 0 < valuesN
   back-there right e =
       let there = ltb (getD l 1 0) valuesN in
-      ltb-true (getD l 1 0) valuesN (both there (eqb (getD l 2 0) 0 && valueRight (getD l 1 0) kept) (sym (entry-put e) ∙ right) .0)
+      ltb-true (getD l 1 0) valuesN (both there (eqb (getD l 2 0) 0 && valueLies (getD l 1 0) kept) (sym (entry-put e) ∙ right) .0)
 
-  pub back-put : (puts : List Bool) → entryHeld k l ≡ true → getD l 0 0 ≡ 2
+  pub back-put : (puts : List Bool) → entryLies k l ≡ true → getD l 0 0 ≡ 2
       → (backRight puts (entryIn l .item) ≡ getD puts (getD l 1 0) false)
       × (putsBack puts (entryIn l .item) (entryIn l .former .kept) ≡ set puts (getD l 1 0) (eqb (getD l 3 0) 1))
   back-put puts right e =
@@ -193,12 +190,12 @@ module _ (k : Series) (l : List ℕ) (long : length l ≡ entryN) where
 -- entries taken back, the newest at a time
 pub entries-turn : (k : Series) (n : ℕ) (puts : List Bool) (l : List ℕ) → 0 < n
     → let e = entryIn (rowFrom (n - 1) l) in
-    entriesHeld k n puts l
-    ≡ entryHeld k (rowFrom (n - 1) l) && (backRight puts (e .item) && entriesHeld k (n - 1) (putsBack puts (e .item) (e .former .kept)) l)
-unfolding entriesHeld
+    entriesLie k n puts l
+    ≡ entryLies k (rowFrom (n - 1) l) && (backRight puts (e .item) && entriesLie k (n - 1) (putsBack puts (e .item) (e .former .kept)) l)
+unfolding entriesLie
 entries-turn k zero puts l h = absurd (omega arith)
 entries-turn k (suc n) puts l h = let q : suc n - 1 ≡ n = omega arith in rw q
 
-pub entries-none : (k : Series) (n : ℕ) (puts : List Bool) (l : List ℕ) → n ≤ 0 → entriesHeld k n puts l ≡ true
-unfolding entriesHeld
+pub entries-none : (k : Series) (n : ℕ) (puts : List Bool) (l : List ℕ) → n ≤ 0 → entriesLie k n puts l ≡ true
+unfolding entriesLie
 entries-none k n puts l h = let q : n ≡ 0 = omega arith in rw q

@@ -1,6 +1,6 @@
 -- What the code judges is what an image is. Both go row by row: a row's bytes are those that its own content gives, and the content may stand; so the proof
 -- takes `sameBytes` apart into rows and joins each row's test with what a state asks of its content.
-use Prim.Native.Nat.{ℕ, zero, suc, _+_, _*_, _-_, _/_, _%_, _<_, _≤_}
+use Prim.Native.Nat.{ℕ, zero, suc, _+_, _*_, _-_, _/_, _%_, _≤_}
 use mathlib.Core.Path.{_≡_, refl, sym, ap, _∙_}
 use mathlib.Core.Bool.{Bool, true, false, _&&_, false≢true, and-true, and-false, and-assoc, and-comm}
 use mathlib.Core.List.{List, [], _∷_, _++_, map}
@@ -27,7 +27,7 @@ use Rattle.state.specs.Entries.{valuesBack, contentsBack, mayGoBack, rig
 use Rattle.state.specs.Image.{formOf, valuesAt, valueN, entryN, countAt, entriesAt, restN, imageN, keptBytes, entryBytes, flat, valuesBytes}
 use Rattle.state.specs.Image.{entriesBytes, imageOf, entryIn, rowsIn, valuesIn, entriesInOf, entriesIn, seriesIn, countFrom}
 use Rattle.state.specs.Image.{stateFrom, stateAsOf, stateAs, isImage}
-use Rattle.state.specs.Keeping.{itemRight, entryRight, putsOf, backRight, putsBack, valuesHeld, rowFrom, entriesHeld, allZeros, restRight, isImageBy}
+use Rattle.state.specs.Keeping.{itemRight, entryRight, putsOf, backRight, putsBack, valuesLie, rowFrom, entriesLie, allZeros, restRight, isImageBy}
 use Rattle.state.specs.declared.entries.Item.{Item}
 use Rattle.state.specs.declared.entries.Item.the-variants.{Free, Setting, Stored}
 use Rattle.state.specs.declared.entries.Former.{Former}
@@ -106,8 +106,8 @@ entriesSame = rowsSame entryBytes entryIn entryN
 
 -- values
 
-values-by : (i n : ℕ) (l : List ℕ) → valuesSame n l && valuesRight i (rowsIn valueIn valueN n l) ≡ valuesHeld i n l
-unfolding rowsSame rowsIn valuesRight valuesHeld
+values-by : (i n : ℕ) (l : List ℕ) → valuesSame n l && valuesRight i (rowsIn valueIn valueN n l) ≡ valuesLie i n l
+unfolding rowsSame rowsIn valuesRight valuesLie
 values-by i zero l = refl
 values-by i (suc n) l =
     let r = take valueN l in
@@ -210,8 +210,8 @@ step true same rows may back right named next rest one later =
     paired same rows may back ∙ rw later (joined ∙ rw (← one refl) (simp sorted))
 
 entries-by : (n m : ℕ) (c : Contents) (l : List ℕ) → n ≤ m
-    → entriesSame n l && rightBack n c (entriesInOf m l) ≡ contentsRight c && entriesHeld (c .series) n (putsOf (c .values)) l
-unfolding rowsSame rightBack entriesHeld
+    → entriesSame n l && rightBack n c (entriesInOf m l) ≡ contentsRight c && entriesLie (c .series) n (putsOf (c .values)) l
+unfolding rowsSame rightBack entriesLie
 entries-by zero m c l few = sym (and-true (contentsRight c))
 entries-by (suc n) m c l few =
     let r = rowFrom n l in
@@ -219,13 +219,13 @@ entries-by (suc n) m c l few =
     let next = contentsBack c x in
     rw (same-last entryBytes entryIn entryN n l, row-at entryIn entryN n m l blankEntry (omega arith), ← puts-back (x .item) (x .former) (c .values))
     (step (contentsRight c) (sameBytes r (entryBytes x)) (entriesSame n l) (mayGoBack c (x .item) (x .former)) (rightBack n next (entriesInOf m l))
-    (entryRight (c .series) x) (backRight (putsOf (c .values)) (x .item)) (contentsRight next) (entriesHeld (c .series) n (putsOf (next .values)) l)
+    (entryRight (c .series) x) (backRight (putsOf (c .values)) (x .item)) (contentsRight next) (entriesLie (c .series) n (putsOf (next .values)) l)
     (turn c (x .item) (x .former)) (entries-by n m next l (omega arith)))
 
 -- with those past the count
 all-by : (n m : ℕ) (c : Contents) (l : List ℕ) → n ≤ m → length l ≡ m * entryN
     → entriesSame m l && (allBlank (drop n (entriesInOf m l)) && rightBack n c (entriesInOf m l))
-    ≡ contentsRight c && (allZeros (drop (n * entryN) l) && entriesHeld (c .series) n (putsOf (c .values)) l)
+    ≡ contentsRight c && (allZeros (drop (n * entryN) l) && entriesLie (c .series) n (putsOf (c .values)) l)
 all-by n m c l few long =
     let past = drop (n * entryN) l in
     let q : m ≡ n + (m - n) = omega arith in
@@ -238,7 +238,7 @@ all-by n m c l few long =
     let blank = blanks-by (m - n) past (length-drop (n * entryN) l ∙ omega arith) in
     rw (split, gone)
     (paired (entriesSame (m - n) past) (entriesSame n l) (allBlank (entriesInOf (m - n) past)) (rightBack n c (entriesInOf m l))
-    ∙ rw (blank, entries-by n m c l few) (and-left (allZeros past) (contentsRight c) (entriesHeld (c .series) n (putsOf (c .values)) l)))
+    ∙ rw (blank, entries-by n m c l few) (and-left (allZeros past) (contentsRight c) (entriesLie (c .series) n (putsOf (c .values)) l)))
 
 -- settings: what they are padded with is right
 ranges-by : (k : Series) (ps : List ℕ) → length ps ≡ settingsN k → inRanges (heldRows k) (padded ps) ≡ inRanges (rowsOf k) ps
@@ -311,7 +311,7 @@ module _ (k : Series) (x : ℕ) (g r : List ℕ) (lg : length g ≡ settingsN k)
       let all = all-by n entriesN c e (leb-true n entriesN few) entries-long in
       rw (rw entries-whole at (image-same (leb-true n entriesN few)), few, ← values-by 0 valuesN v)
       (gathered (eqb x (formOf k)) (valuesSame valuesN v) (entriesSame entriesN e) (allBlank (drop n u) && rightBack n c u) (inRanges (rowsOf k) g)
-      (valuesRight 0 (valuesIn v)) (allZeros (drop (n * entryN) e) && entriesHeld k n (putsOf (valuesIn v)) e)
+      (valuesRight 0 (valuesIn v)) (allZeros (drop (n * entryN) e) && entriesLie k n (putsOf (valuesIn v)) e)
       (rw (rows-long valueIn valueN valuesN v, ranges-by k g lg) at all)))
       (λ many. rw many (simp and-false)))
 

@@ -30,7 +30,7 @@ use Rattle.state.specs.declared.entries.State.{State}
 use Rattle.state.proofs.Steps.{state-parts}
 use Rattle.state.proofs.Laying.{row-at, rows-first, rows-long, row-in, valueBytes, valueIn}
 use Rattle.state.proofs.Laying.{laid-after, laid-before, laid-all, byte-laid, row-laid, flat-append, flat-length, flat-zeros}
-use Rattle.state.proofs.Images.{Shaped, shaped, imaged, image-is, image-series, image-of, padded-is, length-held, length-values, kept-back, value-back, entry-back}
+use Rattle.state.proofs.Images.{Shaped, shaped, imaged, image-of, padded-is, length-held, length-values, kept-back, value-back, entry-back}
 
 -- there is one blank entry
 
@@ -121,9 +121,6 @@ module _ {k : Series} {l : List ℕ} (im : Imaged k l) where
 
 -- a state's image, and its parts: what comes before the values, the values, the count, the entries
 
-pub imaged-by : (s : State) → isState s ≡ true → Imaged (s .series) (imageOf s)
-imaged-by s e = record { is = image-is s e; series = sym (image-series s e) }
-
 abbrev front : State → List ℕ
 front s = formOf (s .series) ∷ held (s .series) (s .settings)
 
@@ -180,12 +177,6 @@ module _ (s : State) (h : Shaped s) where
 
   pub entry-shaped : (n : ℕ) (e : Entry) → Shaped (withEntries s (set (s .undo) n e) (s .count))
   entry-shaped n e = entries-shaped (set (s .undo) n e) (s .count) (length-set (s .undo) n e ∙ h .undo-long) (h .few)
-
-  pub count-shaped : (n : ℕ) → n < 65536 → Shaped (withEntries s (s .undo) n)
-  count-shaped n few = entries-shaped (s .undo) n (h .undo-long) few
-
-  pub cleared-shaped : Shaped (noEntries (s .series) (s .settings) (s .values))
-  cleared-shaped = entries-shaped (replicate entriesN blankEntry) 0 (length-replicate {A = Entry} entriesN blankEntry) (omega arith)
 
   -- laid down past its first parts
 

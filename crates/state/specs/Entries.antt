@@ -5,10 +5,9 @@ use mathlib.Core.Bool.{Bool, true, false, not, _&&_}
 use mathlib.Core.List.{List, [], _∷_}
 use lib.Dec.{eqb, leb, ltb}
 use lib.ListN.{length, getD, set, drop, replicate}
-use Rattle.instrument.specs.Settings.{settingsN, settingsMost, rowAt, heldRows, isAsked, factorySettings, inRanges}
+use Rattle.instrument.specs.Settings.{settingsN, rowAt, heldRows, isAsked, factorySettings, inRanges}
 use Rattle.instrument.specs.Values.{valuesN, isPut, keptRight}
 use Rattle.instrument.specs.declared.settings.Series.{Series}
-use Rattle.instrument.specs.declared.settings.Series.the-variants.{Tps100}
 use Rattle.instrument.specs.declared.values.Kept.{Kept}
 use Rattle.instrument.specs.declared.values.Kept.the-variants.{Never}
 use Rattle.instrument.specs.declared.values.Value.{Value}

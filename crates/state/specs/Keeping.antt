@@ -49,27 +49,27 @@ putsBack puts (Setting i) k = puts
 putsBack puts (Stored i) k = set puts i (isPut k)
 
 -- eleven bytes that are those of a value, which the place may hold
-abbrev pub valueRight : ℕ → List ℕ → Bool
-valueRight i l = sameBytes l (keptBytes (keptIn l)) && keptRight i (keptIn l)
+abbrev pub valueLies : ℕ → List ℕ → Bool
+valueLies i l = sameBytes l (keptBytes (keptIn l)) && keptRight i (keptIn l)
 
 -- n of them, from the place i on
-unfoldable pub valuesHeld : ℕ → ℕ → List ℕ → Bool
-valuesHeld i zero l = true
-valuesHeld i (suc n) l = valueRight i (take valueN l) && valuesHeld (i + 1) n (drop valueN l)
+unfoldable pub valuesLie : ℕ → ℕ → List ℕ → Bool
+valuesLie i zero l = true
+valuesLie i (suc n) l = valueLies i (take valueN l) && valuesLie (i + 1) n (drop valueN l)
 
 -- fourteen bytes that are those of an entry, which may stand
-abbrev pub entryHeld : Series → List ℕ → Bool
-entryHeld k l = sameBytes l (entryBytes (entryIn l)) && entryRight k (entryIn l)
+abbrev pub entryLies : Series → List ℕ → Bool
+entryLies k l = sameBytes l (entryBytes (entryIn l)) && entryRight k (entryIn l)
 
 abbrev pub rowFrom : ℕ → List ℕ → List ℕ
 rowFrom n l = take entryN (drop (n * entryN) l)
 
 -- n entries, taken back newest first, in one pass
-unfoldable pub entriesHeld : Series → ℕ → List Bool → List ℕ → Bool
-entriesHeld k zero puts l = true
-entriesHeld k (suc n) puts l =
+unfoldable pub entriesLie : Series → ℕ → List Bool → List ℕ → Bool
+entriesLie k zero puts l = true
+entriesLie k (suc n) puts l =
     let e = entryIn (rowFrom n l) in
-    entryHeld k (rowFrom n l) && (backRight puts (e .item) && entriesHeld k n (putsBack puts (e .item) (e .former .kept)) l)
+    entryLies k (rowFrom n l) && (backRight puts (e .item) && entriesLie k n (putsBack puts (e .item) (e .former .kept)) l)
 
 abbrev pub allZeros : List ℕ → Bool
 allZeros = every (within 0 0)
@@ -80,8 +80,8 @@ restRight k rest =
     let values = take countAt rest in
     let entries = drop entriesAt rest in
     let n = countFrom rest in
-    valuesHeld 0 valuesN values
-    && (leb n entriesN && (allZeros (drop (n * entryN) entries) && entriesHeld k n (putsOf (valuesIn values)) entries))
+    valuesLie 0 valuesN values
+    && (leb n entriesN && (allZeros (drop (n * entryN) entries) && entriesLie k n (putsOf (valuesIn values)) entries))
 
 abbrev pub isImageBy : List ℕ → Bool
 isImageBy l =

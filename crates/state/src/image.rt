@@ -6,7 +6,7 @@ ghost use Rattle.state.specs.Entries.{entriesN};
 ghost use Rattle.instrument.specs.Values.{valuesN};
 ghost use Rattle.state.specs.Image.{valueN, entryN, imageN, keptBytes, itemBytes, entryBytes, valuesBytes, entriesBytes, keptIn, entryIn, valuesIn};
 ghost use Rattle.state.specs.Image.{formOf, valuesAt, restN, restOf, seriesIn, isImage, encodedIn};
-ghost use Rattle.state.specs.Keeping.{putsOf, valueRight, valuesHeld, entryHeld, entriesHeld, countIn, storedIn, valuesRead, entriesRead, stateOf};
+ghost use Rattle.state.specs.Keeping.{putsOf, valueLies, valuesLie, entryLies, entriesLie, countIn, storedIn, valuesRead, entriesRead, stateOf};
 ghost use Rattle.state.specs.Keeping.{laidAt, parameterLaid, valueLaid, entryLaid, countLaid, cleared, contentsLaid};
 use crate::entries::ENTRIES;
 use crate::entries::Entry;
@@ -314,7 +314,7 @@ pub fn value_in(series: Series, place: usize, image: &[u8]) -> Kept
     kept_in(&image[a..z])
 }
 
-// Reads a state from the parts of its image: parameters, stored values, entries up to the count. Only lines that alter the state ask for it.
+// Reads a state from the parts of its image: parameters, stored values, entries up to the count. Only SET, PUT and UNDO ask for it.
 pub fn state_of(
     series: Series,
     parameters: &[u8],
@@ -340,7 +340,7 @@ pub fn state_of(
 // Tells whether eleven bytes are a value that the place may hold.
 fn value_right(place: usize, s: &[u8]) -> bool
     requires { ⌜ length (now s) ≡ valueN ⌝ }
-    ensures { λ r. ⌜ r ≡ valueRight place (now (s .entry)) ⌝ }
+    ensures { λ r. ⌜ r ≡ valueLies place (now (s .entry)) ⌝ }
 {
     if s[0] == 0 {
         return figures::all_within(&s[1..11], 0, 0);
@@ -353,7 +353,7 @@ fn value_right(place: usize, s: &[u8]) -> bool
 
 fn values_right(s: &[u8]) -> bool
     requires { ⌜ length (now s) ≡ valuesN * valueN ⌝ }
-    ensures { λ r. ⌜ r ≡ valuesHeld 0 valuesN (now (s .entry)) ⌝ }
+    ensures { λ r. ⌜ r ≡ valuesLie 0 valuesN (now (s .entry)) ⌝ }
 {
     let mut i = 0;
     while i < VALUES {
@@ -384,7 +384,7 @@ fn puts_in(s: &[u8]) -> [bool; VALUES]
 // Tells whether fourteen bytes are an entry that may stand.
 fn entry_right(series: Series, e: &[u8]) -> bool
     requires { ⌜ length (now e) ≡ entryN ⌝ }
-    ensures { λ r. ⌜ r ≡ entryHeld series (now (e .entry)) ⌝ }
+    ensures { λ r. ⌜ r ≡ entryLies series (now (e .entry)) ⌝ }
 {
     let place = place_of(e[1]);
     if e[0] == 1 {
@@ -408,7 +408,7 @@ fn entry_right(series: Series, e: &[u8]) -> bool
 // Tells whether the entries up to the count may stand and, taken back newest first, none names a value then never put: all in one pass.
 fn entries_right(series: Series, values: &[u8], s: &[u8], count: usize) -> bool
     requires { ⌜ (length (now values) ≡ valuesN * valueN) × ((length (now s) ≡ entriesN * entryN) × (count ≤ entriesN)) ⌝ }
-    ensures { λ r. ⌜ r ≡ entriesHeld series count (putsOf (valuesIn (now (values .entry)))) (now (s .entry)) ⌝ }
+    ensures { λ r. ⌜ r ≡ entriesLie series count (putsOf (valuesIn (now (values .entry)))) (now (s .entry)) ⌝ }
 {
     let mut puts = puts_in(values);
     let mut n = count;
@@ -476,7 +476,7 @@ fn lay_at(w: &[u8], at: usize, image: &mut [u8])
     figures::lay(w, &mut image[at..z]);
 }
 
-// Lays the parameter of the setting at a place down.
+// Lays the parameter of the setting at a place down; it does nothing where its byte isn't there.
 pub fn put_parameter(place: usize, parameter: u8, image: &mut [u8])
     ensures { λ _. ⌜ now (image .exit) ≡ parameterLaid place parameter (now (image .entry)) ⌝ }
 {
@@ -486,7 +486,7 @@ pub fn put_parameter(place: usize, parameter: u8, image: &mut [u8])
     lay_at(&[parameter], 1 + place, image);
 }
 
-// Lays the value at a place down.
+// Lays the value at a place down; it does nothing where its bytes aren't there.
 pub fn put_value(series: Series, place: usize, kept: Kept, image: &mut [u8])
     ensures { λ _. ⌜ now (image .exit) ≡ valueLaid series place kept (now (image .entry)) ⌝ }
 {
@@ -497,7 +497,7 @@ pub fn put_value(series: Series, place: usize, kept: Kept, image: &mut [u8])
     lay_at(&b, values_at(series) + place * VALUE, image);
 }
 
-// Lays the entry at a place of the list down.
+// Lays the entry at a place of the list down; it does nothing where its bytes aren't there.
 pub fn put_entry(series: Series, n: usize, entry: Entry, image: &mut [u8])
     ensures { λ _. ⌜ now (image .exit) ≡ entryLaid series n entry (now (image .entry)) ⌝ }
 {
@@ -508,7 +508,7 @@ pub fn put_entry(series: Series, n: usize, entry: Entry, image: &mut [u8])
     lay_at(&b, values_at(series) + ENTRIES_AT + n * ENTRY, image);
 }
 
-// Lays the number of entries down.
+// Lays the number of entries down; it does nothing where its bytes aren't there.
 pub fn put_count(series: Series, count: usize, image: &mut [u8])
     ensures { λ _. ⌜ now (image .exit) ≡ countLaid series count (now (image .entry)) ⌝ }
 {
@@ -526,7 +526,7 @@ fn blank(out: &mut [u8])
     }
 }
 
-// Blanks the entries up to the count, and the count; past it they are blank.
+// Blanks the entries up to the count, and the count. In an image the rest is blank already.
 pub fn clear(series: Series, image: &mut [u8])
     ensures { λ _. ⌜ now (image .exit) ≡ cleared series (now (image .entry)) ⌝ }
 {

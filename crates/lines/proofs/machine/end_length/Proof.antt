@@ -1,7 +1,6 @@
 -- `end_length` meets its contract.
 use mathlib.Core.Path.{sym, _∙_, ap}
 use mathlib.Core.Bool.{Bool}
-use borrow.Author.Needs.{needs}
 use lib.ListN.{length}
 use Rattle.figures.specs.Text.{endBytes}
 use Rattle.lines.proofs.machine.end_length.Statement.{statement}

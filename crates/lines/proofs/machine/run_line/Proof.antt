@@ -15,7 +15,7 @@ use Rattle.lines.specs.Verdicts.{isAccepted}
 use Rattle.lines.specs.Orders.{deedOf, doneOf}
 use Rattle.lines.specs.Replies.{warning, replyEnd, bodyOf}
 use Rattle.lines.specs.Machine.{outcome, run}
-use Rattle.lines.specs.Keeping.{Answers, Ends}
+use Rattle.lines.specs.Keeping.{Answered, Ends}
 use Rattle.lines.specs.declared.machine.Told.{Told}
 use Rattle.lines.specs.declared.verdicts.Verdict.{Verdict}
 use Rattle.lines.specs.declared.verdicts.Verdict.the-variants.{Accepted}
@@ -28,7 +28,7 @@ held c = stateIn (c .args .image .now)
 
 -- a line that is refused leaves the image
 refused-by : (c : tie.Start) (v : Verdict) (r : Told) (room′ : List ℕ) → run (held c) (c .args .line .now) ≡ outcome v (warning ++ replyEnd (held c)) (held c)
-    → Answers (held c) (outcome v (warning ++ replyEnd (held c)) (held c)) (c .args .room .now) r room′
+    → Answered (held c) (outcome v (warning ++ replyEnd (held c)) (held c)) (c .args .room .now) r room′
     → Ends (held c) (run (held c) (c .args .line .now)) (c .args .room .now) r (c .args .image .now) room′
 refused-by c v r room′ e h =
     let s = held c in

@@ -1,10 +1,9 @@
 -- `alter` meets its contract: each order's own function; the last arm has those that change nothing.
-use Prim.Native.Nat.{ℕ, _<_}
+use Prim.Native.Nat.{ℕ}
 use mathlib.Core.Path.{_≡_, refl, sym, ap, _∙_}
 use mathlib.Core.List.{List, [], _∷_}
 use types.Run.{OneOf, miss}
 use denote.Enum.Declared.{tagOf}
-use native.Mathlib.Omega.{arith}
 use borrow.Author.Needs.{needs}
 use Rattle.instrument.specs.declared.settings.Series.{Series}
 use Rattle.state.specs.Image.{imageOf, stateIn}

@@ -1,5 +1,5 @@
 -- `put_back` meets its contract: by the item.
-use mathlib.Core.Path.{_≡_, refl, _∙_}
+use mathlib.Core.Path.{_∙_}
 use borrow.Author.Needs.{needs}
 use Rattle.lines.proofs.orders.put_back.Statement.{statement}
 use Rattle.lines.proofs.orders.put_back.Tie as tie

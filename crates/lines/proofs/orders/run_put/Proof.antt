@@ -1,5 +1,4 @@
 -- `run_put` meets its contract: an accepted PUT names a listed value, and an entry is free.
-use Prim.Native.Nat.{ℕ}
 use mathlib.Core.Path.{_≡_, sym, _∙_}
 use borrow.Author.Needs.{needs}
 use lib.ListN.{getD}

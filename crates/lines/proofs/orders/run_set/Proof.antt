@@ -1,5 +1,5 @@
 -- `run_set` meets its contract: an accepted SET names a listed setting and a byte, and an entry is free.
-use Prim.Native.Nat.{ℕ, _<_}
+use Prim.Native.Nat.{ℕ}
 use mathlib.Core.Path.{_≡_, sym, ap, _∙_}
 use native.Mathlib.Omega.{arith}
 use borrow.Author.Needs.{needs}

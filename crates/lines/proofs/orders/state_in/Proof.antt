@@ -1,7 +1,6 @@
 -- `state_in` meets its contract: the parts that are lent are those of an image.
 use Prim.Native.Nat.{ℕ, _+_, _-_, _*_}
 use mathlib.Core.Path.{_≡_, sym, ap, _∙_}
-use mathlib.Core.List.{List}
 use native.Mathlib.Omega.{arith}
 use borrow.Author.Needs.{needs}
 use lib.ListN.{length, take, drop}
@@ -9,7 +8,7 @@ use lib.Seq.{drop-drop}
 use Rattle.instrument.specs.Settings.{settingsN}
 use Rattle.state.specs.Entries.{entriesN}
 use Rattle.state.specs.Image.{entryN, valuesAt, countAt, entriesAt, imageN}
-use Rattle.state.specs.Keeping.{countIn, stateOf}
+use Rattle.state.specs.Keeping.{stateOf}
 use Rattle.state.proofs.Places.{image-long, state-read}
 use Rattle.lines.proofs.orders.state_in.Statement.{statement}
 use Rattle.lines.proofs.orders.state_in.Tie as tie

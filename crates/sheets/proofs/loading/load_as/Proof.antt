@@ -1,5 +1,4 @@
 -- `load_as` meets its contract: where a line is wrong the image is left as it is; where all are right it is that of the state with what they hold.
-use Prim.Native.Nat.{ℕ}
 use mathlib.Core.Path.{_≡_, sym, ap, _∙_}
 use native.Mathlib.Omega.{arith}
 use borrow.Author.Needs.{needs}

@@ -10,7 +10,7 @@ use Rattle.figures.proofs.Bytes.{within-bounds}
 use Rattle.figures.proofs.Decimal.{one-digit-more}
 use Rattle.figures.proofs.Tests.{passed, failed}
 use Rattle.sheets.specs.Keeping.{saidOf}
-use Rattle.sheets.proofs.Takes.{saidFrom, said-small, said-more, said-end, digits-past, digits-other, digits-all}
+use Rattle.sheets.proofs.Takes.{saidFrom, said-small, said-more, said-past, said-other, said-all}
 use Rattle.sheets.proofs.loading.said_at.Statement.{statement}
 use Rattle.sheets.proofs.loading.said_at.Tie as tie
 
@@ -26,13 +26,13 @@ small c = said-small (c .loop .number) (c .loop .i) (c .loop .inv .0) (c .loop .
 returns : tie.Need-returns Inv-loop μ-loop
 returns c =
     let loop = c .before .before .loop in
-    (sym (loop .inv .2 ∙ said-end _ _ _ (digits-past _ (loop .at) _ (c .if1 .taken))), small (c .before .before))
+    (sym (loop .inv .2 ∙ said-past (loop .number) (loop .i) _ (loop .at) (c .if1 .taken)), small (c .before .before))
 
 returns-2 : tie.Need-returns-2 Inv-loop μ-loop
 returns-2 c =
     let at = c .before .before .before .before .before in
-    let none = digits-other _ (at .loop .at) _ (c .before .before .before .if1 .left) (failed (c .before .digit .ensures) (c .if2 .taken)) in
-    (sym (at .loop .inv .2 ∙ said-end _ _ _ none), small at)
+    let other = failed (c .before .digit .ensures) (c .if2 .taken) in
+    (sym (at .loop .inv .2 ∙ said-other (at .loop .number) (at .loop .i) _ (at .loop .at) other), small at)
 
 -- the byte of the turn is a digit
 digit : (c : tie.Else2 Inv-loop μ-loop)
@@ -56,7 +56,7 @@ loop-again c =
 returns-3 : tie.Need-returns-3 Inv-loop μ-loop
 returns-3 c =
     let loop = c .before .loop in
-    (sym (loop .inv .2 ∙ said-end _ _ _ (digits-all _ (loop .at) _ (c .loop-test .left))), small (c .before))
+    (sym (loop .inv .2 ∙ said-all (loop .number) (loop .i) _ (loop .at) (c .loop-test .left)), small (c .before))
 
 pub said-at-spec : {M : Type 1} → statement M
 said-at-spec =

@@ -108,14 +108,13 @@ loop-again : tie.Need-loop-again Inv-loop μ-loop
 loop-again c =
     let turn = c .before .before .before in
     let loop = turn .before .loop in
-    let next = turned (c .before) in
-    let past = drop-set-lt (loop .i + 1) (loop .settings) (loop .i) _ (omega arith)
-    ∙ sym (drop-drop 1 (loop .i) (loop .settings)) ∙ ap (drop 1) (loop .inv .4) ∙ drop-drop 1 (loop .i) blanks in (
+    let next = turned (c .before) in (
       loop .inv .0,
       omega (arith, turn .loop-test .taken),
       next .within (c .if2 .left),
       length-set (loop .settings) (loop .i) _ ∙ loop .inv .3,
-      past,
+      drop-set-lt (loop .i + 1) (loop .settings) (loop .i) _ (omega arith)
+          ∙ sym (drop-drop 1 (loop .i) (loop .settings)) ∙ ap (drop 1) (loop .inv .4) ∙ drop-drop 1 (loop .i) blanks,
       loop .inv .5 ∙ next .more (c .if2 .left),
     )
 

@@ -1,13 +1,15 @@
 -- `take_setting` meets its contract: at each return the tests that led there judge the line.
-use Prim.Native.Nat.{_≤_}
+use Prim.Native.Nat.{ℕ}
 use mathlib.Core.Path.{_≡_, sym, ap, _∙_}
-use mathlib.Core.Bool.{false≢true}
+use mathlib.Core.Bool.{Bool, true, false}
+use mathlib.Core.List.{List}
 use native.Mathlib.Omega.{arith}
 use borrow.Author.Needs.{needs}
-use lib.ListN.{length}
+use borrow.Author.Tests.{eq-eqb, ne-eqb}
+use lib.ListN.{length, getD}
 use Rattle.figures.specs.Bytes.{startsWith}
 use Rattle.figures.specs.Decimal.{digitsN}
-use Rattle.figures.proofs.Tests.{passed, failed}
+use Rattle.figures.proofs.Tests.{passed, failed, and-on}
 use Rattle.instrument.specs.Settings.{rowAt, inRange}
 use Rattle.instrument.specs.declared.settings.Row.{Row}
 use Rattle.instrument.proofs.Ranges.{range-byte}
@@ -15,7 +17,7 @@ use Rattle.sheets.specs.Sheet.{settingKey}
 use Rattle.sheets.specs.Keeping.{keyLength, noSetting, settingTaken}
 use Rattle.sheets.proofs.Keyed.{key-most, key-part, setting-keyed}
 use Rattle.sheets.proofs.Linewise.{short-decimal}
-use Rattle.sheets.proofs.Takes.{SettingLine, setting-unkeyed, setting-not, setting-is}
+use Rattle.sheets.proofs.Takes.{byte-past, byte-is, settingTests, setting-unkeyed, setting-not, setting-is}
 use Rattle.sheets.proofs.loading.take_setting.Statement.{statement}
 use Rattle.sheets.proofs.loading.take_setting.Tie as tie
 
@@ -36,15 +38,16 @@ returns c =
     let a = start (c .before .before) .args in
     c .no-setting .ensures ∙ setting-unkeyed (a .series) (a .place) (a .s .now) (failed (keyed (c .before .before) .1) (c .before .if1 .taken))
 
--- the line, once the number is read
+-- the tests of the line, once the number is read
 
-abbrev Line : tie.After-said-at → Type 0
-Line c =
+abbrev tests : tie.After-said-at → List Bool
+tests c =
     let at = c .before .before in
     let a = start at .args in
-    SettingLine (a .series) (a .place) (a .s .now) (at .before .before .before .key-length .result) (c .said-at .result)
+    settingTests (a .series) (a .place) (a .s .now) (at .before .before .before .key-length .result) (c .said-at .result)
 
-unless : (c : tie.After-said-at) → (Line c → ⊥) → let a = start (c .before .before) .args in noSetting ≡ settingTaken (a .series) (a .place) (a .s .now)
+unless : (c : tie.After-said-at) (n : ℕ) → getD (tests c) n true ≡ false
+    → let a = start (c .before .before) .args in noSetting ≡ settingTaken (a .series) (a .place) (a .s .now)
 unless c =
     let a = start (c .before .before) .args in
     let k = keyed (c .before .before) in
@@ -57,29 +60,31 @@ ranged c = c .in-range .ensures ∙ ap (λ (r : Row). inRange r (c .before .befo
 returns-2 : tie.Need-returns-2
 returns-2 c =
     let range = c .before .before in
-    c .no-setting2 .ensures ∙ unless (range .before .before) (λ l. false≢true (sym (failed (ranged range) (c .before .if2 .taken)) ∙ l .range))
+    c .no-setting2 .ensures ∙ unless (range .before .before) 0 (failed (ranged range) (c .before .if2 .taken))
 
-small : (c : tie.Else2) → c .before .before .before .said-at .result .number ≤ 255
-small c =
+cast-parameter : tie.Need-cast-parameter
+cast-parameter c =
     let a = start (c .before .before .before .before .before) .args in
-    range-byte (a .series) (a .place) _ (passed (ranged (c .before)) (c .if2 .left))
+    omega (arith, range-byte (a .series) (a .place) (c .before .before .before .said-at .result .number) (passed (ranged (c .before)) (c .if2 .left)))
 
 returns-3 : tie.Need-returns-3
 returns-3 c =
     let told = c .before .before in
-    c .no-setting3 .ensures ∙ unless (told .before .before .before .before) (λ l. c .before .if3 .taken (l .fewest ∙ sym (told .digits-in .ensures)))
-
-returns-4 : tie.Need-returns-4
-returns-4 c =
-    c .no-setting4 .ensures ∙ unless (c .before .before .before .before .before .before .before) (λ l. omega (arith, l .within, c .before .if4 .taken))
-
-returns-5 : tie.Need-returns-5
-returns-5 c =
-    c .no-setting5 .ensures ∙ unless (c .before .before .before .before .before .before .before .before .before) (λ l. c .before .if5 .taken (l .ended))
+    c .no-setting3 .ensures
+    ∙ unless (told .before .before .before .before) 1 (ne-eqb _ _ (λ e. c .before .if3 .taken (e ∙ sym (told .digits-in .ensures))))
 
 -- the digits that were read are the fewest
 fewest : (c : tie.Else3) → let r = c .before .before .before .before .before .said-at .result in r .digits ≡ digitsN (r .number)
 fewest c = c .if3 .left ∙ c .before .digits-in .ensures
+
+returns-4 : tie.Need-returns-4
+returns-4 c = c .no-setting4 .ensures ∙ unless (c .before .before .before .before .before .before .before) 2 (byte-past 10 _ _ (c .before .if4 .taken))
+
+returns-5 : tie.Need-returns-5
+returns-5 c =
+    let long = c .before .before .before in
+    c .no-setting5 .ensures
+    ∙ unless (long .before .before .before .before .before .before) 2 (byte-is 10 _ _ (long .if4 .left) ∙ ne-eqb _ _ (c .before .if5 .taken))
 
 returns-6 : tie.Need-returns-6
 returns-6 c =
@@ -90,18 +95,17 @@ returns-6 c =
     let at = told .before .before in
     let a = start at .args in
     setting-is (a .series) (a .place) (a .s .now) (passed (keyed at .1) (told .before .if1 .left)) _ (keyed at .0) (told .said-at .result)
-    (told .said-at .ensures .0) (record {
-      range = passed (ranged range) (few .before .before .if2 .left);
-      fewest = fewest few;
-      within = long .if4 .left;
-      ended = c .if5 .left;
-    })
+    (told .said-at .ensures .0) (fewest few)
+    (and-on (passed (ranged range) (few .before .before .if2 .left))
+    ∙ and-on (eq-eqb _ _ (fewest few))
+    ∙ and-on (byte-is 10 _ _ (long .if4 .left) ∙ eq-eqb _ _ (c .if5 .left)))
 
 add-end : tie.Need-add-end
 add-end c =
     let told = c .before .before .before .before .before in
     let n = told .before .before .before .before .before in
-    omega (arith, fewest c, short-decimal (told .said-at .result .number) (told .said-at .ensures .1) .0, n .key-length .ensures, key-most (n .before .key-at .result))
+    let few = short-decimal (told .said-at .result .number) (told .said-at .ensures .1) .0 in
+    omega (arith, fewest c, n .key-length .ensures, key-most (n .before .key-at .result))
 
 pub take-setting-spec : {M : Type 1} → statement M
 take-setting-spec =
@@ -120,7 +124,7 @@ take-setting-spec =
     (λ c κs. search needs)
     (λ c κs. search needs)
     returns-2
-    (λ c. omega (arith, small c))
+    cast-parameter
     (λ c κs. search needs)
     (λ c κs. search needs)
     returns-3

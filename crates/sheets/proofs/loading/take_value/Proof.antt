@@ -1,5 +1,4 @@
 -- `take_value` meets its contract: a line that ends after its key says that nothing was put.
-use Prim.Native.Nat.{ℕ}
 use mathlib.Core.Path.{_≡_, sym, ap, _∙_}
 use mathlib.Core.Bool.{true}
 use native.Mathlib.Omega.{arith}

@@ -1,34 +1,39 @@
 -- `put_setting` meets its contract: the key, and then the parameter and LF.
 use Prim.Native.Nat.{ℕ}
-use mathlib.Core.Path.{refl, sym, ap}
-use mathlib.Core.List.{_++_}
+use mathlib.Core.Path.{_≡_, refl, sym, ap, _∙_}
+use mathlib.Core.List.{List, _++_}
 use native.Mathlib.Omega.{arith}
 use borrow.Author.Needs.{needs}
-use lib.ListN.{length-append}
+use lib.ListN.{take, length, length-append}
 use Rattle.figures.specs.Text.{codes}
 use Rattle.figures.specs.Decimal.{decimalOf}
 use Rattle.figures.specs.Rooms.{Puts}
 use Rattle.figures.proofs.Putting.{puts-as, puts-more, puts-long}
 use Rattle.instrument.specs.Settings.{rowAt}
 use Rattle.sheets.specs.Sheet.{settingKey}
-use Rattle.sheets.proofs.Keyed.{setting-numbered}
+use Rattle.sheets.specs.Keeping.{keyLength}
+use Rattle.sheets.proofs.Keyed.{setting-keyed, setting-four}
 use Rattle.sheets.proofs.writing.put_setting.Statement.{statement}
 use Rattle.sheets.proofs.writing.put_setting.Tie as tie
 
 put-key-requires : tie.Need-put-key-requires
 put-key-requires c κs =
-    let row = c .before in
-    let start = row .before .before in
+    let at = c .before in
+    let start = at .before .before in
     let a = start .args in
     let key = settingKey (rowAt (a .series) (a .place)) in
-    rw (row .row-at .ensures) (
-      setting-numbered (a .series) (a .place) (start .pre .0),
-      omega (arith, start .pre .1, length-append key (decimalOf (a .parameter) ++ codes "\n")),
+    rw (at .key-at .ensures) (
+      setting-four (a .series) (a .place) (start .pre .0),
+      omega (arith, start .pre .1, setting-keyed (a .series) (a .place) .long, length-append key (decimalOf (a .parameter) ++ codes "\n")),
     )
 
 key-put : (c : tie.After-put-key) → let a = c .before .before .before .before .args in
     Puts (a .room .now) (a .at) (settingKey (rowAt (a .series) (a .place))) (c .put-key .result) (c .put-key .last .1 .0)
-key-put c = puts-as _ _ _ _ (ap settingKey (sym (c .before .before .row-at .ensures))) refl refl (c .put-key .ensures)
+key-put c =
+    let at = c .before .before in
+    let a = at .before .before .args in
+    puts-as _ _ _ _ (sym (ap (λ (l : List ℕ). take (keyLength l) l) (at .key-at .ensures) ∙ setting-keyed (a .series) (a .place) .is)) refl refl
+    (c .put-key .ensures)
 
 put-parameter-requires : tie.Need-put-parameter-requires
 put-parameter-requires c κs =

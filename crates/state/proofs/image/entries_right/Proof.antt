@@ -13,7 +13,7 @@ use Rattle.figures.proofs.Tests.{passed, failed, and-on, and-off}
 use Rattle.instrument.specs.Values.{valuesN}
 use Rattle.state.specs.Entries.{entriesN}
 use Rattle.state.specs.Image.{entryN, entryIn, valuesIn}
-use Rattle.state.specs.Keeping.{putsOf, backRight, putsBack, entryHeld, rowFrom, entriesHeld}
+use Rattle.state.specs.Keeping.{putsOf, backRight, putsBack, entryLies, rowFrom, entriesLie}
 use Rattle.state.proofs.Laying.{row-long}
 use Rattle.state.proofs.Held.{back-set, back-there, back-put, entries-turn, entries-none}
 use Rattle.state.proofs.image.entries_right.Statement.{statement}
@@ -21,7 +21,7 @@ use Rattle.state.proofs.image.entries_right.Tie as tie
 
 abbrev Inv-loop : tie.InvT-loop
 Inv-loop series values s count puts₀ n₀ puts n =
-    (n ≤ entriesN) × ((length puts ≡ valuesN) × (entriesHeld series n₀ puts₀ s ≡ entriesHeld series n puts s))
+    (n ≤ entriesN) × ((length puts ≡ valuesN) × (entriesLie series n₀ puts₀ s ≡ entriesLie series n puts s))
 
 abbrev μ-loop : tie.MeasureT-loop
 μ-loop series values s count puts₀ n₀ puts n = n
@@ -55,27 +55,27 @@ part-is c =
 long : (c : tie.After-e Inv-loop μ-loop) → length (bytes c) ≡ entryN
 long c = rw (part-is c) at (part-long c)
 
-found : (c : tie.After-entry-right Inv-loop μ-loop) → c .entry-right .result ≡ entryHeld (start (turn (c .before)) .args .series) (bytes (c .before))
-found c = c .entry-right .ensures ∙ ap (entryHeld (start (turn (c .before)) .args .series)) (part-is (c .before))
+found : (c : tie.After-entry-right Inv-loop μ-loop) → c .entry-right .result ≡ entryLies (start (turn (c .before)) .args .series) (bytes (c .before))
+found c = c .entry-right .ensures ∙ ap (entryLies (start (turn (c .before)) .args .series)) (part-is (c .before))
 
 abbrev flags : tie.After-e Inv-loop μ-loop → List Bool
 flags c = turn c .loop .puts
 
 abbrev All : tie.At-loop Inv-loop μ-loop → Bool → Type 0
-All c answer = let a = start c .args in entriesHeld (a .series) (a .count) (putsOf (valuesIn (a .values .now))) (a .s .now) ≡ answer
+All c answer = let a = start c .args in entriesLie (a .series) (a .count) (putsOf (valuesIn (a .values .now))) (a .s .now) ≡ answer
 
-so-far : (c : tie.At-loop Inv-loop μ-loop) → All c (entriesHeld (start c .args .series) (c .loop .n) (c .loop .puts) (start c .args .s .now))
+so-far : (c : tie.At-loop Inv-loop μ-loop) → All c (entriesLie (start c .args .series) (c .loop .n) (c .loop .puts) (start c .args .s .now))
 so-far c = rw (c .before .puts-in .ensures) at (c .loop .inv .1 .1)
 
 begun : (c : tie.At-loop Inv-loop μ-loop) → let a = start c .args in
-    entriesHeld (a .series) (a .count) (c .before .puts-in .result) (a .s .now) ≡ entriesHeld (a .series) (a .count) (putsOf (valuesIn (a .values .now))) (a .s .now)
-begun c = let a = start c .args in ap (λ (p : List Bool). entriesHeld (a .series) (a .count) p (a .s .now)) (c .before .puts-in .ensures)
+    entriesLie (a .series) (a .count) (c .before .puts-in .result) (a .s .now) ≡ entriesLie (a .series) (a .count) (putsOf (valuesIn (a .values .now))) (a .s .now)
+begun c = let a = start c .args in ap (λ (p : List Bool). entriesLie (a .series) (a .count) p (a .s .now)) (c .before .puts-in .ensures)
 
 step : (c : tie.After-e Inv-loop μ-loop) → let e = entryIn (bytes c) in
     let a = start (turn c) .args in
     All (turn c)
-    (entryHeld (a .series) (bytes c)
-    && (backRight (flags c) (e .item) && entriesHeld (a .series) (turn c .loop .n - 1) (putsBack (flags c) (e .item) (e .former .kept)) (a .s .now)))
+    (entryLies (a .series) (bytes c)
+    && (backRight (flags c) (e .item) && entriesLie (a .series) (turn c .loop .n - 1) (putsBack (flags c) (e .item) (e .former .kept)) (a .s .now)))
 step c =
     let a = start (turn c) .args in
     so-far (turn c) ∙ entries-turn (a .series) (turn c .loop .n) (flags c) (a .s .now) (c .before .loop-test .taken)
@@ -85,7 +85,7 @@ returns c = sym (step (c .before .before) ∙ and-off _ (failed (found (c .befor
 
 -- the entry may stand
 
-held : (c : tie.Else1 Inv-loop μ-loop) → entryHeld (start (turn (c .before .before)) .args .series) (bytes (c .before .before)) ≡ true
+held : (c : tie.Else1 Inv-loop μ-loop) → entryLies (start (turn (c .before .before)) .args .series) (bytes (c .before .before)) ≡ true
 held c = passed (found (c .before)) (c .if1 .left)
 
 -- and is of a value
@@ -124,9 +124,9 @@ loop-again c =
     let a = start (turn e) .args in
     let flagged : putsBack (flags e) (entryIn (bytes e) .item) (entryIn (bytes e) .former .kept) ≡ set (flags e) (at .place-of .result) (eqb (getD (part e) 3 0) 1) =
     back at .1 ∙ (λ i. set (flags e) (sym (place at) i) (eqb (getD (sym (part-is e) i) 3 0) 1)) in
-    let left : entriesHeld (a .series) (a .count) (turn e .before .puts-in .result) (a .s .now)
-    ≡ entriesHeld (a .series) (turn e .loop .n - 1) (set (flags e) (at .place-of .result) (eqb (getD (part e) 3 0) 1)) (a .s .now) =
-    begun (turn e) ∙ more ∙ ap (λ (p : List Bool). entriesHeld (a .series) (turn e .loop .n - 1) p (a .s .now)) flagged in
+    let left : entriesLie (a .series) (a .count) (turn e .before .puts-in .result) (a .s .now)
+    ≡ entriesLie (a .series) (turn e .loop .n - 1) (set (flags e) (at .place-of .result) (eqb (getD (part e) 3 0) 1)) (a .s .now) =
+    begun (turn e) ∙ more ∙ ap (λ (p : List Bool). entriesLie (a .series) (turn e .loop .n - 1) p (a .s .now)) flagged in
     (omega (arith, turn e .loop .inv .0), (rw length-set (turn e .loop .inv .1 .0), left))
 
 loop-again-2 : tie.Need-loop-again-2 Inv-loop μ-loop
@@ -136,7 +136,7 @@ loop-again-2 c =
     let a = start (turn e) .args in
     let one : getD (bytes e) 0 0 ≡ 2 → ⊥ = λ q. c .if2 .left (ap (λ (l : List ℕ). getD l 0 0) (part-is e) ∙ q) in
     let other = back-set (a .series) (bytes e) (long e) (flags e) (held right) one in
-    let more = step e ∙ and-on (held right) ∙ and-on (other .0) ∙ ap (λ (p : List Bool). entriesHeld (a .series) (turn e .loop .n - 1) p (a .s .now)) (other .1) in
+    let more = step e ∙ and-on (held right) ∙ and-on (other .0) ∙ ap (λ (p : List Bool). entriesLie (a .series) (turn e .loop .n - 1) p (a .s .now)) (other .1) in
     (omega (arith, turn e .loop .inv .0), (turn e .loop .inv .1 .0, begun (turn e) ∙ more))
 
 returns-3 : tie.Need-returns-3 Inv-loop μ-loop

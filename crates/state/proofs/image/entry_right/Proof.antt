@@ -1,5 +1,5 @@
 -- `entry_right` meets its contract: by the first byte.
-use mathlib.Core.Path.{_≡_, sym, _∙_}
+use mathlib.Core.Path.{sym, _∙_}
 use borrow.Author.Needs.{needs}
 use borrow.Author.Tests.{lt-ltb, le-ltb, eq-eqb, ne-eqb}
 use Rattle.figures.proofs.Tests.{passed, failed, and-on, and-off}

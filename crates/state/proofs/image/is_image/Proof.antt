@@ -1,7 +1,7 @@
 -- `is_image` meets its contract: the tests on the way are those of an image, in their order.
-use Prim.Native.Nat.{ℕ, _+_, _-_, _*_, _<_, _≤_}
-use mathlib.Core.Path.{_≡_, refl, sym, ap, _∙_}
-use mathlib.Core.Bool.{Bool, true, false, _&&_}
+use Prim.Native.Nat.{ℕ, _+_, _-_, _*_, _≤_}
+use mathlib.Core.Path.{_≡_, sym, ap, _∙_}
+use mathlib.Core.Bool.{Bool, _&&_}
 use mathlib.Core.List.{List}
 use native.Mathlib.Omega.{arith}
 use borrow.Author.Needs.{needs}
@@ -16,7 +16,7 @@ use Rattle.instrument.specs.Values.{valuesN}
 use Rattle.instrument.specs.declared.settings.Series.{Series}
 use Rattle.state.specs.Entries.{entriesN}
 use Rattle.state.specs.Image.{formOf, entryN, valuesAt, countAt, entriesAt, restN, imageN, valuesIn, countFrom, seriesIn, isImage}
-use Rattle.state.specs.Keeping.{putsOf, valuesHeld, entriesHeld, allZeros, restRight, isImageBy}
+use Rattle.state.specs.Keeping.{putsOf, valuesLie, entriesLie, allZeros, restRight, isImageBy}
 use Rattle.state.proofs.Judging.{image-by}
 use Rattle.state.proofs.image.is_image.Statement.{statement}
 use Rattle.state.proofs.image.is_image.Tie as tie
@@ -94,8 +94,8 @@ rest-long c = length-drop (valuesAt (series (c .before .before .before .before))
 lent-long : (c : tie.After-rest) → length (lent c) ≡ restN
 lent-long c = ap length (lent-is c) ∙ rest-long (c .before .before .before .before .before .before .before .before)
 
-values : (c : tie.After-values-right) → c .values-right .result ≡ valuesHeld 0 valuesN (take countAt (rest (c .before .before .before .before .before .before .before .before .before .before .before .before .before .before)))
-values c = c .values-right .ensures ∙ ap (λ (l : List ℕ). valuesHeld 0 valuesN (take countAt l)) (lent-is (c .before .before))
+values : (c : tie.After-values-right) → c .values-right .result ≡ valuesLie 0 valuesN (take countAt (rest (c .before .before .before .before .before .before .before .before .before .before .before .before .before .before)))
+values c = c .values-right .ensures ∙ ap (λ (l : List ℕ). valuesLie 0 valuesN (take countAt l)) (lent-is (c .before .before))
 
 returns-4 : tie.Need-returns-4
 returns-4 c = sym (after-3 (c .before .before .before .before) ∙ and-off _ (failed (values (c .before)) (c .if4 .taken)))
@@ -107,7 +107,7 @@ abbrev count : tie.Start → ℕ
 count c = countFrom (rest c)
 
 abbrev stands : tie.Start → Bool
-stands c = entriesHeld (series c) (count c) (putsOf (valuesIn (take countAt (rest c)))) (entries c)
+stands c = entriesLie (series c) (count c) (putsOf (valuesIn (take countAt (rest c)))) (entries c)
 
 counted : (c : tie.After-count-in) → c .count-in .result ≡ count (c .before .before .before .before .before .before .before .before .before .before .before .before .before .before .before .before)
 counted c =
@@ -149,8 +149,8 @@ returns-7 c =
     let n = counted (c .before .before .before .before .before .before .before) in
     let l = lent-is (c .before .before .before .before .before .before .before .before .before .before .before) in
     c .entries-right .ensures
-    ∙ (λ i. entriesHeld (k i) (n i) (putsOf (valuesIn (take countAt (l i)))) (take (restN - entriesAt) (drop entriesAt (l i))))
-    ∙ ap (entriesHeld (series s) (count s) (putsOf (valuesIn (take countAt (rest s))))) all
+    ∙ (λ i. entriesLie (k i) (n i) (putsOf (valuesIn (take countAt (l i)))) (take (restN - entriesAt) (drop entriesAt (l i))))
+    ∙ ap (entriesLie (series s) (count s) (putsOf (valuesIn (take countAt (rest s))))) all
     ∙ sym (after-5 (c .before .before .before .before .before .before) ∙ and-on (passed (zeros (c .before .before .before .before)) (c .before .before .before .if6 .left)))
 
 pub is-image-spec : {M : Type 1} → statement M

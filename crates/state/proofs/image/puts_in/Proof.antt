@@ -1,6 +1,6 @@
 -- `puts_in` meets its contract. The loop's invariant: the flags before the i-th are set.
-use Prim.Native.Nat.{ℕ, _≤_, _-_, _*_}
-use mathlib.Core.Path.{_≡_, refl, sym, ap, _∙_}
+use Prim.Native.Nat.{_≤_, _-_, _*_}
+use mathlib.Core.Path.{_≡_, refl, ap, _∙_}
 use mathlib.Core.Bool.{Bool}
 use native.Mathlib.Nat.{add-zero}
 use native.Mathlib.Omega.{arith}

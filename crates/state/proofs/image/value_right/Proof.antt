@@ -1,5 +1,5 @@
 -- `value_right` meets its contract: by the first byte.
-use mathlib.Core.Path.{_≡_, sym, _∙_}
+use mathlib.Core.Path.{sym, _∙_}
 use borrow.Author.Needs.{needs}
 use Rattle.state.proofs.Held.{value-never, value-put, value-none}
 use Rattle.state.proofs.image.value_right.Statement.{statement}

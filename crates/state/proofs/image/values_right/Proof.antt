@@ -1,20 +1,20 @@
 -- `values_right` meets its contract. The loop's invariant: the answer turns on the values that are left.
-use Prim.Native.Nat.{ℕ, _≤_, _+_, _-_, _*_}
+use Prim.Native.Nat.{_≤_, _+_, _-_, _*_}
 use mathlib.Core.Path.{_≡_, refl, sym, _∙_}
 use mathlib.Core.Bool.{_&&_}
 use native.Mathlib.Omega.{arith}
-use lib.ListN.{length, take, drop}
+use lib.ListN.{take, drop}
 use Rattle.figures.proofs.Tests.{passed, failed, and-on, and-off}
 use Rattle.instrument.specs.Values.{valuesN}
 use Rattle.state.specs.Image.{valueN}
-use Rattle.state.specs.Keeping.{valueRight, valuesHeld}
+use Rattle.state.specs.Keeping.{valueLies, valuesLie}
 use Rattle.state.proofs.Laying.{row-long}
-use Rattle.state.proofs.Held.{values-held, values-done}
+use Rattle.state.proofs.Held.{values-lie, values-done}
 use Rattle.state.proofs.image.values_right.Statement.{statement}
 use Rattle.state.proofs.image.values_right.Tie as tie
 
 abbrev Inv-loop : tie.InvT-loop
-Inv-loop s i₀ i = (i ≤ valuesN) × (valuesHeld 0 valuesN s ≡ valuesHeld i (valuesN - i) (drop (i * valueN) s))
+Inv-loop s i₀ i = (i ≤ valuesN) × (valuesLie 0 valuesN s ≡ valuesLie i (valuesN - i) (drop (i * valueN) s))
 
 abbrev μ-loop : tie.MeasureT-loop
 μ-loop s i₀ i = valuesN - i
@@ -26,7 +26,7 @@ value-right-requires c κs =
 
 -- what a turn found of its value
 found : (c : tie.After-value-right Inv-loop μ-loop) → let at = c .before .before .before in
-    c .value-right .result ≡ valueRight (at .loop .i) (take valueN (drop (at .loop .i * valueN) (at .before .before .args .s .now)))
+    c .value-right .result ≡ valueLies (at .loop .i) (take valueN (drop (at .loop .i * valueN) (at .before .before .args .s .now)))
 found c =
     let i = c .before .before .before .loop .i in
     let w : i * 11 + 11 - i * 11 ≡ 11 = omega arith in
@@ -35,11 +35,11 @@ found c =
 turn : (c : tie.After-value-right Inv-loop μ-loop) → let at = c .before .before .before in
     let l = at .before .before .args .s .now in
     let i = at .loop .i in
-    valuesHeld 0 valuesN l
-    ≡ valueRight i (take valueN (drop (i * valueN) l)) && valuesHeld (i + 1) (valuesN - (i + 1)) (drop ((i + 1) * valueN) l)
+    valuesLie 0 valuesN l
+    ≡ valueLies i (take valueN (drop (i * valueN) l)) && valuesLie (i + 1) (valuesN - (i + 1)) (drop ((i + 1) * valueN) l)
 turn c =
     let at = c .before .before .before in
-    at .loop .inv .1 ∙ values-held valuesN (at .loop .i) (at .before .before .args .s .now) (c .before .before .loop-test .taken)
+    at .loop .inv .1 ∙ values-lie valuesN (at .loop .i) (at .before .before .args .s .now) (c .before .before .loop-test .taken)
 
 returns : tie.Need-returns Inv-loop μ-loop
 returns c = sym (turn (c .before) ∙ and-off _ (failed (found (c .before)) (c .if1 .taken)))
