@@ -1,4 +1,4 @@
--- The claims: every trial of document 01's table holds, and of the level's two, by computing. Assumes nothing.
+-- The claims: every trial of document 01's table holds, and of the level's two, and how replies end; by computing. Assumes nothing.
 use mathlib.Core.Path.{refl}
 use lib.ListN.{drop}
 use Rattle.figures.specs.Bytes.{among, every, runOf, startsWith}
@@ -9,8 +9,9 @@ use Rattle.instrument.specs.Rows.{seek}
 use Rattle.instrument.specs.Settings.{rows100}
 use Rattle.instrument.specs.Values.{stored}
 use Rattle.commands.specs.Shapes.{groupsRight, indexesIn}
+use Rattle.lines.specs.Sessions.{session}
 use Rattle.units.specs.declared.kinds.Family.the-variants.{Station, Level}
-use Rattle.bench.specs.Readings.{All, table}
+use Rattle.bench.specs.Readings.{All, table, Ends}
 use Rattle.bench.specs.Levels.{listing, levels}
 
 pub readings : All Station table
@@ -19,6 +20,10 @@ readings =
     let later : All Station (drop 9 table) =
     ((refl, refl), ((refl, refl), ((refl, refl), ((refl, refl), ((refl, refl), ((refl, refl), ((refl, refl), tt))))))) in
     ((refl, refl), ((refl, refl), ((refl, refl), ((refl, refl), ((refl, refl), ((refl, refl), ((refl, refl), ((refl, refl), ((refl, refl, refl), later)))))))))
+
+pub ends : Ends
+unfolding every startsWith numberFrom digitsOf runOf seek rows100 session
+ends = record { to-cr = refl; from-cr = refl; again = refl }
 
 pub level-listing : All Level listing
 unfolding among every numberFrom blockFrom

@@ -4,7 +4,7 @@ use Prim.Native.Nat.{ℕ, _+_, _-_}
 use Prim.Native.String.{String}
 use mathlib.Core.Path.{_≡_}
 use mathlib.Core.Bool.{Bool, false}
-use mathlib.Core.List.{List, [], _∷_, _++_, map}
+use mathlib.Core.List.{List, [], _∷_, _++_}
 use lib.ListN.{replicate}
 use Rattle.figures.specs.Text.{codes, starBytes}
 use Rattle.units.specs.Counts.{whole, metres, feet, zeroWhole}
@@ -17,14 +17,9 @@ use Rattle.blocks.specs.Judging.{firstAt}
 use Rattle.blocks.specs.declared.answers.Answer.{Answer}
 use Rattle.instrument.specs.Settings as own
 use Rattle.instrument.specs.declared.settings.Series.the-variants.{Tps100}
-use Rattle.state.specs.Entries.{factoryState}
-use Rattle.state.specs.declared.entries.State.{State}
-use Rattle.lines.specs.Machine.{step}
-use Rattle.lines.specs.Sessions.{after}
 use Rattle.sheets.specs.Sheet.{sheetOf}
 use Rattle.sheets.specs.Loading.{right, loadingOf}
-use Rattle.sheets.specs.Playing.{replyRoom}
-use Rattle.bench.specs.Readings.{Trial, returned, refused, word, read, one, countWord, minus-mm}
+use Rattle.bench.specs.Readings.{Trial, returned, refused, word, read, one, countWord, minus-mm, sent, replies}
 
 abbrev pub minusNought : Whole
 minusNought = whole 1 0
@@ -86,13 +81,6 @@ beside =
     ∷ refused (word "21.104-00000600 ") 10 7
     ∷ refused (word "11....-00000000 ") 7 6
     ∷ []
-
--- a fresh stand-in after lines, each with its CR and 306 bytes of room, and its reply to one more
-abbrev pub sent : List String → State
-sent lines = after (factoryState Tps100) (map (λ l. record { line = word l; room = replyRoom }) lines)
-
-abbrev pub replies : List String → String → List ℕ
-replies lines l = step (sent lines) (word l) replyRoom .reply
 
 abbrev pub put : String
 put = "PUT/83...0-00000000 "

@@ -23,8 +23,10 @@ use Rattle.blocks.specs.declared.answers.Answer.the-variants.{Refused, Read}
 use Rattle.blocks.specs.declared.answers.Wrote.the-variants.{Written}
 use Rattle.instrument.specs.declared.settings.Series.the-variants.{Tps100}
 use Rattle.state.specs.Entries.{factoryState}
+use Rattle.state.specs.declared.entries.State.{State}
 use Rattle.lines.specs.Verdicts.{verdictNumber, verdictWhich, verdictByte}
 use Rattle.lines.specs.Machine.{Outcome, step}
+use Rattle.lines.specs.Sessions.{after}
 use Rattle.sheets.specs.Playing.{replyRoom}
 
 -- what a word gives: "index, information and value, and text where there is text", its value by the typed count
@@ -152,3 +154,16 @@ table =
     ∷ line "GET/I/WI88" 27 "@W127"  -- P10
     ∷ line "UNDO" 29 "@W127"  -- P11
     ∷ []
+
+-- a fresh stand-in after lines, each with its CR and 306 bytes of room, and its reply to one more
+abbrev pub sent : List String → State
+sent lines = after (factoryState Tps100) (map (λ l. record { line = word l; room = replyRoom }) lines)
+
+abbrev pub replies : List String → String → List ℕ
+replies lines l = step (sent lines) (word l) replyRoom .reply
+
+-- "Each reply ends as setting 73 said before the line (0 CR, 1 CR LF)", that to a SET of 73 too
+pub record Ends : Type 0 where
+  pub to-cr : replies [] "SET/73/0" ≡ codes "?\r\n"
+  pub from-cr : replies ("SET/73/0" ∷ []) "SET/73/1" ≡ codes "?\r"
+  pub again : replies ("SET/73/0" ∷ "SET/73/1" ∷ []) "CONF/73" ≡ codes "0073/0001\r\n"

@@ -18,9 +18,8 @@ use lines::verdicts::Verdict;
 use lines::verdicts::verdict_byte;
 use lines::verdicts::verdict_number;
 use lines::verdicts::verdict_which;
-use state::entries::factory;
 use state::image::IMAGE_100;
-use state::image::encode;
+use state::laying::put_factory;
 use units::kinds::Family;
 use words::records::Word;
 
@@ -103,7 +102,7 @@ fn send_line(image: &mut [u8], text: &[u8]) {
 }
 
 fn renew(image: &mut [u8]) {
-    encode(factory(Series::Tps100), image);
+    put_factory(Series::Tps100, image);
 }
 
 // Sends the line 64 times and counts how often it is accepted.

@@ -9,11 +9,10 @@ use lines::machine::line;
 use lines::verdicts::verdict_byte;
 use lines::verdicts::verdict_number;
 use lines::verdicts::verdict_which;
-use state::entries::factory;
 use state::image::IMAGE_100;
 use state::image::IMAGE_300;
-use state::image::encode;
 use state::image::image_size;
+use state::laying::put_factory;
 
 // Gives what a line tells, each part in its own bits: the bytes of its reply, and for 26 which rule the word breaks and the byte of the line.
 fn line_tells(told: Told) -> u64
@@ -58,7 +57,7 @@ fn lay_factory(series: Series, image: &mut [u8]) -> u64
     if image.len() != image_size(series) {
         return 31 * 4294967296;
     }
-    encode(factory(series), image);
+    put_factory(series, image);
     0
 }
 

@@ -2,7 +2,7 @@
 -- the count.
 use Prim.Native.Nat.{ℕ, zero, suc, _+_, _-_, _<_}
 use mathlib.Core.Path.{_≡_, refl, sym, ap, _∙_}
-use mathlib.Core.Bool.{true, false, _&&_, false≢true}
+use mathlib.Core.Bool.{true, false, _&&_}
 use native.Mathlib.Nat.{zero-add}
 use native.Mathlib.Numerals.{add-one}
 use native.Mathlib.Omega.{arith}
@@ -14,17 +14,13 @@ use Rattle.figures.proofs.Tests.{both}
 use Rattle.instrument.specs.Settings.{rowAt, heldRows, isAsked, inRange, inRanges, settingsN}
 use Rattle.instrument.specs.Values.{isPut, keptRight, valuesN}
 use Rattle.instrument.specs.declared.settings.Series.{Series}
-use Rattle.instrument.specs.declared.values.Kept.{Kept}
-use Rattle.instrument.specs.declared.values.Kept.the-variants.{Never, Put}
+use Rattle.instrument.specs.declared.values.Kept.the-variants.{Never}
 use Rattle.instrument.specs.declared.values.Value.{Value}
 use Rattle.instrument.proofs.Ranges.{place-row, ranges-long, held-rows-long, settings-few}
-use Rattle.state.specs.Entries.{entriesN, valueOf, valueHeld, blankEntry, isNever, isFree, isBlank, allBlank, Contents, contentsOf, valuesRight, contentsRight}
+use Rattle.state.specs.Entries.{entriesN, valueOf, valueHeld, blankEntry, isBlank, allBlank, Contents, contentsOf, valuesRight, contentsRight}
 use Rattle.state.specs.Entries.{contentsBack, mayGoBack, isState}
-use Rattle.state.specs.declared.entries.Item.{Item}
-use Rattle.state.specs.declared.entries.Item.the-variants.{Free, Setting, Stored}
-use Rattle.state.specs.declared.entries.Entry.{Entry}
 use Rattle.state.specs.declared.entries.State.{State}
-use Rattle.state.proofs.Steps.{all-of, state-parts, parts-state, ranges-set, values-set, back-now, back-newest, back-past, back-more, past-more, past-less, none-state}
+use Rattle.state.proofs.Steps.{all-of, state-parts, parts-state, ranges-set, values-set, back-now, back-newest, back-past, back-more, past-more, past-less, blank-is, none-state}
 use Rattle.lines.specs.Orders.{stateWith, Change, setTo, putTo, stores, entryFor, changedBy, undoOf}
 use Rattle.lines.specs.Orders.{Deed, asks, changes, undoes, keeps, doneOf}
 
@@ -103,26 +99,6 @@ changed-state s d is m =
     })
 
 -- the newest taken back
-
-free-is : (i : Item) → isFree i ≡ true → i ≡ Free
-free-is Free e = refl
-free-is (Setting i) e = absurd (false≢true e)
-free-is (Stored i) e = absurd (false≢true e)
-
-never-is : (k : Kept) → isNever k ≡ true → k ≡ Never
-never-is Never e = refl
-never-is (Put u m d) e = absurd (false≢true e)
-
-blank-is : (e : Entry) → isBlank e ≡ true → e ≡ blankEntry
-blank-is e h =
-    let parameter = eqb (e .former .parameter) 0 in
-    let kept = isNever (e .former .kept) in
-    let (free, rest) = both (isFree (e .item)) (parameter && kept) h in
-    let (nought, never) = both parameter kept rest in
-    let i = free-is (e .item) free in
-    let p = eqb-true (e .former .parameter) 0 nought in
-    let k = never-is (e .former .kept) never in
-    λ j. record { item = i j; former = record { parameter = p j; kept = k j } }
 
 pub undo-changed : (s : State) (d : Change) → isState s ≡ true → s .count < entriesN → undoOf (changedBy s d) ≡ s
 unfolding allBlank

@@ -23,8 +23,8 @@ use commands::shapes::end_of;
 use commands::shapes::is_plain;
 use commands::shapes::order_of;
 use instrument::settings::Series;
-use state::image::is_image;
 use state::image::series_in;
+use state::judging::is_image;
 
 // The verdict, and how many bytes of reply were written.
 pub struct Told {

@@ -28,14 +28,14 @@ use state::entries::blank_entry;
 use state::image::COUNT_AT;
 use state::image::ENTRIES_AT;
 use state::image::REST;
-use state::image::clear;
 use state::image::count_in;
-use state::image::put_count;
-use state::image::put_entry;
-use state::image::put_parameter;
-use state::image::put_value;
 use state::image::state_of;
 use state::image::values_at;
+use state::laying::clear;
+use state::laying::put_count;
+use state::laying::put_entry;
+use state::laying::put_parameter;
+use state::laying::put_value;
 
 fn byte(n: usize) -> u8
     requires { ⌜ n < 256 ⌝ }

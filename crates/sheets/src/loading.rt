@@ -28,10 +28,10 @@ use instrument::values::VALUES;
 use instrument::values::Value;
 use instrument::values::parts_right;
 use instrument::values::stored_at;
-use state::image::clear;
-use state::image::is_image;
-use state::image::put_contents;
 use state::image::series_in;
+use state::judging::is_image;
+use state::laying::clear;
+use state::laying::put_contents;
 
 // How far the lines of a part were right: the start of the first wrong one, or the place past the last.
 pub enum Came {
@@ -320,9 +320,6 @@ fn load_as(series: Series, image: &mut [u8], sheet: &[u8]) -> Sheeted
         }
         Came::To(at) => at,
     };
-    if sheet.len() < at {
-        return Sheeted::Wrong(at);
-    }
     let second = values_in(sheet, at);
     let next = second.came;
     let end = match next {

@@ -10,9 +10,8 @@ use crate::writing::write;
 use instrument::settings::Series;
 use lines::machine::line;
 use pieces::cut;
-use state::entries::factory;
 use state::image::IMAGE_100;
-use state::image::encode;
+use state::laying::put_factory;
 
 // The most bytes that an input may have.
 pub const MOST: usize = 65_536;
@@ -43,8 +42,7 @@ pub fn play(input: &[u8], room: &mut [u8]) -> usize
         return 14;
     }
     let mut image = [0; IMAGE_100];
-    let series = Series::Tps100;
-    encode(factory(series), &mut image);
+    put_factory(Series::Tps100, &mut image);
     run(input, &mut image);
     let answer = write(&image, room);
     if let Sheeted::Written(n) = answer {

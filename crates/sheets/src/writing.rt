@@ -22,10 +22,10 @@ use instrument::values::VALUES;
 use instrument::values::get_word;
 use instrument::values::is_put;
 use instrument::values::stored_at;
-use state::image::is_image;
 use state::image::parameter_in;
 use state::image::series_in;
 use state::image::value_in;
+use state::judging::is_image;
 
 // The length of the first line, which names the series.
 pub(crate) const HEAD: usize = 14;

@@ -17,10 +17,9 @@ use sheets::answers::Sheeted;
 use sheets::answers::sheet_number;
 use sheets::answers::sheet_tells;
 use sheets::loading::load;
-use state::entries::factory;
 use state::image::IMAGE_100;
 use state::image::IMAGE_300;
-use state::image::encode;
+use state::laying::put_factory;
 
 fn put(text: &[u8]) {
     io::write_all(STDERR_FILENO, text);
@@ -199,7 +198,7 @@ fn asked(arguments: usize, name: &[u8], sheet: &mut [u8]) -> Start {
 // Lays the series' factory state down, and loads the sheet where there is one; answers whether to play.
 fn ready(image: &mut [u8], start: Start, path: &[u8], sheet: &[u8]) -> bool {
     let series = start.series;
-    encode(factory(series), image);
+    put_factory(series, image);
     if !start.loads {
         return true;
     }

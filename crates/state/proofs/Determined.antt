@@ -6,7 +6,7 @@ use Prim.Native.Nat.{ℕ, _+_, _≤_}
 use lib.ListN.{getD}
 use Rattle.figures.specs.Promises.{Determined}
 use Rattle.figures.proofs.Determined.{by-equation}
-use Rattle.state.specs.Entries.{blankEntry, noEntries, factoryState}
+use Rattle.state.specs.Entries.{blankEntry, factoryState}
 use Rattle.state.specs.Image.{valuesAt, imageN, seriesIn, isImage, encodedIn}
 use Rattle.state.specs.Keeping.{countIn, storedIn, stateOf, parameterLaid, valueLaid, entryLaid, countLaid, cleared, contentsLaid}
 use Rattle.instrument.specs.declared.settings.Series.{Series}
@@ -18,17 +18,8 @@ use Rattle.state.specs.declared.entries.State.{State}
 pub blank-entry-determined : Determined (Unit {0}) Entry (λ i r. r ≡ blankEntry)
 blank-entry-determined = by-equation (Unit {0}) Entry (λ i. blankEntry)
 
-pub with-no-entries-determined : Determined (Series × List ℕ × List Value) State (λ i r. r ≡ noEntries (i .0) (i .1) (i .2))
-with-no-entries-determined = by-equation (Series × List ℕ × List Value) State (λ i. noEntries (i .0) (i .1) (i .2))
-
-pub factory-determined : Determined Series State (λ i r. r ≡ factoryState i)
-factory-determined = by-equation Series State factoryState
-
 pub image-size-determined : Determined Series ℕ (λ i r. r ≡ imageN i)
 image-size-determined = by-equation Series ℕ imageN
-
-pub encode-determined : Determined (State × List ℕ) (List ℕ) (λ i image. image ≡ encodedIn (i .0) (i .1))
-encode-determined = by-equation (State × List ℕ) (List ℕ) (λ i. encodedIn (i .0) (i .1))
 
 pub values-at-determined : Determined Series ℕ (λ i r. (r ≡ valuesAt i) × (r ≤ 31))
 values-at-determined i r r′ p q = p .0 ∙ sym (q .0)
@@ -74,3 +65,6 @@ Contents = Series × List ℕ × List Value × List ℕ
 
 pub put-contents-determined : Determined Contents (List ℕ) (λ i image. image ≡ contentsLaid (i .0) (i .1) (i .2) (i .3))
 put-contents-determined = by-equation Contents (List ℕ) (λ i. contentsLaid (i .0) (i .1) (i .2) (i .3))
+
+pub put-factory-determined : Determined (Series × List ℕ) (List ℕ) (λ i image. image ≡ encodedIn (factoryState (i .0)) (i .1))
+put-factory-determined = by-equation (Series × List ℕ) (List ℕ) (λ i. encodedIn (factoryState (i .0)) (i .1))

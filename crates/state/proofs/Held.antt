@@ -17,7 +17,7 @@ use Rattle.instrument.specs.declared.values.Kept.the-variants.{Never}
 use Rattle.state.specs.Entries.{isNever}
 use Rattle.state.specs.Image.{valueN, entryN, keptBytes, keptIn, entryIn}
 use Rattle.state.specs.Keeping.{settable, backRight, putsBack, valueLies, valuesLie, entryLies, rowFrom, entriesLie, allZeros}
-use Rattle.state.proofs.Laying.{tab, spelt}
+use Rattle.state.proofs.Rows.{tab, spelt}
 use Rattle.state.proofs.Images.{kept-back}
 
 -- noughts

@@ -1,21 +1,21 @@
 -- Each state's image gives the state back, so each has one image and each image is of one state.
 use Prim.Native.Nat.{ℕ, zero, suc, _+_, _-_, _*_, _/_, _%_, _<_, _≤_}
 use mathlib.Core.Path.{_≡_, refl, sym, ap, _∙_}
-use mathlib.Core.Bool.{true, false, _&&_, false≢true}
+use mathlib.Core.Bool.{true, _&&_, false≢true}
 use mathlib.Core.List.{List, [], _∷_, _++_}
 use native.Mathlib.Nat.{sub-zero}
 use native.Mathlib.Omega.{arith}
 use borrow.Author.Tests.{eq-eqb, eqb-true}
 use lib.Dec.{eqb}
-use lib.ListN.{length, getD, take, drop, replicate, length-append, length-replicate, take-append-drop}
+use lib.ListN.{length, getD, take, drop, replicate, length-append, length-replicate, replicate-append-replicate, take-append-drop}
 use lib.Seq.{take-all, take-at, drop-at, drop-drop, getD-drop, length-take-le}
 use Rattle.figures.specs.Bytes.{laid, sameBytes}
 use Rattle.figures.proofs.Bytes.{same-refl, same-true, laid-fits, laid-cut}
 use Rattle.figures.proofs.Tests.{both}
 use Rattle.instrument.specs.Settings.{rows100, rows300, settingsN, settingsMost, noRow, rowsOf, held, padded, heldRows, factorySettings, inRange, inRanges}
-use Rattle.state.specs.Entries.{factoryState, entriesN, valueOf, entryOf, valuesRight, contentsOf, contentsRight, isState}
+use Rattle.state.specs.Entries.{factoryState, entriesN, valueOf, entryOf, blankEntry, valuesRight, contentsOf, contentsRight, isState}
 use Rattle.instrument.specs.Values.{valuesN}
-use Rattle.state.specs.Image.{formOf, valuesAt, countAt, entriesAt, restN, imageN, keptBytes, entryBytes, valuesBytes, entriesBytes, restOf, imageOf, encodedIn}
+use Rattle.state.specs.Image.{formOf, valueN, entryN, valuesAt, countAt, entriesAt, restN, imageN, keptBytes, entryBytes, valuesBytes, entriesBytes, restOf, imageOf, encodedIn}
 use Rattle.state.specs.Image.{keptIn, entryIn, valuesIn, entriesIn, seriesIn, stateFrom, stateAsOf, stateAs, stateIn, isImage}
 use Rattle.instrument.specs.declared.settings.Series.{Series}
 use Rattle.instrument.specs.declared.settings.Series.the-variants.{Tps100, Tps300}
@@ -29,7 +29,7 @@ use Rattle.state.specs.declared.entries.Entry.{Entry}
 use Rattle.state.specs.declared.entries.State.{State}
 use Rattle.instrument.proofs.Ranges.{settings-100, settings-300, settings-few, held-rows-long, ranges-long, range-high}
 use Rattle.state.proofs.Steps.{state-parts, back-now, none-state}
-use Rattle.state.proofs.Laying.{flat-length, rows-flat, valueBytes, valueIn}
+use Rattle.state.proofs.Rows.{flat-length, flat-zeros, rows-flat, valueBytes, valueIn}
 
 -- a row gives back what it was made of
 
@@ -83,7 +83,7 @@ pub record Shaped (s : State) : Type 0 where
 
 -- what stands past the series' own settings is nought
 
-drop-replicate : {A : Type 0} (n m : ℕ) (a : A) → drop n (replicate m a) ≡ replicate (m - n) a
+pub drop-replicate : {A : Type 0} (n m : ℕ) (a : A) → drop n (replicate m a) ≡ replicate (m - n) a
 drop-replicate zero m a = rw (sub-zero m)
 drop-replicate (suc n) zero a = let q : 0 - suc n ≡ 0 = omega arith in rw q
 drop-replicate (suc n) (suc m) a = let q : suc m - suc n ≡ m - n = omega arith in rw q (drop-replicate n m a)
@@ -283,3 +283,11 @@ factory-right Tps300 = refl
 
 pub factory-is-state : (k : Series) → isState (factoryState k) ≡ true
 factory-is-state k = none-state k (factorySettings k) (replicate valuesN (valueOf Never)) (factory-right k)
+
+-- past the settings the factory's image is blank
+pub factory-image : (k : Series) → imageOf (factoryState k) ≡ formOf k ∷ (held k (factorySettings k) ++ replicate restN 0)
+unfolding imageOf keptBytes
+factory-image k =
+    let values = flat-zeros valueBytes valueN (valueOf Never) refl valuesN in
+    let entries = flat-zeros entryBytes entryN blankEntry refl entriesN in
+    ap (λ (t : List ℕ). formOf k ∷ (held k (factorySettings k) ++ t)) (rw (values, entries) (replicate-append-replicate {A = ℕ} countAt (2 + entriesN * entryN) 0))

@@ -1,7 +1,7 @@
 pub mod Steps
-pub mod Laying
+pub mod Rows
 pub mod Images
 pub mod Held
-pub mod Judging
+pub mod Judged
 pub mod Places
 pub mod Determined

@@ -1,7 +1,7 @@
 -- What is read at the places of an image is the state's, and what is laid down there makes the image of the state so altered.
-use Prim.Native.Nat.{ℕ, _+_, _-_, _*_, _/_, _%_, _<_, _≤_}
+use Prim.Native.Nat.{ℕ, _+_, _-_, _*_, _<_, _≤_}
 use mathlib.Core.Path.{_≡_, refl, sym, ap, _∙_}
-use mathlib.Core.Bool.{Bool, true, false, cond, false≢true}
+use mathlib.Core.Bool.{Bool, true, cond}
 use mathlib.Core.List.{List, [], _∷_, _++_, append-assoc}
 use native.Mathlib.Nat.{min-eq-left}
 use native.Mathlib.Omega.{arith}
@@ -15,35 +15,22 @@ use Rattle.instrument.specs.Settings.{settingsN, settingsMost, held, padded}
 use Rattle.instrument.specs.Values.{valuesN}
 use Rattle.instrument.specs.declared.settings.Series.{Series}
 use Rattle.instrument.specs.declared.values.Kept.{Kept}
-use Rattle.instrument.specs.declared.values.Kept.the-variants.{Never, Put}
+use Rattle.instrument.specs.declared.values.Kept.the-variants.{Never}
 use Rattle.instrument.specs.declared.values.Value.{Value}
 use Rattle.instrument.proofs.Ranges.{settings-few}
-use Rattle.state.specs.Entries.{entriesN, valueOf, valueHeld, entryOf, blankEntry, noEntries, isBlank, allBlank, isState}
-use Rattle.state.specs.Image.{formOf, valueN, entryN, valuesAt, countAt, entriesAt, restN, imageN, keptBytes, entryBytes, valuesBytes, entriesBytes, restOf, imageOf}
+use Rattle.state.specs.Entries.{entriesN, valueOf, valueHeld, blankEntry, noEntries, isBlank, allBlank, isState}
+use Rattle.state.specs.Image.{formOf, valueN, entryN, valuesAt, countAt, entriesAt, restN, imageN, keptBytes, entryBytes, countBytes, valuesBytes, entriesBytes, restOf, imageOf}
 use Rattle.state.specs.Image.{entryIn, valuesIn, entriesIn, seriesIn, stateAsOf, stateAs, stateIn}
 use Rattle.state.specs.Keeping.{Imaged, countIn, storedIn, valuesRead, entriesRead, stateOf}
 use Rattle.state.specs.Keeping.{laidAt, parameterLaid, valueLaid, entryLaid, countLaid, cleared, contentsLaid}
-use Rattle.state.specs.declared.entries.Item.{Item}
-use Rattle.state.specs.declared.entries.Item.the-variants.{Free, Setting, Stored}
 use Rattle.state.specs.declared.entries.Entry.{Entry}
 use Rattle.state.specs.declared.entries.State.{State}
-use Rattle.state.proofs.Steps.{state-parts}
-use Rattle.state.proofs.Laying.{row-at, rows-first, rows-long, row-in, valueBytes, valueIn}
-use Rattle.state.proofs.Laying.{laid-after, laid-before, laid-all, byte-laid, row-laid, flat-append, flat-length, flat-zeros}
+use Rattle.state.proofs.Steps.{state-parts, blank-is}
+use Rattle.state.proofs.Rows.{row-at, rows-first, rows-long, row-in, valueBytes, valueIn}
+use Rattle.state.proofs.Rows.{laid-after, laid-before, laid-all, byte-laid, row-laid, flat-append, flat-length, flat-zeros}
 use Rattle.state.proofs.Images.{Shaped, shaped, imaged, image-of, padded-is, length-held, length-values, kept-back, value-back, entry-back}
 
--- there is one blank entry
-
-pub blank-is : (e : Entry) → isBlank e ≡ true → e ≡ blankEntry
-blank-is e = by (e .item) (e .former .parameter) (e .former .kept)
-  where
-    by : (i : Item) (p : ℕ) (k : Kept) → isBlank (entryOf i p k) ≡ true → entryOf i p k ≡ blankEntry
-    by Free p Never h = ap (λ (q : ℕ). entryOf Free q Never) (eqb-true p 0 (both (eqb p 0) true h .0))
-    by Free p (Put u m d) h = absurd (false≢true (both (eqb p 0) false h .1))
-    by (Setting i) p k h = absurd (false≢true h)
-    by (Stored i) p k h = absurd (false≢true h)
-
-pub blanks-are : (u : List Entry) → allBlank u ≡ true → u ≡ replicate (length u) blankEntry
+blanks-are : (u : List Entry) → allBlank u ≡ true → u ≡ replicate (length u) blankEntry
 unfolding allBlank
 blanks-are [] h = refl
 blanks-are (e ∷ u) h =
@@ -127,9 +114,6 @@ front s = formOf (s .series) ∷ held (s .series) (s .settings)
 abbrev stored : State → List ℕ
 stored s = valuesBytes (s .values)
 
-abbrev counted : ℕ → List ℕ
-counted n = (n / 256 % 256) ∷ (n % 256) ∷ []
-
 abbrev listed : State → List ℕ
 listed s = entriesBytes (s .undo)
 
@@ -193,13 +177,13 @@ module _ (s : State) (h : Shaped s) where
   past-values q w r =
       past-front (countAt + q) w (stored s ++ r) ∙ ap (λ (t : List ℕ). front s ++ t) (laid-after countAt q w (stored s) r stored-long)
 
-  past-count : (q : ℕ) (w : List ℕ) → laidAt (valuesAt (s .series) + entriesAt + q) w (imageOf s) ≡ front s ++ (stored s ++ (counted (s .count) ++ laidAt q w (listed s)))
+  past-count : (q : ℕ) (w : List ℕ) → laidAt (valuesAt (s .series) + entriesAt + q) w (imageOf s) ≡ front s ++ (stored s ++ (countBytes (s .count) ++ laidAt q w (listed s)))
   unfolding imageOf
   past-count q w =
       let n : valuesAt (s .series) + entriesAt + q ≡ valuesAt (s .series) + (countAt + (2 + q)) = omega arith in
       ap (λ (j : ℕ). laidAt j w (imageOf s)) n
-      ∙ past-values (2 + q) w (counted (s .count) ++ listed s)
-      ∙ ap (λ (t : List ℕ). front s ++ (stored s ++ t)) (laid-after 2 q w (counted (s .count)) (listed s) refl)
+      ∙ past-values (2 + q) w (countBytes (s .count) ++ listed s)
+      ∙ ap (λ (t : List ℕ). front s ++ (stored s ++ t)) (laid-after 2 q w (countBytes (s .count)) (listed s) refl)
 
   -- the image with a part laid down anew
 
@@ -218,7 +202,7 @@ module _ (s : State) (h : Shaped s) where
   pub value-laid : (i : ℕ) (w : Kept) → i < valuesN → valueLaid (s .series) i w (imageOf s) ≡ imageOf (withContents s (s .settings) (set (s .values) i (valueOf w)))
   unfolding imageOf
   value-laid i w lt =
-      let r = counted (s .count) ++ listed s in
+      let r = countBytes (s .count) ++ listed s in
       let row = row-laid valueBytes valueN (λ v. value-back v .0) (s .values) i (valueOf w) (omega (arith, h .values-long)) in
       chosen (imageOf s) (lt-ltb i valuesN lt)
       ∙ past-front (i * valueN) (keptBytes w) (stored s ++ r)
@@ -231,13 +215,13 @@ module _ (s : State) (h : Shaped s) where
       let row = row-laid entryBytes entryN (λ x. entry-back x .0) (s .undo) n e (omega (arith, h .undo-long)) in
       chosen (imageOf s) (lt-ltb n entriesN lt)
       ∙ past-count (n * entryN) (entryBytes e)
-      ∙ ap (λ (t : List ℕ). front s ++ (stored s ++ (counted (s .count) ++ t))) row
+      ∙ ap (λ (t : List ℕ). front s ++ (stored s ++ (countBytes (s .count) ++ t))) row
 
   pub count-laid : (n : ℕ) → countLaid (s .series) n (imageOf s) ≡ imageOf (withEntries s (s .undo) n)
   unfolding imageOf
   count-laid n =
-      past-values 0 (counted n) (counted (s .count) ++ listed s)
-      ∙ ap (λ (t : List ℕ). front s ++ (stored s ++ t)) (laid-before 0 (counted n) (counted (s .count)) (listed s) (omega arith))
+      past-values 0 (countBytes n) (countBytes (s .count) ++ listed s)
+      ∙ ap (λ (t : List ℕ). front s ++ (stored s ++ t)) (laid-before 0 (countBytes n) (countBytes (s .count)) (listed s) (omega arith))
 
   pub contents-laid : (settings : List ℕ) (values : List Value) → length settings ≡ settingsMost → length values ≡ valuesN
       → contentsLaid (s .series) settings values (imageOf s) ≡ imageOf (withContents s settings values)
@@ -247,7 +231,7 @@ module _ (s : State) (h : Shaped s) where
       let g = held k settings in
       let v = valuesBytes values in
       let old = held k (s .settings) in
-      let r = counted (s .count) ++ listed s in
+      let r = countBytes (s .count) ++ listed s in
       let lg = length-held k settings ls in
       let lw = length-values values lv in
       let long : length (g ++ v) ≡ length (old ++ stored s) = omega (arith, length-append g v, length-append old (stored s), held-long, stored-long) in
@@ -299,7 +283,7 @@ list-cleared s h few past =
     let blank : laidAt at zeros (imageOf s) ≡ imageOf (withEntries s blanks n) =
     ap (λ (j : ℕ). laidAt j zeros (imageOf s)) here
     ∙ past-count s h 0 zeros
-    ∙ ap (λ (t : List ℕ). front s ++ (stored s ++ (counted n ++ t))) (entries-cleared (s .undo) n (h .undo-long) few past) in
+    ∙ ap (λ (t : List ℕ). front s ++ (stored s ++ (countBytes n ++ t))) (entries-cleared (s .undo) n (h .undo-long) few past) in
     chosen (imageOf s) (le-leb (at + countIn k (imageOf s) * entryN) (length (imageOf s)) (omega (arith, imaged s h .0)))
     ∙ ap (λ (j : ℕ). countLaid k 0 (laidAt at (replicate (j * entryN) 0) (imageOf s))) said
     ∙ ap (countLaid k 0) blank

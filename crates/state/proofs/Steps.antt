@@ -15,10 +15,13 @@ use Rattle.instrument.specs.Settings.{settingsN, noRow, rowAt, isAsked, inRange
 use Rattle.instrument.specs.Values.{keptRight}
 use Rattle.instrument.specs.declared.settings.Row.{Row}
 use Rattle.instrument.specs.declared.settings.Series.{Series}
+use Rattle.instrument.specs.declared.values.Kept.{Kept}
+use Rattle.instrument.specs.declared.values.Kept.the-variants.{Never, Put}
 use Rattle.instrument.specs.declared.values.Value.{Value}
-use Rattle.state.specs.Entries.{entriesN, blankEntry, noEntries, isNever, isBlank, allBlank, Contents, contentsOf, valuesRight, contentsRight}
+use Rattle.state.specs.Entries.{entriesN, entryOf, blankEntry, noEntries, isNever, isBlank, allBlank, Contents, contentsOf, valuesRight, contentsRight}
 use Rattle.state.specs.Entries.{contentsBack, mayGoBack, rightBack, isStateOf, isState}
-use Rattle.state.specs.declared.entries.Item.the-variants.{Setting}
+use Rattle.state.specs.declared.entries.Item.{Item}
+use Rattle.state.specs.declared.entries.Item.the-variants.{Free, Setting, Stored}
 use Rattle.state.specs.declared.entries.Former.{Former}
 use Rattle.state.specs.declared.entries.Entry.{Entry}
 use Rattle.state.specs.declared.entries.State.{State}
@@ -133,6 +136,16 @@ asked-never (suc n) c u i j e h is =
         let there = ltb j (settingsN (c .series)) in
         let plain = not (isAsked (rowAt (c .series) j)) in
         not-true _ (both there plain (both (there && plain) (isNever (f .kept)) may .0) .1)
+
+-- there is one blank entry
+pub blank-is : (e : Entry) → isBlank e ≡ true → e ≡ blankEntry
+blank-is e = by (e .item) (e .former .parameter) (e .former .kept)
+  where
+    by : (i : Item) (p : ℕ) (k : Kept) → isBlank (entryOf i p k) ≡ true → entryOf i p k ≡ blankEntry
+    by Free p Never h = ap (λ (q : ℕ). entryOf Free q Never) (eqb-true p 0 (both (eqb p 0) true h .0))
+    by Free p (Put u m d) h = absurd (false≢true (both (eqb p 0) false h .1))
+    by (Setting i) p k h = absurd (false≢true h)
+    by (Stored i) p k h = absurd (false≢true h)
 
 -- the entries past the count
 

@@ -78,8 +78,12 @@ valuesBytes = flat (λ (v : Value). keptBytes (v .kept))
 abbrev pub entriesBytes : List Entry → List ℕ
 entriesBytes = flat entryBytes
 
+-- two bytes, the high one first
+abbrev pub countBytes : ℕ → List ℕ
+countBytes n = (n / 256 % 256) ∷ (n % 256) ∷ []
+
 abbrev pub restOf : List Value → ℕ → List Entry → List ℕ
-restOf values count undo = valuesBytes values ++ ((count / 256 % 256) ∷ (count % 256) ∷ entriesBytes undo)
+restOf values count undo = valuesBytes values ++ (countBytes count ++ entriesBytes undo)
 
 -- series and form, settings, values, count, entries
 unfoldable pub imageOf : State → List ℕ

@@ -1,6 +1,6 @@
--- How the code keeps an image: judged where it lies, read at its places, and laid down in part. `image-by`, in proofs/Judging.antt, shows that what is
+-- How the code keeps an image: judged where it lies, read at its places, and laid down in part. `image-by`, in proofs/Judged.antt, shows that what is
 -- judged is what an image is; proofs/Places.antt, that what is read is the state's, and that what is laid down is the image of the state so altered.
-use Prim.Native.Nat.{ℕ, zero, suc, _+_, _-_, _*_, _/_, _%_, min}
+use Prim.Native.Nat.{ℕ, zero, suc, _+_, _-_, _*_, min}
 use mathlib.Core.Path.{_≡_}
 use mathlib.Core.Bool.{Bool, true, false, cond, not, _&&_}
 use mathlib.Core.List.{List, [], _∷_, _++_, map}
@@ -14,7 +14,7 @@ use Rattle.instrument.specs.declared.values.Kept.{Kept}
 use Rattle.instrument.specs.declared.values.Kept.the-variants.{Never}
 use Rattle.instrument.specs.declared.values.Value.{Value}
 use Rattle.state.specs.Entries.{entriesN, valueOf, blankEntry, isNever}
-use Rattle.state.specs.Image.{formOf, valueN, entryN, valuesAt, countAt, entriesAt, imageN, keptBytes, entryBytes, valuesBytes}
+use Rattle.state.specs.Image.{formOf, valueN, entryN, valuesAt, countAt, entriesAt, imageN, keptBytes, entryBytes, countBytes, valuesBytes}
 use Rattle.state.specs.Image.{keptIn, entryIn, rowsIn, valuesIn, countFrom, seriesIn, isImage}
 use Rattle.state.specs.declared.entries.Item.{Item}
 use Rattle.state.specs.declared.entries.Item.the-variants.{Free, Setting, Stored}
@@ -136,7 +136,7 @@ abbrev pub entryLaid : Series → ℕ → Entry → List ℕ → List ℕ
 entryLaid k n e l = cond (ltb n entriesN) (laidAt (valuesAt k + entriesAt + n * entryN) (entryBytes e) l) l
 
 abbrev pub countLaid : Series → ℕ → List ℕ → List ℕ
-countLaid k n l = laidAt (valuesAt k + countAt) ((n / 256 % 256) ∷ (n % 256) ∷ []) l
+countLaid k n l = laidAt (valuesAt k + countAt) (countBytes n) l
 
 -- the entries up to the count blank, and the count 0
 abbrev pub cleared : Series → List ℕ → List ℕ

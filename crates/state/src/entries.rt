@@ -1,11 +1,10 @@
 // The state, and its undo list: an array by value of entries, each with the item and its former content, blank past the count.
 ghost use mathlib.Core.Path.{_≡_};
-ghost use Rattle.state.specs.Entries.{noEntries, unused, blankEntry, factoryState};
+ghost use Rattle.state.specs.Entries.{blankEntry};
 ghost use Rattle.state.specs.Keeping.{settable};
 use figures::casts::wide;
 use instrument::settings::SETTINGS;
 use instrument::settings::Series;
-use instrument::settings::factory_settings;
 use instrument::settings::in_range;
 use instrument::settings::row_at;
 use instrument::settings::settings_of;
@@ -56,36 +55,6 @@ pub fn blank_entry() -> Entry
         item: item,
         former: former,
     }
-}
-
-// Makes the series' state with those settings and values and no undo entry.
-pub fn with_no_entries(series: Series, settings: [u8; SETTINGS], values: [Value; VALUES]) -> State
-    ensures { λ r. ⌜ r ≡ noEntries series settings values ⌝ }
-{
-    let entry = blank_entry();
-    let undo = [entry; ENTRIES];
-    State {
-        series: series,
-        settings: settings,
-        values: values,
-        undo: undo,
-        count: 0,
-    }
-}
-
-fn with_settings(series: Series, settings: [u8; SETTINGS]) -> State
-    ensures { λ r. ⌜ r ≡ unused series settings ⌝ }
-{
-    let kept = Kept::Never;
-    let value = Value { kept: kept };
-    with_no_entries(series, settings, [value; VALUES])
-}
-
-// Gives the factory state: no value has been put there.
-pub fn factory(series: Series) -> State
-    ensures { λ r. ⌜ r ≡ factoryState series ⌝ }
-{
-    with_settings(series, factory_settings(series))
 }
 
 fn settable_in(series: Series, place: usize, parameter: u8) -> bool

@@ -1,10 +1,6 @@
 -- `lay_factory` meets its contract: by the length.
-use mathlib.Core.Path.{ap, _∙_}
-use denote.Ref.{now}
 use borrow.Author.Needs.{needs}
 use borrow.Author.Tests.{eq-eqb, ne-eqb}
-use Rattle.state.specs.Image.{encodedIn}
-use Rattle.state.specs.declared.entries.State.{State}
 use Rattle.host.proofs.machine.lay_factory.Statement.{statement}
 use Rattle.host.proofs.machine.lay_factory.Tie as tie
 
@@ -15,11 +11,8 @@ returns c =
 
 returns-2 : tie.Need-returns-2
 returns-2 c =
-    let size = c .before .before .before .before .before in
-    let l = now (size .before .before .before .args .image) in (
-      rw (eq-eqb _ _ (rw (size .before .image-size .ensures) at (size .if1 .left))),
-      c .before .before .encode .ensures ∙ ap (λ (s : State). encodedIn s l) (c .before .before .before .before .factory .ensures),
-    )
+    let size = c .before .before .before .before in
+    (rw (eq-eqb _ _ (rw (size .before .image-size .ensures) at (size .if1 .left))), c .before .before .put-factory .ensures)
 
 pub lay-factory-spec : {M : Type 1} → statement M
 lay-factory-spec =
@@ -28,7 +21,6 @@ lay-factory-spec =
     (λ c κs. search needs)
     (λ c. search needs)
     returns
-    (λ c κs. search needs)
     (λ c κs. search needs)
     (λ c. search needs)
     returns-2)

@@ -6,9 +6,8 @@ use types.Run.{OneOf, miss}
 use denote.Enum.Declared.{tagOf}
 use borrow.Author.Needs.{needs}
 use lib.ListN.{replicate}
-use Rattle.state.specs.Image.{restN, imageOf, encodedIn}
+use Rattle.state.specs.Image.{restN, imageOf}
 use Rattle.state.proofs.Images.{image-100, encoded-fits}
-use Rattle.state.specs.declared.entries.State.{State}
 use Rattle.pieces.specs.Pieces.{pieces}
 use Rattle.sheets.specs.Playing.{Prints}
 use Rattle.sheets.specs.Keeping.{runBy}
@@ -28,17 +27,16 @@ rest Loaded h = refl
 
 -- what the write comes to
 out : (w : tie.After-write) (r : ℕ) → r ≡ writtenN (w .write .result)
-    → let a = w .before .before .before .before .before .before .before .before .before .before .before .before .before .args in
+    → let a = w .before .before .before .before .before .before .before .before .before .before .before .before .args in
     Prints (a .input .now) (a .room .now) r (w .write .last .1 .0)
 out w r er =
     let run = w .before .before .before .before in
-    let encode = run .before .before .before in
-    let factory = encode .before .before in
-    let a = factory .before .before .before .before .args in
+    let factory = run .before .before .before in
+    let even = factory .before .before in
+    let a = even .before .before .before .args in
     let room : List ℕ = replicate (20 + restN) 0 in
-    let first : encode .encode .last .1 .0 ≡ imageOf factory100 =
-    encode .encode .ensures ∙ ap (λ (s : State). encodedIn s room) (factory .factory .ensures) ∙ encoded-fits factory100 room (sym image-100) in
-    plays-printed (a .input .now) (run .run .last .1 .0) (a .room .now) (w .write .last .1 .0) (w .write .result) r (factory .before .if1 .left)
+    let first : factory .put-factory .last .1 .0 ≡ imageOf factory100 = factory .put-factory .ensures ∙ encoded-fits factory100 room (sym image-100) in
+    plays-printed (a .input .now) (run .run .last .1 .0) (a .room .now) (w .write .last .1 .0) (w .write .result) r (even .if1 .left)
     (run .run .ensures ∙ ap (runBy (pieces (a .input .now))) first) (w .write .ensures) er
 
 returns : tie.Need-returns
@@ -67,7 +65,6 @@ play-spec =
     (λ c κs. search needs)
     (λ c. search needs)
     returns-2
-    (λ c κs. search needs)
     (λ c. search needs)
     (λ c κs. search needs)
     (λ c. search needs)

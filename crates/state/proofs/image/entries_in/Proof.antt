@@ -11,7 +11,7 @@ use lib.ListN.{length, replicate}
 use Rattle.state.specs.Entries.{entriesN, blankEntry}
 use Rattle.state.specs.Image.{entryN, rowsIn, entryIn}
 use Rattle.state.specs.declared.entries.Entry.{Entry}
-use Rattle.state.proofs.Laying.{rows-none, read-more, row-long}
+use Rattle.state.proofs.Rows.{rows-none, read-more, row-long}
 use Rattle.state.proofs.image.entries_in.Statement.{statement}
 use Rattle.state.proofs.image.entries_in.Tie as tie
 

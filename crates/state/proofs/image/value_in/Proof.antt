@@ -12,7 +12,7 @@ use Rattle.instrument.specs.declared.settings.Series.{Series}
 use Rattle.instrument.specs.declared.values.Kept.the-variants.{Never}
 use Rattle.state.specs.Image.{valueN, valuesAt, keptIn}
 use Rattle.state.specs.Keeping.{storedIn}
-use Rattle.state.proofs.Laying.{row-long}
+use Rattle.state.proofs.Rows.{row-long}
 use Rattle.state.proofs.image.value_in.Statement.{statement}
 use Rattle.state.proofs.image.value_in.Tie as tie
 

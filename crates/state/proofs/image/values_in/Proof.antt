@@ -11,7 +11,7 @@ use Rattle.instrument.specs.Values.{valuesN}
 use Rattle.instrument.specs.declared.values.Kept.the-variants.{Never}
 use Rattle.state.specs.Image.{countAt, rowsIn}
 use Rattle.state.specs.Keeping.{valuesRead}
-use Rattle.state.proofs.Laying.{rows-none, read-more, row-long, valueIn}
+use Rattle.state.proofs.Rows.{rows-none, read-more, row-long, valueIn}
 use Rattle.state.proofs.image.values_in.Statement.{statement}
 use Rattle.state.proofs.image.values_in.Tie as tie
 
