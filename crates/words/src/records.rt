@@ -1,5 +1,6 @@
 // The record that a word gives, as a host in C lends it, and the count that a record holds.
 ghost use mathlib.Core.Path.{_≡_};
+ghost use Rattle.figures.specs.Bytes.{within, every};
 ghost use Rattle.words.specs.Records.{blank, recordOf, countBy, countOf, tenTo, wholeRight, limitOf, countRight, textRight, sameWhole, isRight, typedOf};
 use units::counts::Count;
 use units::counts::DEGREE_LIMIT;
@@ -155,20 +156,28 @@ fn count_right(count: Count, wide: bool) -> bool
     }
 }
 
+// Tells whether every byte is from low to high, and leaves at the first that isn't. A record has just been copied, and bytes that were stored in parts are slow to
+// read at once, as `figures::all_within` does.
+fn each_within(s: &[u8], low: u8, high: u8) -> bool
+    ensures { λ r. ⌜ r ≡ every (within low high) (now (s .entry)) ⌝ }
+{
+    figures::run_within(s, low, high) == s.len()
+}
+
 // Tells whether a word of that kind and width can have the text.
 fn text_right(kind: Kind, text: [u8; 16], wide: bool) -> bool
     ensures { λ r. ⌜ r ≡ textRight wide kind text ⌝ }
 {
     if !textual(kind) {
-        return figures::all_within(&text, 0, 0);
+        return each_within(&text, 0, 0);
     }
     if wide {
-        return figures::all_within(&text, 33, 126);
+        return each_within(&text, 33, 126);
     }
-    if !figures::all_within(&text[0..8], 33, 126) {
+    if !each_within(&text[0..8], 33, 126) {
         return false;
     }
-    figures::all_within(&text[8..16], 0, 0)
+    each_within(&text[8..16], 0, 0)
 }
 
 fn same_whole(w: Whole, minus: u8, size: u64) -> bool

@@ -8,18 +8,18 @@ use Rattle.words.proofs.records.text_right.Tie as tie
 
 returns : tie.Need-returns
 returns c =
-    rw (failed (c .before .before .before .textual .ensures) (c .before .before .if1 .taken)) (c .all-within .ensures)
+    rw (failed (c .before .before .before .textual .ensures) (c .before .before .if1 .taken)) (c .each-within .ensures)
 
 returns-2 : tie.Need-returns-2
 returns-2 c =
     let a = c .before .before .before .before .before .args in
     let text = passed (c .before .before .before .before .textual .ensures) (c .before .before .before .if1 .left) in
-    rw (c .before .before .if2 .taken) (c .all-within2 .ensures ∙ sym (text-wide (a .kind) (a .t2) text (search needs)))
+    rw (c .before .before .if2 .taken) (c .each-within2 .ensures ∙ sym (text-wide (a .kind) (a .t2) text (search needs)))
 
 returns-3 : tie.Need-returns-3
 returns-3 c =
     let text = passed (c .before .before .before .before .before .before .textual .ensures) (c .before .before .before .before .before .if1 .left) in
-    rw (c .before .before .before .before .if2 .left, text, failed (c .before .all-within3 .ensures) (c .if3 .taken))
+    rw (c .before .before .before .before .if2 .left, text, failed (c .before .each-within3 .ensures) (c .if3 .taken))
 
 returns-4 : tie.Need-returns-4
 returns-4 c =
@@ -27,8 +27,8 @@ returns-4 c =
     let narrow = first .before .before .before .before in
     let a = narrow .before .before .before .args in
     let text = passed (narrow .before .before .textual .ensures) (narrow .before .if1 .left) in
-    let data-right = passed (first .before .all-within3 .ensures) (first .if3 .left) in
-    rw (narrow .if2 .left) (sym (text-narrow (a .kind) (a .t2) text (search needs) ∙ rw (data-right, c .all-within4 .ensures)))
+    let data-right = passed (first .before .each-within3 .ensures) (first .if3 .left) in
+    rw (narrow .if2 .left) (sym (text-narrow (a .kind) (a .t2) text (search needs) ∙ rw (data-right, c .each-within4 .ensures)))
 
 pub text-right-spec : {M : Type 1} → statement M
 text-right-spec =
