@@ -156,8 +156,8 @@ fn count_right(count: Count, wide: bool) -> bool
     }
 }
 
-// Tells whether every byte is from low to high, and leaves at the first that isn't. A record has just been copied, and bytes that were stored in parts are slow to
-// read at once, as `figures::all_within` does.
+// Tells whether every byte is from low to high, and leaves at the first that isn't. With `figures::all_within`, which judges all at once, a block took longer to
+// write (docs/changes/003.md).
 fn each_within(s: &[u8], low: u8, high: u8) -> bool
     ensures { λ r. ⌜ r ≡ every (within low high) (now (s .entry)) ⌝ }
 {
