@@ -2,7 +2,8 @@
    processor time. Both are held to the same answers first; then they take turns in one process, in small batches.
    Usage: bench ROUNDS, which table.awk makes tables of; or bench CASE SIDE PASSES (SIDE is library or C), which plays a case
    so often and looks at no clock, for counters and profilers. Compiled with BEFORE, an earlier build of the library
-   (before_gsi_*) stands in the place of the C; where it has no level's functions, a level's blocks are left out. */
+   (before_gsi_*) stands in the place of the C; where it has no level's functions, a level's blocks are left out, and mending
+   where it has none. */
 #include "../tests/reference.h"
 
 int printf(const char *, ...);
@@ -23,6 +24,8 @@ uint64_t gsi_read(const uint8_t *block, size_t n, ref_word *list, size_t places)
 uint64_t gsi_write(const ref_word *list, size_t words, uint64_t wide, uint64_t crlf, uint8_t *block, size_t room);
 uint64_t gsi_read_level(const uint8_t *block, size_t n, ref_word *list, size_t places);
 uint64_t gsi_write_level(const ref_word *list, size_t words, uint64_t wide, uint64_t crlf, uint8_t *block, size_t room);
+uint64_t gsi_mend(const uint8_t *block, size_t n, uint8_t *mended, size_t room, ref_edit *edits, size_t places);
+uint64_t gsi_mend_level(const uint8_t *block, size_t n, uint8_t *mended, size_t room, ref_edit *edits, size_t places);
 uint64_t gsi_line(uint8_t *image, size_t n, const uint8_t *line, size_t m, uint8_t *reply, size_t room);
 uint64_t gsi_sheet_write(const uint8_t *image, size_t n, uint8_t *sheet, size_t room);
 uint64_t gsi_sheet_load(uint8_t *image, size_t n, const uint8_t *sheet, size_t m);
@@ -32,30 +35,34 @@ uint64_t before_gsi_read(const uint8_t *block, size_t n, ref_word *list, size_t 
 uint64_t before_gsi_write(const ref_word *list, size_t words, uint64_t wide, uint64_t crlf, uint8_t *block, size_t room);
 __attribute__((weak)) uint64_t before_gsi_read_level(const uint8_t *block, size_t n, ref_word *list, size_t places);
 __attribute__((weak)) uint64_t before_gsi_write_level(const ref_word *list, size_t words, uint64_t wide, uint64_t crlf, uint8_t *block, size_t room);
+__attribute__((weak)) uint64_t before_gsi_mend(const uint8_t *block, size_t n, uint8_t *mended, size_t room, ref_edit *edits, size_t places);
+__attribute__((weak)) uint64_t before_gsi_mend_level(const uint8_t *block, size_t n, uint8_t *mended, size_t room, ref_edit *edits, size_t places);
 uint64_t before_gsi_line(uint8_t *image, size_t n, const uint8_t *line, size_t m, uint8_t *reply, size_t room);
 uint64_t before_gsi_sheet_write(const uint8_t *image, size_t n, uint8_t *sheet, size_t room);
 uint64_t before_gsi_sheet_load(uint8_t *image, size_t n, const uint8_t *sheet, size_t m);
 #endif
 
-enum { IMAGE = 1039, AT_VALUES = 20, VALUE_BYTES = 11, AT_COUNT = 141, BLOCK_MOST = 771, REPLY_MOST = 306, SHEET_MOST = 352 };
+enum { EDITS_MOST = 34, IMAGE = 1039, AT_VALUES = 20, VALUE_BYTES = 11, AT_COUNT = 141, BLOCK_MOST = 771, REPLY_MOST = 306, SHEET_MOST = 352 };
 
 #define COUNT_OF(array) (sizeof(array) / sizeof *(array))
 
 enum { STATION, LEVEL };
 
-/* The two sides, called alike; reading and writing by the family. */
+/* The two sides, called alike; reading, writing and mending by the family. */
 static const struct side {
     uint64_t (*read[2])(const uint8_t *, size_t, ref_word *, size_t);
     uint64_t (*write[2])(const ref_word *, size_t, uint64_t, uint64_t, uint8_t *, size_t);
+    uint64_t (*mend[2])(const uint8_t *, size_t, uint8_t *, size_t, ref_edit *, size_t);
     uint64_t (*line)(uint8_t *, size_t, const uint8_t *, size_t, uint8_t *, size_t);
     uint64_t (*sheet_write)(const uint8_t *, size_t, uint8_t *, size_t);
     uint64_t (*sheet_load)(uint8_t *, size_t, const uint8_t *, size_t);
 } sides[2] = {
-    {{gsi_read, gsi_read_level}, {gsi_write, gsi_write_level}, gsi_line, gsi_sheet_write, gsi_sheet_load},
+    {{gsi_read, gsi_read_level}, {gsi_write, gsi_write_level}, {gsi_mend, gsi_mend_level}, gsi_line, gsi_sheet_write, gsi_sheet_load},
 #ifdef BEFORE
-    {{before_gsi_read, before_gsi_read_level}, {before_gsi_write, before_gsi_write_level}, before_gsi_line, before_gsi_sheet_write, before_gsi_sheet_load},
+    {{before_gsi_read, before_gsi_read_level}, {before_gsi_write, before_gsi_write_level}, {before_gsi_mend, before_gsi_mend_level},
+     before_gsi_line, before_gsi_sheet_write, before_gsi_sheet_load},
 #else
-    {{ref_read, ref_read_level}, {ref_write, ref_write_level}, ref_line, ref_sheet_write, ref_sheet_load},
+    {{ref_read, ref_read_level}, {ref_write, ref_write_level}, {ref_mend, ref_mend_level}, ref_line, ref_sheet_write, ref_sheet_load},
 #endif
 };
 
@@ -203,6 +210,7 @@ static void make_files(unsigned family)
 
 static ref_word list[32];
 static uint8_t room[BLOCK_MOST];
+static ref_edit edits[EDITS_MOST];
 static volatile uint64_t sum;
 
 /* Reads the file from its start to its end, as a host does: the next block starts where the last one ended. */
@@ -231,7 +239,21 @@ static void write_file(const struct side *s, const struct file *f)
     sum += all;
 }
 
-/* Both sides read every block of the file into the records that it was made from, and write them back. */
+/* Mends the file's blocks, which all read as they are: each comes back as it was. */
+static void mend_file(const struct side *s, const struct file *f)
+{
+    size_t at = 0;
+    uint64_t all = 0;
+
+    while (at < f->bytes) {
+        uint64_t got = s->mend[f->family](f->text + at, f->bytes - at, room, sizeof room, edits, EDITS_MOST);
+        at += got & 0xffff;
+        all += got;
+    }
+    sum += all;
+}
+
+/* Both sides read every block of the file into the records that it was made from, write them back, and mend each block to itself. */
 static void check_file(const struct file *f)
 {
     for (unsigned k = 0; k < 2; k++) {
@@ -245,6 +267,8 @@ static void check_file(const struct file *f)
                 stop("a block read", i);
             if (sides[k].write[f->family](records, words, f->shape[i].wide, f->shape[i].crlf, room, sizeof room) != used || memcmp(room, f->text + at, used) != 0)
                 stop("a block written", i);
+            if (sides[k].mend[f->family] && (sides[k].mend[f->family](f->text + at, f->bytes - at, room, sizeof room, edits, EDITS_MOST) != used || memcmp(room, f->text + at, used) != 0))
+                stop("a block mended", i);
             at += used;
             records += words;
         }
@@ -464,7 +488,7 @@ static void check_script(void)
 
 /* Cases */
 
-enum kind { READ, WRITE, PLAY, SHEET_WRITE, SHEET_LOAD, READ_ALIKE, WRITE_ALIKE, PLAY_DEPTH };
+enum kind { READ, WRITE, PLAY, SHEET_WRITE, SHEET_LOAD, MEND, READ_ALIKE, WRITE_ALIKE, MEND_ALIKE, PLAY_DEPTH };
 
 struct timed {
     const char *name;
@@ -480,9 +504,11 @@ static const struct timed wholes[] = {
     {"sheets loaded", SHEET_LOAD, 0, 1},
     {"a level's read", READ, LEVEL, 1},
     {"a level's written", WRITE, LEVEL, 1},
+    {"blocks mended", MEND, 0, 1},
+    {"a level's mended", MEND, LEVEL, 1},
 };
 
-enum { LEVEL_WHOLES = 2 };
+enum { LEVEL_WHOLES = 2, MEND_WHOLES = 2 };
 
 /* Before a batch, outside the time that is measured: the script starts from the factory, and sheets are loaded over the script's images. */
 static void prepare(enum kind kind)
@@ -512,11 +538,17 @@ static void play(const struct timed *t, const struct side *s)
         case SHEET_LOAD:
             load_sheets(s);
             break;
+        case MEND:
+            mend_file(s, &mixed[t->which]);
+            break;
         case READ_ALIKE:
             read_file(s, &alike[t->which / LENGTHS][t->which % LENGTHS]);
             break;
         case WRITE_ALIKE:
             write_file(s, &alike[t->which / LENGTHS][t->which % LENGTHS]);
+            break;
+        case MEND_ALIKE:
+            mend_file(s, &alike[t->which / LENGTHS][t->which % LENGTHS]);
             break;
         case PLAY_DEPTH:
             sum += play_depth(s, t->which);
@@ -599,6 +631,21 @@ static void beside(const char *table, enum kind kind)
     }
 }
 
+/* A block mended that reads as it is, beside the same block read. */
+static void beside_reading(const char *table)
+{
+    struct timed t[CASES_MOST];
+
+    for (unsigned c = 0; c < 2 * LENGTHS; c++)
+        t[c] = (struct timed){table, c < LENGTHS ? READ_ALIKE : MEND_ALIKE, c % LENGTHS, 32 * 4 / lengths[c % LENGTHS]};
+    measure(t, 2 * LENGTHS);
+    for (unsigned c = 0; c < LENGTHS; c++) {
+        print_row(table, "library / C", lengths[c], times[LENGTHS + c][0], times[LENGTHS + c][1]);
+        print_row(table, "library mending / library reading", lengths[c], times[LENGTHS + c][0], times[c][0]);
+        print_row(table, "C mending / C reading", lengths[c], times[LENGTHS + c][1], times[c][1]);
+    }
+}
+
 int main(int words, char **word)
 {
     make_files(STATION);
@@ -621,7 +668,8 @@ int main(int words, char **word)
     }
 
     const unsigned families = sides[1].read[LEVEL] ? 2 : 1;
-    const unsigned whole = COUNT_OF(wholes) - (families == 2 ? 0 : LEVEL_WHOLES);
+    const int mends = sides[1].mend[STATION] != 0;
+    const unsigned whole = COUNT_OF(wholes) - (mends ? 0 : MEND_WHOLES) - (families == 2 ? 0 : LEVEL_WHOLES);
 
     for (unsigned family = 0; family < families; family++) {
         check_file(&mixed[family]);
@@ -642,6 +690,8 @@ int main(int words, char **word)
     grow("a block written, by its words", WRITE_ALIKE, lengths, LENGTHS);
     if (families == 2)
         beside("a level's block read, by its words", READ_ALIKE);
+    if (mends)
+        beside_reading("a block mended, by its words");
     grow("a line, by the entries in the undo list", PLAY_DEPTH, depths, DEPTHS);
     return 0;
 }

@@ -1,4 +1,5 @@
-/* host.c: a small host. It reads a block and shows what stands in it, plays four lines on the stand-in, and writes the sheet. */
+/* host.c: a small host. It reads a block and shows what stands in it, mends a printed one and tells the edits, plays four lines on the stand-in, and writes the
+   sheet. */
 #include "gsi.h"
 
 int printf(const char *, ...);
@@ -29,6 +30,19 @@ int main(void)
     printf("%u words in %u bytes\n", (unsigned)GSI_WORDS(answer), (unsigned)GSI_USED(answer));
     for (size_t i = 0; i < GSI_WORDS(answer); i++)
         printf("index %u, info %.4s, %c%lu\n", (unsigned)list[i].index, (const char *)list[i].info, list[i].minus ? '-' : '+', (unsigned long)list[i].size);
+
+    /* a listing's line that a print program spoiled: three dots for four, the last blank stripped, LF alone */
+    const char *printed = "410001+00000020 42...+00007142\n";
+    uint8_t mended[GSI_BLOCK_MOST];
+    gsi_edit edits[GSI_EDITS_MOST];
+    answer = gsi_mend((const uint8_t *)printed, strlen(printed), mended, sizeof mended, edits, GSI_EDITS_MOST);
+    if (GSI_NUMBER(answer) != 0) {
+        printf("refused by %u at %u\n", GSI_NUMBER(answer), (unsigned)GSI_TOLD(answer));
+        return 1;
+    }
+    for (size_t i = 0; i < GSI_EDITS(answer); i++)
+        printf("a %s before byte %u\n", edits[i].kind == GSI_EDIT_DOT ? "dot" : edits[i].kind == GSI_EDIT_BLANK ? "blank" : "CR", (unsigned)edits[i].place);
+    printf("%u bytes that read: %.*s\n", (unsigned)GSI_MENDED(answer), (int)GSI_MENDED(answer) - 2, (const char *)mended);
 
     size_t n = gsi_image_size();
     if (n > sizeof image || GSI_NUMBER(gsi_factory(image, n)) != 0)

@@ -3,7 +3,7 @@
    Each function, except the two that tell an image's length, answers number * 2^32 + told: GSI_NUMBER and GSI_TOLD take the two apart. The number is 0
    where the call was accepted; otherwise it is a refusal's, and docs/REFUSALS.md has all of them in one table. What would be told above 2^32 - 1 is told
    as 2^32 - 1. A buffer is a pointer and a length; a length of 0 lends nothing. Buffers that are lent to one call must not overlap, and a list of records
-   must be aligned as its type asks. Nothing is kept between calls. The library needs memcpy and memset from the C library, and nothing else. */
+   or of edits must be aligned as its type asks. Nothing is kept between calls. The library needs memcpy and memset from the C library, and nothing else. */
 #ifndef GSI_H
 #define GSI_H
 
@@ -102,6 +102,41 @@ uint64_t gsi_write(const gsi_word *list, size_t words, uint64_t wide, uint64_t c
    of two digits (except 11 and 41) without the dot at info[0]. */
 uint64_t gsi_read_level(const uint8_t *block, size_t n, gsi_word *list, size_t places);
 uint64_t gsi_write_level(const gsi_word *list, size_t words, uint64_t wide, uint64_t crlf, uint8_t *block, size_t room);
+
+/* An edit of gsi_mend: what was put, and before which byte of the input. */
+typedef struct {
+    uint32_t place; /* the byte's place in the input, from 0 */
+    uint32_t kind;  /* GSI_EDIT_DOT, GSI_EDIT_BLANK or GSI_EDIT_CR */
+} gsi_edit;
+
+enum { GSI_EDIT_DOT = 1, GSI_EDIT_BLANK = 2, GSI_EDIT_CR = 3 };
+
+GSI_ASSERT(sizeof(gsi_edit) == 8 && offsetof(gsi_edit, kind) == 4, "an edit has 8 bytes, place and kind");
+
+/* The most edits that a block can need: a dot in each of 32 words, the last blank and a CR. */
+#define GSI_EDITS_MOST 34
+
+/* What gsi_mend tells of a block that it mended. */
+#define GSI_MENDED(answer) ((size_t)((answer) & 0xffff))      /* the mended bytes, the terminator included */
+#define GSI_EDITS(answer) ((size_t)((answer) >> 16 & 0xffff)) /* edits, stored from the list's start; 0 where the block read as it was */
+
+/* Mends the total station's block at the start of n bytes, of a listing that a print program spoiled, into the room, and tells each edit in the list, which has
+   room for `places` of them. Three things are put back, from left to right, and nothing else is changed: the dot before a `+` that stands right after three
+   dots in a word 42 to 49; the blank before a CR or an LF in the place of a word's blank; the CR before an LF where a word would start.
+   Mended (0): tells GSI_MENDED and GSI_EDITS; the mended bytes read (gsi_read, with 32 places); room and list beyond what is written are as before. A block that
+   reads comes back as it is with no edits. Bytes after the terminator are neither copied nor looked at. The input's bytes, up to the terminator, with each
+   edit's byte put in before its place are the mended ones.
+   Refused: nothing is written, neither bytes nor edits.
+
+      1 to 10, 15   the mended bytes don't read: as of gsi_read, with the place in the mended bytes
+     14             the room is shorter than the mended bytes; tells the bytes needed
+     11             the list is shorter than the edits; tells how many there are
+
+   They are judged in this order. GSI_BLOCK_MOST bytes of room and GSI_EDITS_MOST places are always enough. */
+uint64_t gsi_mend(const uint8_t *block, size_t n, uint8_t *mended, size_t room, gsi_edit *edits, size_t places);
+
+/* Does the same for a digital level's block. */
+uint64_t gsi_mend_level(const uint8_t *block, size_t n, uint8_t *mended, size_t room, gsi_edit *edits, size_t places);
 
 /* Tell the length of an image, the bytes that a state is lent as (docs/IMAGE.md), of a TPS100 and of a TPS300/700: the number itself, not packed. An
    image says its series, and each function below goes by it. */

@@ -1,8 +1,9 @@
 /* driver.c: sweeps the words and records of both families, minus nought wherever it may stand, the place that each refusal
-   tells, and the settings, lines, sheets and images of both series, makes cases by seed and compares the library (gsi_*) with
-   the second implementation (ref_*): the answer, what it tells and every lent byte. Usage: driver CASES SEED, the sweeps not
-   counted. Status 0 when there is no difference and every number was seen, each byte of a word told, each rule that a PUT can
-   break, minus nought in each function that may have it, and wide replies. */
+   tells, spoiled blocks and their mending, and the settings, lines, sheets and images of both series, makes cases by seed and
+   compares the library (gsi_*) with the second implementation (ref_*): the answer, what it tells and every lent byte. Usage:
+   driver CASES SEED, the sweeps not counted. Status 0 when there is no difference and every number was seen, each byte of a
+   word told, each mixture of edits made, each rule that a PUT can break, minus nought in each function that may have it, and
+   wide replies. */
 #include "reference.h"
 
 int printf(const char *, ...);
@@ -17,6 +18,8 @@ uint64_t gsi_read(const uint8_t *block, size_t n, ref_word *list, size_t places)
 uint64_t gsi_write(const ref_word *list, size_t words, uint64_t wide, uint64_t crlf, uint8_t *block, size_t room);
 uint64_t gsi_read_level(const uint8_t *block, size_t n, ref_word *list, size_t places);
 uint64_t gsi_write_level(const ref_word *list, size_t words, uint64_t wide, uint64_t crlf, uint8_t *block, size_t room);
+uint64_t gsi_mend(const uint8_t *block, size_t n, uint8_t *mended, size_t room, ref_edit *edits, size_t places);
+uint64_t gsi_mend_level(const uint8_t *block, size_t n, uint8_t *mended, size_t room, ref_edit *edits, size_t places);
 uint64_t gsi_image_size(void);
 uint64_t gsi_image_size_300(void);
 uint64_t gsi_factory(uint8_t *image, size_t n);
@@ -138,8 +141,8 @@ struct lent {
     _Alignas(8) uint8_t ours[WHOLE];
 };
 
-static struct lent block = {.name = "block"}, list = {.name = "list"}, line = {.name = "line"}, reply = {.name = "reply"},
-                   sheet = {.name = "sheet"}, spare = {.name = "image"};
+static struct lent block = {.name = "block"}, list = {.name = "list"}, mended = {.name = "mended"}, edits = {.name = "edits"},
+                   line = {.name = "line"}, reply = {.name = "reply"}, sheet = {.name = "sheet"}, spare = {.name = "image"};
 
 /* A run of each series goes on between the cases; run is that of the series at hand. */
 static struct lent runs[SERIES] = {{.name = "image"}, {.name = "image"}}, *run = runs;
@@ -153,13 +156,13 @@ static void turn_to(unsigned of)
 
 static uint8_t pool[1 << 16];
 
-enum { IN = 1, ALIGNED = 2 };
+enum { IN = 1, ALIGNED = 2, BY_FOUR = 4 };
 
 /* Lends len bytes to both sides. Contents given are followed by GUARD bytes of the caller's, so that bytes just past a
    cut are the tempting ones; none given means random prior contents. */
 static void lend(struct lent *l, const void *content, size_t len, int how)
 {
-    l->start = GUARD + (how & ALIGNED ? 0 : below(8));
+    l->start = GUARD + (how & ALIGNED ? 0 : how & BY_FOUR ? 4 * below(2) : below(8));
     l->len = len;
     l->total = l->start + len + GUARD;
     l->input = how & IN;
@@ -174,22 +177,26 @@ static void lend(struct lent *l, const void *content, size_t len, int how)
 
 /* One comparison */
 
-/* READ and WRITE have each family's function at its place, the others each series'; what is not the factory's is one function
+/* READ, WRITE and MEND have each family's function at its place, the others each series'; what is not the factory's is one function
    that goes by the image, and is told apart here by the series that its case is made for. */
 enum { STATION, LEVEL, FAMILIES };
 enum {
-    READ, WRITE = READ + FAMILIES, FACTORY = WRITE + FAMILIES, LINE = FACTORY + SERIES, SHEET_WRITE = LINE + SERIES,
-    SHEET_LOAD = SHEET_WRITE + SERIES, FUNCTIONS = SHEET_LOAD + SERIES
+    READ, WRITE = READ + FAMILIES, MEND = WRITE + FAMILIES, FACTORY = MEND + FAMILIES, LINE = FACTORY + SERIES,
+    SHEET_WRITE = LINE + SERIES, SHEET_LOAD = SHEET_WRITE + SERIES, FUNCTIONS = SHEET_LOAD + SERIES
 };
 static const char *const names[FUNCTIONS] = {
-    "read", "read_level", "write", "write_level", "factory", "factory_300", "line", "TPS300 line", "sheet_write", "TPS300 sheet_write",
-    "sheet_load", "TPS300 sheet_load"};
+    "read", "read_level", "write", "write_level", "mend", "mend_level", "factory", "factory_300", "line", "TPS300 line", "sheet_write",
+    "TPS300 sheet_write", "sheet_load", "TPS300 sheet_load"};
 
 static uint64_t wanted, cases, seed, seen[FUNCTIONS][41], with_nought[FUNCTIONS], wide_replies;
 
 /* The refusals 5 to 10 by the byte of the word that they tell, in either width; the PUTs that 26 refuses by the rule that they
    break and by the byte of the line. */
 static uint64_t told_at[FAMILIES][2][24], broken_rule[SERIES][11], broken_at[SERIES][20];
+
+/* The blocks that were mended by the mixture of edits (bits: a dot, a blank, a CR), the edits by kind, and the most at once. */
+enum { DOT = 1, BLANK = 2, RETURN = 3, KINDS_OF_EDIT = 3, MIXTURES = 1 << KINDS_OF_EDIT };
+static uint64_t mixtures[FAMILIES][MIXTURES], edits_made[FAMILIES][KINDS_OF_EDIT], most_edits[FAMILIES];
 static const char *kind_name;
 static uint64_t *kind_count;
 static int sweeping;
@@ -278,7 +285,8 @@ static int bytes_have_nought(const uint8_t *p, size_t n)
     return 0;
 }
 
-/* Whether a minus nought was accepted in the case: among the records read or written, in the line or its reply, in the sheet. */
+/* Whether a minus nought was accepted in the case: among the records read or written, in what was mended, in the line or its reply,
+   in the sheet. */
 static int has_nought(uint64_t ours)
 {
     size_t told = ours & 0xFFFFFFFF; /* of a line that is accepted the reply's bytes alone */
@@ -291,6 +299,9 @@ static int has_nought(uint64_t ours)
     case WRITE + STATION:
     case WRITE + LEVEL:
         return records_have_nought(list.before + list.start, list.len / sizeof(ref_word));
+    case MEND + STATION:
+    case MEND + LEVEL:
+        return bytes_have_nought(mended.ours + mended.start, told & 0xFFFF);
     case LINE + TPS100:
     case LINE + TPS300:
         return bytes_have_nought(line.before + line.start, line.len) || bytes_have_nought(reply.ours + reply.start, told);
@@ -319,6 +330,23 @@ static void count_place(uint64_t ours)
     }
 }
 
+/* Counts the edits of a block that was mended. */
+static void count_edits(uint64_t ours)
+{
+    const ref_edit *edit = (const ref_edit *)(void *)(edits.ours + edits.start);
+    unsigned of = now.function - MEND, mixture = 0;
+    size_t count = ours >> 16 & 0xFFFF;
+    if (ours >> 32 != 0 || now.function < MEND || now.function >= MEND + FAMILIES)
+        return;
+    for (size_t i = 0; i < count; i++) {
+        edits_made[of][edit[i].kind - 1]++;
+        mixture |= 1u << (edit[i].kind - 1);
+    }
+    mixtures[of][mixture]++;
+    if (count > most_edits[of])
+        most_edits[of] = count;
+}
+
 static void compare(uint64_t theirs, uint64_t ours)
 {
     cases += !sweeping;
@@ -334,6 +362,8 @@ static void compare(uint64_t theirs, uint64_t ours)
         with_nought[now.function] += (uint64_t)has_nought(ours);
     if (!sweeping)
         count_place(ours);
+    if (!sweeping)
+        count_edits(ours);
     if (!sweeping && now.function == LINE + TPS300 && ours >> 32 == 0)
         wide_replies += reply.ours[reply.start] == '*';
     if (cases == wanted)
@@ -3522,6 +3552,672 @@ static void sweep_places(void)
     block_wide = 0;
 }
 
+/* Mending */
+
+/* 32 wide words with `*` and CR LF; a dot in each word, the last blank and the CR. */
+enum { MOST_MENDED = 771, MOST_EDITS = 34 };
+
+static uint64_t (*const mend_by[FAMILIES][2])(const uint8_t *block, size_t n, uint8_t *mended, size_t room, ref_edit *edits,
+                                              size_t places) = {{gsi_mend, ref_mend}, {gsi_mend_level, ref_mend_level}};
+
+/* The edits that the library made, and the bytes that it mended. */
+static const ref_edit *their_edits(void)
+{
+    return (const ref_edit *)(void *)(edits.theirs + edits.start);
+}
+
+static const uint8_t *their_mended(void)
+{
+    return mended.theirs + mended.start;
+}
+
+/* The bytes that the edits put in, and those of the input as they stand, are what was mended, in their order. */
+static int edits_tell(size_t bytes, size_t count)
+{
+    const uint8_t *input = block.before + block.start;
+    const ref_edit *edit = their_edits();
+    size_t at = 0, next = 0;
+    for (size_t i = 0; i < bytes; i++) {
+        uint8_t b = their_mended()[i];
+        if (next < count && edit[next].place == at) {
+            if (at >= block.len || edit[next].kind < DOT || edit[next].kind > RETURN || b != (uint8_t)". \r"[edit[next].kind - 1])
+                return 0;
+            next++;
+        } else if (at >= block.len || b != input[at++]) {
+            return 0;
+        }
+    }
+    return next == count;
+}
+
+/* What holds of the library alone: "a block that reads comes back as it is with no edits; what was mended, mended again, is itself
+   with no edits; the edits tell the difference"; and what was mended is read to its end. */
+static void ask_of_library(unsigned of, uint64_t got)
+{
+    static ref_word words[32];
+    static uint8_t again[MOST_MENDED];
+    const uint8_t *input = block.before + block.start;
+    uint64_t read = read_by[of][THEIRS](input, block.len, words, 32);
+    size_t bytes = got & 0xFFFF, count = got >> 16 & 0xFFFF, used = read & 0xFFFF;
+
+    if (read >> 32 == 0 && got != (mended.len < used ? UINT64_C(14) << 32 | used : used))
+        unasked("a block that reads is mended", got);
+    if (got >> 32 != 0)
+        return;
+    if (read >> 32 == 0 && memcmp(their_mended(), input, used) != 0)
+        unasked("a block that reads comes back as another", got);
+    if (bytes > mended.len || bytes > MOST_MENDED || count > edits.len / sizeof(ref_edit) || count > MOST_EDITS)
+        unasked("what was mended is longer than can be", got);
+    read = read_by[of][THEIRS](their_mended(), bytes, words, 32);
+    if (read >> 32 != 0 || (read & 0xFFFF) != bytes)
+        unasked("what was mended isn't read to its end", read);
+    if (mend_by[of][THEIRS](their_mended(), bytes, again, bytes, (ref_edit *)(void *)words, 0) != bytes ||
+        memcmp(again, their_mended(), bytes) != 0)
+        unasked("what was mended is mended again", got);
+    if (!edits_tell(bytes, count))
+        unasked("the edits don't tell the difference", got);
+}
+
+/* Mends the block in src. */
+static uint64_t mend_of(unsigned of, size_t n, size_t room, size_t places)
+{
+    uint64_t theirs, ours;
+    begin(MEND + of, &block, &mended);
+    now.lent[2] = &edits;
+    lend(&block, src, n, IN);
+    lend(&mended, 0, room, 0);
+    lend(&edits, 0, places * sizeof(ref_edit), BY_FOUR);
+    theirs = mend_by[of][THEIRS](block.theirs + block.start, n, mended.theirs + mended.start, room,
+                                 (ref_edit *)(void *)(edits.theirs + edits.start), places);
+    ours = mend_by[of][OURS](block.ours + block.start, n, mended.ours + mended.start, room,
+                             (ref_edit *)(void *)(edits.ours + edits.start), places);
+    compare(theirs, ours);
+    ask_of_library(of, theirs);
+    return ours;
+}
+
+/* The family's case goes to the other family's function at times. */
+static void check_mend(size_t n, size_t room, size_t places)
+{
+    mend_of(family, n, room, places);
+    if (one_in(8))
+        mend_of(!family, n, room, places);
+}
+
+/* The words of a right block, with its `*`, from which the block in src is spoiled; and what that is to give: whether it is known here
+   (or left to the comparison), the reader's refusal if there is one, what was mended and the edits. */
+static uint8_t whole[MOST + GUARD];
+static struct {
+    int known;
+    uint64_t refusal;
+    size_t bytes, edits;
+    uint8_t mended[MOST];
+    ref_edit edit[128];
+} wished;
+
+/* A word of 42-49 with four dots, one of which a print program leaves out. */
+static int has_four_dots(const uint8_t *w)
+{
+    return w[0] == '4' && w[1] >= '2' && w[1] <= '9' && memcmp(w + 2, "....", 4) == 0;
+}
+
+static void wish_edit(size_t place, unsigned kind)
+{
+    wished.edit[wished.edits].place = (uint32_t)place;
+    wished.edit[wished.edits].kind = kind;
+    wished.edits++;
+}
+
+static uint64_t refused_by(unsigned number, size_t told)
+{
+    return (uint64_t)number << 32 | told;
+}
+
+/* What the block in src is to give, whose words end at that place, the last one with its blank or not. */
+static void wish(size_t end, int stripped)
+{
+    int cr = end < len && src[end] == CR, lf = end + cr < len && src[end + cr] == LF;
+
+    wished.known = cr || lf || end == len || block_words > 32;
+    wished.refusal = 0;
+    wished.bytes = word_start(block_words);
+    memcpy(wished.mended, whole, wished.bytes);
+    if (block_words > 32)
+        wished.refusal = refused_by(4, word_start(32));
+    else if (len == 0)
+        wished.refusal = refused_by(1, 0);
+    else if (end == len)
+        wished.refusal = refused_by(block_words == 32 && !stripped ? 4 : 2, word_start(block_words - (unsigned)stripped));
+    else if (block_words == 0)
+        wished.refusal = refused_by(3, 0);
+    if (stripped && (cr || lf))
+        wish_edit(end, BLANK);
+    if (lf && !cr)
+        wish_edit(end, RETURN);
+    wished.mended[wished.bytes++] = CR;
+    if (lf)
+        wished.mended[wished.bytes++] = LF;
+}
+
+/* Where the words of the block in src start, and where the last one ends. */
+static size_t spoiled_at[128];
+
+/* How the last word ends, and what comes after. */
+enum { BY_CR, BY_CRLF, BY_LF, BY_NOTHING, ENDS };
+enum { THEN_NOTHING, THEN_LF, THEN_CRLF, THEN_BLOCK, THEN_JUNK, THENS };
+
+/* Spoils the words in whole into src: the dot left out of those of 42-49 whose bit is set, the last blank stripped or not, one of
+   the ends, and what follows. */
+static void spoil(uint64_t dots, int strip, unsigned end, unsigned then)
+{
+    static const char *const ends[ENDS] = {"\r", "\r\n", "\n", ""};
+    size_t each = block_wide ? 24 : 16, more = word_start(block_words);
+
+    wished.edits = 0;
+    src[0] = '*';
+    len = block_wide;
+    strip = strip && block_words > 0;
+    for (unsigned i = 0; i < block_words; i++) {
+        const uint8_t *w = whole + word_start(i);
+        size_t kept = each - 6 - (strip && i + 1 == block_words);
+        spoiled_at[i] = len;
+        memcpy(src + len, w, 5);
+        len += 5;
+        if (dots >> i % 64 & 1 && has_four_dots(w))
+            wish_edit(len, DOT);
+        else
+            src[len++] = w[5];
+        memcpy(src + len, w + 6, kept);
+        len += kept;
+    }
+    spoiled_at[block_words] = len;
+    say(ends[end]);
+    switch (then) {
+    case THEN_LF:
+        say("\n");
+        break;
+    case THEN_CRLF:
+        say("\r\n");
+        break;
+    case THEN_BLOCK:
+        if (more > 80)
+            more = 80;
+        memcpy(src + len, whole, more);
+        len += more;
+        say("\r\n");
+        break;
+    case THEN_JUNK:
+        say("x\n\r 42...+\r*");
+        break;
+    default:
+        break;
+    }
+    wish(spoiled_at[block_words], strip);
+}
+
+/* Mends the block in src: it is refused so, by 14, then by 11, or mended so, and what is beyond is as before. */
+static void ask_mend(size_t room, size_t places)
+{
+    uint64_t got = mend_of(family, len, room, places), asked_answer = wished.refusal;
+    size_t bytes = 0, made = 0;
+
+    if (!wished.known)
+        return;
+    if (asked_answer == 0 && room < wished.bytes) {
+        asked_answer = refused_by(14, wished.bytes);
+    } else if (asked_answer == 0 && places < wished.edits) {
+        asked_answer = refused_by(11, wished.edits);
+    } else if (asked_answer == 0) {
+        bytes = wished.bytes;
+        made = wished.edits * sizeof(ref_edit);
+        asked_answer = bytes | wished.edits << 16;
+    }
+    if (got != asked_answer) {
+        hex("asked", (const uint8_t *)&asked_answer, sizeof asked_answer);
+        unasked("the block is mended otherwise", got);
+    }
+    if (memcmp(their_mended(), wished.mended, bytes) != 0 ||
+        memcmp(their_mended() + bytes, mended.before + mended.start + bytes, mended.len - bytes) != 0)
+        unasked("what was mended is another", got);
+    if (memcmp(their_edits(), wished.edit, made) != 0 ||
+        memcmp(edits.theirs + edits.start + made, edits.before + edits.start + made, edits.len - made) != 0)
+        unasked("the edits are others", got);
+}
+
+/* Cases of mending */
+
+/* A right block, or with words at the edges one in that many, with more of 42-49 among its words, is spoiled into src. */
+static void make_listing(unsigned words, unsigned edges)
+{
+    uint64_t dots = next64();
+    unsigned of_text = below(5), end = below(ENDS + 4), then = one_in(2) ? THEN_NOTHING : below(THENS);
+    int strip = one_in(2);
+
+    make_block(words, edges);
+    for (unsigned i = 0; i < words; i++)
+        if (below(4) < of_text) {
+            uint8_t *w = src + word_start(i);
+            word_of(w, block_wide ? 16 : 8, 't', 42 + below(8), 0);
+            if (of_text == 4 || !one_in(8))
+                memset(w + 2, '.', 4);
+            if (one_in(8))
+                memcpy(w + 7 + below(block_wide ? 12 : 4), "...+", 4);
+        }
+    memcpy(whole, src, word_start(words));
+    switch (below(4)) {
+    case 0:
+        dots = 0;
+        break;
+    case 1:
+        dots = UINT64_MAX;
+        break;
+    case 2:
+        dots &= next64();
+        break;
+    default:
+        break;
+    }
+    spoil(dots, strip, end < ENDS ? end : BY_LF, then);
+}
+
+/* How many words a listing has: at times none, or more than 32. */
+static unsigned some_listing(void)
+{
+    if (one_in(12))
+        return one_in(2) ? 33 : 33 + below(40);
+    return one_in(40) ? 0 : some_words();
+}
+
+/* A room and a list about what the block in src needs: ample, just enough, one too short, or any. */
+static size_t some_length(size_t need)
+{
+    switch (below(8)) {
+    case 0:
+        return need - (need > 0);
+    case 1:
+        return below(need + 4);
+    case 2:
+    case 3:
+        return need;
+    default:
+        return need + below(6);
+    }
+}
+
+static uint64_t needed(size_t n)
+{
+    static uint8_t to[MOST_MENDED];
+    static ref_edit made[MOST_EDITS];
+    uint64_t got = mend_by[family][OURS](src, n, to, sizeof to, made, MOST_EDITS);
+    return got >> 32 ? 40 | 3 << 16 : got;
+}
+
+static void mend_about(size_t n)
+{
+    uint64_t need = needed(n);
+    size_t room = some_length(need & 0xFFFF), places = some_length(need >> 16);
+    check_mend(n, room, places);
+}
+
+static void mend_spoiled(void)
+{
+    size_t room, places;
+    make_listing(some_listing(), 0);
+    room = some_length(wished.bytes);
+    places = some_length(wished.edits);
+    ask_mend(room, places);
+    if (one_in(8))
+        mend_of(!family, len, room, places);
+}
+
+/* One to three bytes changed, put in or left out. */
+static void mend_wrong(void)
+{
+    make_listing(some_listing(), 4);
+    for (unsigned times = 1 + below(one_in(4) ? 3 : 1); times > 0; times--) {
+        size_t at = below(len + 1);
+        switch (below(4)) {
+        case 0: /* one of the bytes that mending looks at, put in or in the place of another */
+            if (one_in(2) && at < len)
+                src[at] = (uint8_t)one_of("\r\n .+4*");
+            else
+                splice(at, 0, (const char[1]){one_of("\r\n .+4*")}, 1);
+            break;
+        case 1: /* about a word's start, or its blank */
+            at = block_words ? word_start(below(block_words + 1)) : 0;
+            at = at > 2 ? at - 2 : 0;
+            if (at < len)
+                damage(at, at + 9 < len ? at + 9 : len);
+            break;
+        default:
+            if (len > 0)
+                damage(0, len);
+            break;
+        }
+    }
+    mend_about(len);
+}
+
+/* Each value of one byte of a short block. */
+static void mend_each_value(void)
+{
+    size_t at;
+    make_listing(1 + below(2), 8);
+    at = below(len);
+    for (unsigned b = 0; b < 256; b++) {
+        src[at] = (uint8_t)b;
+        check_mend(len, 100, one_in(8) ? below(6) : MOST_EDITS);
+    }
+}
+
+static void mend_cut(void)
+{
+    make_listing(one_in(60) ? 33 : 1 + below(3), 8);
+    for (size_t n = 0; n <= len; n++)
+        mend_about(n);
+}
+
+/* Every room to just beyond what is needed, then every list. */
+static void mend_rooms(void)
+{
+    uint64_t need;
+    make_listing(one_in(40) ? 32 : 1 + below(4), 0);
+    need = needed(len);
+    for (size_t room = 0; room <= (need & 0xFFFF) + 4; room++)
+        check_mend(len, room, some_length(need >> 16));
+    for (size_t places = 0; places <= (need >> 16) + 3; places++)
+        check_mend(len, some_length(need & 0xFFFF), places);
+}
+
+/* A word's dot left out or put in, whatever the word; its blank left out, doubled or another byte, or an end there; words exchanged,
+   or one of the other family; another index with its dots. */
+static void mend_words(void)
+{
+    size_t each, at, blank, n;
+    unsigned word, other, index;
+    const char *more;
+    char kind;
+    make_listing(2 + below(31), 0);
+    each = block_wide ? 24 : 16;
+    if (one_in(3))
+        spoil(0, 0, one_in(2) ? BY_LF : BY_CRLF, THEN_NOTHING);
+    word = below(block_words - 1);
+    other = below(block_words);
+    at = spoiled_at[word];
+    blank = spoiled_at[word + 1] - 1;
+    switch (below(7)) {
+    case 0:
+        splice(at + 2 + below(4), 1, "", 0);
+        break;
+    case 1:
+        more = one_in(4) ? "+" : ".";
+        splice(at + 2 + below(5), 0, more, 1);
+        break;
+    case 2:
+        more = one_in(2) ? "\r\n" : "\n\r";
+        n = below(3);
+        splice(blank, 1, more, n);
+        break;
+    case 3:
+        more = one_in(2) ? "\r\n" : "\n ";
+        n = 1 + below(2);
+        splice(blank, 0, more, n);
+        break;
+    case 4:
+        swap(src + at, src + spoiled_at[other], one_in(2) ? each : 6);
+        break;
+    case 5:
+        index = some_index(!family, &kind);
+        word_of(src + at, (unsigned)each - 8, kind, index, 0);
+        break;
+    default:
+        lay_index(src + at, 39 + below(13));
+        memcpy(src + at + 2, one_in(2) ? "...+" : "....", 4);
+        break;
+    }
+    mend_about(len);
+}
+
+/* Any bytes, or pieces of what mending looks at. */
+static void mend_random(void)
+{
+    static const char *const pieces[] = {"42...+", "49...+", "41...+", "42....+", "00007142", "0000000000007142", " ", "\r", "\n", "\r\n",
+                                         "+", ".", "*"};
+    size_t most = one_in(10) ? 1600 : 60;
+    len = 0;
+    for (size_t i = 0; i < sizeof src; i++)
+        src[i] = (uint8_t)(one_in(3) ? below(256) : (unsigned)one_of("0123456789.+- *\r\n"));
+    if (one_in(2))
+        len = below(most);
+    else
+        while (len < most && !one_in(12))
+            say(PICK(pieces));
+    mend_about(len);
+}
+
+/* Sweeps of mending: right blocks spoiled in each way and all mixtures of them, with rooms and lists from too short to larger; each
+   value of each byte, each byte left out and others put in, each cut; and long inputs. */
+
+static uint64_t swept_mends[FAMILIES];
+
+/* Words of 42-49 with four dots, their data like what mending looks at. */
+static const char *const four_dots[8] = {"42....+00007142", "43....+00005.27", "44....+...+0000", "45....++.......",
+                                         "46....+42...+00", "47....+!~!~!~!~", "48....+........", "49....+++++++++"};
+
+/* Right words that have dots and get none, besides the samples. */
+static const char *const other_dots[FAMILIES][12] = {
+    {"41....+00000020", "42...7+00007142", "43.1..+00007142", "44..9.+...+...+", "49.999+00000001", "12....+...+0000", "16....+00000003",
+     "52....+00007142", "53....+00007142", "71....+42...+00", "19....+++++++++", "79....+........"},
+    {"41....+00000020", "42...7+00007142", "43.1..+00007142", "44..9.+...+...+", "49.999+00000001", "52....+...+0000", "57....+42...+00"},
+};
+
+static unsigned count_words(const char *const *words, unsigned most)
+{
+    unsigned n = 0;
+    while (n < most && words[n])
+        n++;
+    return n;
+}
+
+/* Lays right words in whole from the first one on: every one with four dots, or every other, and any kind of word between. */
+static void lay_words(unsigned words, unsigned first, int all)
+{
+    unsigned of_samples = count_words(samples[family], COUNT_OF(samples[0]));
+    unsigned of_dots = count_words(other_dots[family], COUNT_OF(other_dots[0]));
+    block_words = words;
+    whole[0] = '*';
+    for (unsigned i = 0; i < words; i++) {
+        unsigned k = first + i, other = k / 2 % (of_samples + of_dots);
+        const char *word = all ? four_dots[k % 8] : four_dots[k / 2 % 8];
+        if (!all && k % 2)
+            word = other < of_samples ? samples[family][other] : other_dots[family][other - of_samples];
+        lay_sample(whole + word_start(i), word);
+    }
+}
+
+/* The words in whole that have four dots. */
+static uint64_t words_with_dots(void)
+{
+    uint64_t set = 0;
+    for (unsigned i = 0; i < block_words; i++)
+        if (has_four_dots(whole + word_start(i)))
+            set |= UINT64_C(1) << i;
+    return set;
+}
+
+/* The spoiled block with rooms and lists from too short to larger: each with each, or with just enough of both and one pair more. */
+static void ask_mends(int each)
+{
+    static unsigned turn;
+    size_t bytes = wished.bytes, count = wished.edits;
+    const size_t rooms[] = {bytes, bytes - 1, bytes + 1, bytes + 40, 0}, lists[] = {count, count - (count > 0), count + 1, count + 6, 0};
+    for (unsigned i = 0; i < COUNT_OF(rooms); i++)
+        for (unsigned k = 0; k < COUNT_OF(lists); k++)
+            if (each || i + k == 0 || turn % 25 == i * 5 + k)
+                ask_mend(rooms[i], lists[k]);
+    turn++;
+}
+
+/* The words in whole, the dots left out of that set of them: with the last blank and without, each end, and all that may follow; or
+   one of these in its turn. */
+static void ask_spoiled(uint64_t dots, int all)
+{
+    static unsigned turn;
+    for (unsigned how = 0; how < 2 * ENDS * THENS; how++)
+        if (all || (how + turn) % 8 == 0) {
+            spoil(dots, how & 1, how / 2 % ENDS, how / 2 / ENDS);
+            ask_mends(block_words <= 2);
+        }
+    turn++;
+}
+
+/* Of few words every set, of many: none, all, every other, each alone and all but each. */
+static void ask_sets(void)
+{
+    uint64_t set = words_with_dots(), every_other = set & UINT64_C(0x3333333333333333);
+    if (block_words <= 5) {
+        uint64_t dots = 0;
+        do {
+            ask_spoiled(dots, 1);
+            dots = (dots - set) & set;
+        } while (dots != 0);
+        return;
+    }
+    ask_spoiled(0, 1);
+    ask_spoiled(set, 1);
+    ask_spoiled(every_other, 1);
+    for (unsigned i = 0; i < block_words; i++)
+        if (set >> i & 1) {
+            ask_spoiled(UINT64_C(1) << i, 0);
+            ask_spoiled(set & ~(UINT64_C(1) << i), 0);
+        }
+}
+
+static void sweep_spoiled(void)
+{
+    static const unsigned counts[] = {1, 2, 5, 31, 32, 33};
+    for (int all = 0; all < 2; all++)
+        for (size_t i = 0; i < COUNT_OF(counts); i++) {
+            unsigned firsts = counts[i] > 5 ? 2 : all ? 8 : 62, step = counts[i] == 5 && !all ? 5 : 1;
+            for (unsigned first = 0; first < firsts; first += step) {
+                lay_words(counts[i], first, all);
+                ask_sets();
+            }
+        }
+    /* No words: nothing, `*`, and either with an end. */
+    lay_words(0, 0, 1);
+    ask_spoiled(0, 1);
+}
+
+/* Blocks of one, two and three words, spoiled or not: each value of each byte, each byte left out, others put in, and each cut. */
+static void sweep_changed(void)
+{
+    static uint8_t spoiled[MOST];
+    size_t n;
+    for (unsigned words = 1; words <= 3; words++)
+        for (unsigned how = 0; how < 4; how++) {
+            lay_words(words, how * 3 + words, how > 1);
+            spoil(how & 1 ? UINT64_MAX : 0, how & 1, how == 3 ? BY_LF : how ? BY_CRLF : BY_CR, how == 2 ? THEN_BLOCK : THEN_NOTHING);
+            memcpy(spoiled, src, n = len);
+            for (size_t at = 0; at < n; at++) {
+                for (unsigned b = 0; words < 3 && b < 256; b++) {
+                    src[at] = (uint8_t)b;
+                    mend_of(family, n, 130, MOST_EDITS);
+                }
+                memcpy(src, spoiled, len = n);
+                splice(at, 1, "", 0);
+                mend_of(family, len, 130, MOST_EDITS);
+                for (const char *more = "\r\n .+-*04\t"; *more; more++) {
+                    memcpy(src, spoiled, len = n);
+                    splice(at, 0, more, 1);
+                    mend_of(family, len, 130, MOST_EDITS);
+                }
+                memcpy(src, spoiled, len = n);
+                mend_of(family, at, 130, MOST_EDITS);
+            }
+        }
+    lay_words(33, 0, 1);
+    spoil(UINT64_MAX, 1, BY_LF, THEN_NOTHING);
+    for (n = 0; n <= len; n++)
+        mend_of(family, n, MOST_MENDED, MOST_EDITS);
+}
+
+/* Each two digits, and each of a dot, a plus, a minus and a digit at positions 3-6 of a word that lacks a byte before its data: only 42-49
+   with three dots and a plus are mended. Of any other the blank, if it is there, is the last data byte and the end gets one; if it isn't,
+   the end is that byte and the word stays too short. */
+static void sweep_prefixes(void)
+{
+    for (unsigned two = 0; two < 100; two++)
+        for (unsigned i = 0; i < 4 * 4 * 4 * 4; i++) {
+            unsigned width = block_wide ? 16 : 8, how = (two + i) % 3, number = 2;
+            uint8_t *w = src + block_wide, word[24];
+            size_t byte = 0;
+            lay_words(1, 0, 1);
+            spoil(1, how == 2, how ? BY_LF : BY_CR, THEN_NOTHING);
+            digits(w, 2, two);
+            for (unsigned at = 2, rest = i; at < 6; at++, rest /= 4)
+                w[at] = (uint8_t)".+-0"[rest % 4];
+            if (two >= 42 && two <= 49 && memcmp(w + 2, "...+", 4) == 0) {
+                digits(wished.mended + block_wide, 2, two);
+                ask_mend(wished.bytes, 3);
+                continue;
+            }
+            if (how != 2) {
+                memcpy(word, w, 7 + width);
+                word[7 + width] = ' ';
+                number = blame(family, word, width, &byte);
+            }
+            wished.refusal = refused_by(number, block_wide + byte);
+            ask_mend(wished.bytes, 3);
+        }
+}
+
+/* An input of any length is mended by its first block alone. */
+static void sweep_long(void)
+{
+    enum { LONG = 1 << 18 };
+    static uint8_t input[LONG];
+    static uint8_t to[2][MOST_MENDED];
+    static ref_edit made[2][MOST_EDITS];
+    static const char *const fills[] = {"42...+00007142 ", "42....+00007142 ", "31..00+00000001 ", "*", "\r", "\n", "+", "4", ".", " ",
+                                        "42...+"};
+    for (size_t i = 0; i < COUNT_OF(fills); i++)
+        for (unsigned how = 0; how < 6; how++) {
+            uint64_t got[2];
+            size_t n = strlen(fills[i]);
+            lay_words(how < 2 ? 0 : how < 4 ? 1 : 32, 0, 1);
+            spoil(UINT64_MAX, how & 1, how == 2 ? BY_NOTHING : BY_LF, THEN_NOTHING);
+            if (how == 0)
+                len = 0;
+            memcpy(input, src, len);
+            for (size_t at = len; at < LONG; at++)
+                input[at] = (uint8_t)fills[i][(at - len) % n];
+            memset(to, 7, sizeof to);
+            memset(made, 7, sizeof made);
+            begin(MEND + family, 0, 0);
+            for (int by = THEIRS; by <= OURS; by++)
+                got[by] = mend_by[family][by](input, LONG - i, to[by], MOST_MENDED, made[by], MOST_EDITS);
+            compare(got[THEIRS], got[OURS]);
+            if (memcmp(to[THEIRS], to[OURS], MOST_MENDED) != 0 || memcmp(made[THEIRS], made[OURS], sizeof made[0]) != 0)
+                unasked("a long input is mended to another", got[THEIRS]);
+            if (how != 0 && how != 2 && got[THEIRS] != (wished.refusal ? wished.refusal : wished.bytes | wished.edits << 16))
+                unasked("a long input is mended otherwise", got[THEIRS]);
+        }
+}
+
+static void sweep_mends(void)
+{
+    kind_name = "sweep of mending";
+    kind_count = &swept_mends[family];
+    for (block_wide = 0; block_wide < 2; block_wide++) {
+        sweep_spoiled();
+        sweep_changed();
+        sweep_prefixes();
+        sweep_long();
+    }
+    block_wide = 0;
+}
+
 /* Whether the n bytes have the pattern: `#` is a number ("1 to 4 digits and no leading zero, save `0` itself"), `%` a digit, `?` any
    byte, another its own. */
 static int has_pattern(const char *pattern, const uint8_t *p, size_t n)
@@ -4108,6 +4804,7 @@ static void sweep(void)
         sweep_records();
         sweep_noughts_of_blocks();
         sweep_places();
+        sweep_mends();
     }
     family = STATION;
     for (unsigned of = 0; of < SERIES; of++) {
@@ -4153,6 +4850,13 @@ static struct { const char *name; void (*make)(void); unsigned weight, by; uint6
     {"records 0 to 34", write_counts, 2, BY_FAMILY, {0}},
     {"writer rooms", write_rooms, 2, BY_FAMILY, {0}},
     {"records random", write_random, 1, BY_FAMILY, {0}},
+    {"mend spoiled", mend_spoiled, 5, BY_FAMILY, {0}},
+    {"mend with wrong bytes", mend_wrong, 6, BY_FAMILY, {0}},
+    {"mend with each value of a byte", mend_each_value, 3, BY_FAMILY, {0}},
+    {"mend cut", mend_cut, 2, BY_FAMILY, {0}},
+    {"mend rooms and lists", mend_rooms, 2, BY_FAMILY, {0}},
+    {"mend words", mend_words, 2, BY_FAMILY, {0}},
+    {"mend random", mend_random, 1, BY_FAMILY, {0}},
     {"factory", factory, 1, BY_SERIES, {0}},
     {"image right", image_right, 2, BY_SERIES, {0}},
     {"image random", image_random, 1, BY_SERIES, {0}},
@@ -4190,11 +4894,11 @@ static struct { const char *name; void (*make)(void); unsigned weight, by; uint6
     {"sheet random", sheet_random, 1, BY_SERIES, {0}},
 };
 
-/* The numbers each function can answer, as bits; a level's reader has no 10, TPS100 no read-only setting. */
+/* The numbers each function can answer, as bits; a level's reader has no 10, so its mending has none; TPS100 no read-only setting. */
 #define BITS(from, to) ((((uint64_t)2 << (to)) - 1) & ~(((uint64_t)1 << (from)) - 1))
 static const uint64_t possible[FUNCTIONS] = {
-    BITS(0, 11) | BITS(15, 15), BITS(0, 9) | BITS(11, 11) | BITS(15, 15), 1 | BITS(12, 14), 1 | BITS(12, 14), 1 | BITS(31, 31),
-    1 | BITS(31, 31), 1 | BITS(20, 31) | BITS(39, 39), 1 | BITS(20, 31) | BITS(38, 39), 1 | BITS(30, 31), 1 | BITS(30, 31),
+    BITS(0, 11) | BITS(15, 15), BITS(0, 9) | BITS(11, 11) | BITS(15, 15), 1 | BITS(12, 14), 1 | BITS(12, 14),
+    BITS(0, 11) | BITS(14, 15), BITS(0, 9) | BITS(11, 11) | BITS(14, 15), 1 | BITS(31, 31), 1 | BITS(31, 31), 1 | BITS(20, 31) | BITS(39, 39), 1 | BITS(20, 31) | BITS(38, 39), 1 | BITS(30, 31), 1 | BITS(30, 31),
     1 | BITS(31, 31) | BITS(40, 40), 1 | BITS(31, 31) | BITS(40, 40)};
 
 /* Whether a minus nought may stand in what the function is lent or gives. */
@@ -4203,12 +4907,12 @@ static int may_have_nought(unsigned function)
     return function < FACTORY || function >= LINE;
 }
 
-/* The cases of a family's reader and writer, and those of a series' functions. */
+/* The cases of a family's reader, writer and mending, and those of a series' functions. */
 static uint64_t seen_of(unsigned of)
 {
     uint64_t sum = 0;
     for (unsigned number = 0; number <= 40; number++)
-        sum += seen[READ + of][number] + seen[WRITE + of][number];
+        sum += seen[READ + of][number] + seen[WRITE + of][number] + seen[MEND + of][number];
     return sum;
 }
 
@@ -4253,6 +4957,8 @@ static void finish(void)
     printf("\nsweeps of places: station %llu, level %llu, PUT %llu, TPS300 PUT %llu, lines %llu, TPS300 lines %llu",
            (unsigned long long)swept_places[STATION], (unsigned long long)swept_places[LEVEL], (unsigned long long)swept_puts[TPS100],
            (unsigned long long)swept_puts[TPS300], (unsigned long long)swept_lines[TPS100], (unsigned long long)swept_lines[TPS300]);
+    printf("\nsweeps of mending: station %llu, level %llu", (unsigned long long)swept_mends[STATION],
+           (unsigned long long)swept_mends[LEVEL]);
     printf("\nsweeps of series:");
     for (unsigned of = 0; of < SERIES; of++)
         for (unsigned part = 0; part < PARTS; part++)
@@ -4267,6 +4973,14 @@ static void finish(void)
         for (unsigned wide = 0; wide < 2; wide++)
             print_counts(of ? wide ? ", level wide" : ", level" : wide ? ", station wide" : " station", told_at[of][wide],
                          wide ? 24 : 16, wide ? 24 : 16);
+    printf("\nmended by mixture of edits:");
+    for (unsigned of = 0; of < FAMILIES; of++)
+        print_counts(of ? ", level" : " station", mixtures[of], MIXTURES, MIXTURES);
+    printf("\nedits:");
+    for (unsigned of = 0; of < FAMILIES; of++)
+        printf("%s dots %llu, blanks %llu, CRs %llu, the most at once %llu", of ? "; level" : " station",
+               (unsigned long long)edits_made[of][DOT - 1], (unsigned long long)edits_made[of][BLANK - 1],
+               (unsigned long long)edits_made[of][RETURN - 1], (unsigned long long)most_edits[of]);
     printf("\nbytes of a PUT told:");
     for (unsigned of = 0; of < SERIES; of++)
         print_counts(of ? ", TPS300" : " TPS100", broken_at[of], 20, 14);
@@ -4298,6 +5012,13 @@ static void finish(void)
         for (unsigned at = 0; at < 16 + 24; at++)
             if (told_at[of][at >= 16][at < 16 ? at : at - 16] == 0) {
                 printf("%s never told byte %u of a %s word\n", names[READ + of], at < 16 ? at : at - 16, at < 16 ? "narrow" : "wide");
+                missing = 1;
+            }
+    for (unsigned of = 0; of < FAMILIES; of++)
+        for (unsigned mixture = 0; mixture < MIXTURES; mixture++)
+            if (mixtures[of][mixture] == 0) {
+                printf("%s never made edits of these kinds:%s\n", names[MEND + of],
+                       (const char *const[]){" none", " dot", " blank", " dot, blank", " CR", " dot, CR", " blank, CR", " all"}[mixture]);
                 missing = 1;
             }
     for (unsigned of = 0; of < SERIES; of++) {

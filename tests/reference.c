@@ -1,11 +1,12 @@
-/* reference.c: a second implementation of document 01 and document 02's requests 101 to 104 in plain C: the block of
-   either family, the line machine and the sheet of either series. What stands in quotes is the documents' own sentence;
-   the image's bytes are those of IMAGE.md. */
+/* reference.c: a second implementation of document 01 and document 02's requests 101 to 105 in plain C: the block of
+   either family and its mending, the line machine and the sheet of either series. What stands in quotes is the documents'
+   own sentence; the image's bytes are those of IMAGE.md. */
 #include "reference.h"
 
 enum { CR = 13, LF = 10, MOST_WORDS = 32 };
 
 _Static_assert(sizeof(ref_word) == 40, "a record has 40 bytes and no padding");
+_Static_assert(sizeof(ref_edit) == 8, "an edit has 8 bytes and no padding");
 
 /* Each function answers number * 2^32 + told. */
 static uint64_t answer(unsigned number, uint64_t told)
@@ -518,6 +519,133 @@ uint64_t ref_write(const ref_word *list, size_t words, uint64_t wide, uint64_t c
 uint64_t ref_write_level(const ref_word *list, size_t words, uint64_t wide, uint64_t crlf, uint8_t *block, size_t room)
 {
     return write_block(LEVEL, list, words, wide, crlf, block, room);
+}
+
+/* The mending of a block that a print program spoiled */
+
+enum { DOT = 1, BLANK = 2, RETURN = 3 };
+
+/* Of what is mended no more is made than the reader looks at: 32 wide words with their `*` and CR LF. Each word may lack its
+   dot, the last its blank too, and the block its CR. */
+enum { MOST_MENDED = 1 + MOST_WORDS * 24 + 2, MOST_EDITS = MOST_WORDS + 2 };
+
+/* A mending: the input and the place reached in it, what is mended so far and the edits made. */
+struct mending {
+    const uint8_t *block;
+    size_t n, at;
+    size_t bytes, edits;
+    uint8_t mended[MOST_MENDED];
+    ref_edit edit[MOST_EDITS];
+};
+
+/* The input's next byte, or a number that no byte is: "At the input's end mending ends." */
+enum { NO_BYTE = 256 };
+static unsigned next_byte(const struct mending *m)
+{
+    return m->at < m->n ? m->block[m->at] : NO_BYTE;
+}
+
+static void copy_byte(struct mending *m)
+{
+    if (m->at < m->n)
+        m->mended[m->bytes++] = m->block[m->at++];
+}
+
+/* Puts a byte in before the input's next one. "An edit's place is where, in the input, the byte stands before which something
+   was put." */
+static void put_before(struct mending *m, uint8_t byte, uint32_t kind)
+{
+    m->mended[m->bytes++] = byte;
+    m->edit[m->edits].place = (uint32_t)m->at;
+    m->edit[m->edits].kind = kind;
+    m->edits++;
+}
+
+/* #105: "a `+` right after three dots in 42-49": the five mended bytes before it are 4, 2 to 9 and the dots. */
+static int lacks_dot(const uint8_t *word)
+{
+    return word[0] == '4' && word[1] >= '2' && word[1] <= '9' && same(word + 2, "...", 3);
+}
+
+/* "a word is copied: 15 (or 23) mended bytes, a dot that was put before a `+` at position 6 ... counted among them; then, in
+   the blank's place, a CR or LF gets a blank before it, another byte is copied as it is." */
+static void mend_word(struct mending *m, size_t width)
+{
+    const uint8_t *word = m->mended + m->bytes;
+
+    for (size_t i = 0; i < DATA_AT + width; i++) {
+        if (i == 5 && next_byte(m) == '+' && lacks_dot(word))
+            put_before(m, '.', DOT);
+        else
+            copy_byte(m);
+    }
+    if (next_byte(m) == CR || next_byte(m) == LF)
+        put_before(m, ' ', BLANK);
+    else
+        copy_byte(m);
+}
+
+/* "Nothing else is changed; a first `*` is copied and means wide." */
+static void mend_all(struct mending *m)
+{
+    size_t width = 8;
+
+    if (next_byte(m) == '*') {
+        width = 16;
+        copy_byte(m);
+    }
+    /* "Where a word would start: CR ends the block (with an LF that follows), LF gets a CR before it and ends it". After 32
+       words the reader refuses all that isn't a CR there, so that what would come next has no part in the answer. */
+    for (size_t words = 0; next_byte(m) != CR && next_byte(m) != LF; words++) {
+        if (next_byte(m) == NO_BYTE || words == MOST_WORDS)
+            return;
+        mend_word(m, width);
+    }
+    if (next_byte(m) == LF)
+        put_before(m, CR, RETURN);
+    else
+        copy_byte(m);
+    if (next_byte(m) == LF)
+        copy_byte(m);
+}
+
+static uint64_t mend_block(unsigned family, const uint8_t *block, size_t n, uint8_t *mended, size_t room, ref_edit *edits,
+                           size_t places)
+{
+    struct mending m;
+    ref_word records[MOST_WORDS];
+    uint64_t read;
+
+    m.block = block;
+    m.n = n;
+    m.at = m.bytes = m.edits = 0;
+
+    /* "Then the mended bytes are judged by the family's reader with 32 places. Refused: its number and its place in the mended
+       bytes. Then 14, telling the bytes needed; then 11, telling the number of edits." */
+    mend_all(&m);
+    read = read_block(family, m.mended, m.bytes, records, MOST_WORDS);
+    if (read >> 32 != 0)
+        return read;
+    if (room < m.bytes)
+        return answer(14, m.bytes);
+    if (places < m.edits)
+        return answer(11, m.edits);
+
+    /* "beyond what is written room and list are as before" */
+    copy(mended, m.mended, m.bytes);
+    for (size_t i = 0; i < m.edits; i++)
+        edits[i] = m.edit[i];
+    return answer(0, m.bytes | m.edits << 16);
+}
+
+uint64_t ref_mend(const uint8_t *block, size_t n, uint8_t *mended, size_t room, ref_edit *edits, size_t places)
+{
+    return mend_block(STATION, block, n, mended, room, edits, places);
+}
+
+uint64_t ref_mend_level(const uint8_t *block, size_t n, uint8_t *mended, size_t room, ref_edit *edits, size_t places)
+{
+    return mend_block(LEVEL, block, n, mended, room, edits, places);
 }
 
 /* The series and their settings */

@@ -1,5 +1,5 @@
-/* reference.h: a second implementation of document 01 and requests 101 to 104 in plain C, which the library is compared with.
-   The functions and the record are those of the C interface, under the prefix ref_. */
+/* reference.h: a second implementation of document 01 and requests 101 to 105 in plain C, which the library is compared with.
+   The functions, the record and the edit are those of the C interface, under the prefix ref_. */
 #ifndef REFERENCE_H
 #define REFERENCE_H
 
@@ -16,10 +16,17 @@ typedef struct {
     uint8_t text[16];
 } ref_word;
 
+typedef struct {
+    uint32_t place; /* of the input's byte before which something was put */
+    uint32_t kind;  /* 1: a dot, 2: a blank, 3: a CR */
+} ref_edit;
+
 uint64_t ref_read(const uint8_t *block, size_t n, ref_word *list, size_t places);
 uint64_t ref_write(const ref_word *list, size_t words, uint64_t wide, uint64_t crlf, uint8_t *block, size_t room);
 uint64_t ref_read_level(const uint8_t *block, size_t n, ref_word *list, size_t places);
 uint64_t ref_write_level(const ref_word *list, size_t words, uint64_t wide, uint64_t crlf, uint8_t *block, size_t room);
+uint64_t ref_mend(const uint8_t *block, size_t n, uint8_t *mended, size_t room, ref_edit *edits, size_t places);
+uint64_t ref_mend_level(const uint8_t *block, size_t n, uint8_t *mended, size_t room, ref_edit *edits, size_t places);
 uint64_t ref_image_size(void);
 uint64_t ref_image_size_300(void);
 uint64_t ref_factory(uint8_t *image, size_t n);

@@ -1,6 +1,6 @@
 /* selftest.c: checks the second implementation alone against the worked readings of document 01, the level's listing of
-   003, request 102's minus nought, request 103's TPS300, request 104's places and what is easy to slip on. Prints `ok`, or
-   the lines of this file whose reading failed. */
+   003, request 102's minus nought, request 103's TPS300, request 104's places, request 105's mending and what is easy to slip
+   on. Prints `ok`, or the lines of this file whose reading failed. */
 #include "reference.h"
 
 int printf(const char *, ...);
@@ -988,6 +988,278 @@ static void check_every_place(void)
                 CHECK(reading_after(&station, word, 0, 0) == (b >= least ? ANSWER(10, 7) : ANSWER(5, 16)));
                 CHECK(reading_after(&station, word, 0, 2) == (b >= least ? ANSWER(10, 39) : ANSWER(5, 48)));
             }
+    family = &station;
+}
+
+/* Mending. #105: "a `+` right after three dots in 42-49 gets a dot before it, a CR or LF in the place of a word's blank gets the
+   blank, then an LF where a word would start gets a CR" */
+
+enum { MEND_ROOM = 800, MEND_PLACES = 40 };
+static uint8_t mended[MEND_ROOM];
+static ref_edit edits[MEND_PLACES];
+
+/* Whether every byte is that one. */
+static int only(const void *p, int byte, size_t n)
+{
+    for (size_t i = 0; i < n; i++)
+        if (((const uint8_t *)p)[i] != byte)
+            return 0;
+    return 1;
+}
+
+/* Mends with that much room and that many places for edits; checks that a refusal writes nothing, and that what is beyond stays. */
+static uint64_t mending_in(const char *block, size_t n, size_t mend_room, size_t places)
+{
+    uint64_t got;
+    size_t wrote, told;
+    memset(mended, 0x5A, sizeof mended);
+    memset(edits, 0xA5, sizeof edits);
+    got = (family == &level ? ref_mend_level : ref_mend)((const uint8_t *)block, n, mended, mend_room, edits, places);
+    wrote = got >> 32 ? 0 : (size_t)(got & 0xFFFF);
+    told = got >> 32 ? 0 : (size_t)(got >> 16 & 0xFFFF);
+    CHECK(wrote <= mend_room && told <= places);
+    CHECK(only(mended + wrote, 0x5A, sizeof mended - wrote) && only(edits + told, 0xA5, (MEND_PLACES - told) * sizeof *edits));
+    return got;
+}
+
+static uint64_t mending(const char *block)
+{
+    return mending_in(block, strlen(block), MEND_ROOM, MEND_PLACES);
+}
+
+#define MENDED(bytes, edits) ANSWER(0, (uint64_t)(bytes) | (uint64_t)(edits) << 16)
+
+/* Whether the edits are those, written as `.21 _30 r30`: a dot, a blank or a CR, and its place. */
+static int edited(const char *asked)
+{
+    char said[MEND_PLACES * 12] = "";
+    size_t at = 0, count = 0;
+    for (const char *p = asked; *p; p++)
+        count += *p == '.' || *p == '_' || *p == 'r';
+    for (size_t i = 0; i < count; i++) {
+        char kind = edits[i].kind >= 1 && edits[i].kind <= 3 ? "._r"[edits[i].kind - 1] : '?';
+        at += (size_t)snprintf(said + at, sizeof said - at, "%s%c%u", i ? " " : "", kind, (unsigned)edits[i].place);
+    }
+    if (strlen(asked) == at && memcmp(said, asked, at) == 0)
+        return 1;
+    printf("edited %s, not %s\n", said, asked);
+    return 0;
+}
+
+/* The block mends to that one with those edits, in room and list of any length that suffices; that reads, and mended again it
+   is itself. With less room it is 14, then with a shorter list 11. */
+static int mends(const char *block, const char *asked, const char *asked_edits)
+{
+    int before = failures;
+    size_t n = strlen(block), bytes = strlen(asked), count = 0;
+    for (const char *p = asked_edits; *p; p++)
+        count += *p == '.' || *p == '_' || *p == 'r';
+    CHECK(mending(block) == MENDED(bytes, count) && memcmp(mended, asked, bytes) == 0 && edited(asked_edits));
+    CHECK(mending_in(block, n, bytes, count) == MENDED(bytes, count) && memcmp(mended, asked, bytes) == 0 && edited(asked_edits));
+    for (size_t short_room = 0; short_room < bytes; short_room++) {
+        CHECK(mending_in(block, n, short_room, MEND_PLACES) == ANSWER(14, bytes));
+        CHECK(mending_in(block, n, short_room, 0) == ANSWER(14, bytes));
+    }
+    for (size_t places = 0; places < count; places++) {
+        CHECK(mending_in(block, n, bytes, places) == ANSWER(11, count));
+        CHECK(mending_in(block, n, MEND_ROOM, places) == ANSWER(11, count));
+    }
+    CHECK(reading(asked) >> 32 == 0 && (reading(asked) & 0xFFFF) == bytes);
+    CHECK(mending_in(asked, bytes, bytes, 0) == MENDED(bytes, 0) && memcmp(mended, asked, bytes) == 0);
+    return failures == before;
+}
+
+/* A block that reads comes back as it is. */
+static int stays(const char *block)
+{
+    return mends(block, block, "");
+}
+
+/* 003's first listing, each line as a print program leaves it, the block that it was, and the edits. */
+static const struct { const char *line, *block, *edits; } first_listing[] = {
+    {"410001+00000020 42...+00007142\n", "410001+00000020 42....+00007142 \r\n", ".21 _30 r30"},
+    {"410002+00000021 42...+00007142\n", "410002+00000021 42....+00007142 \r\n", ".21 _30 r30"},
+    {"410003+00000022 42...+00592000\n", "410003+00000022 42....+00592000 \r\n", ".21 _30 r30"},
+    {"410004+00000001 42...+00000001 43...+00005.27 44...+00005.44 45...+00000002\n",
+     "410004+00000001 42....+00000001 43....+00005.27 44....+00005.44 45....+00000002 \r\n", ".21 .36 .51 .66 _75 r75"},
+    {"410005+00000003 42...+00000004 43...+00000001\n", "410005+00000003 42....+00000004 43....+00000001 \r\n", ".21 .36 _45 r45"},
+    {"110006+00000002 21.324+35959570 22.324+08950310 31..01+00452914 51..1.+0000+000\n",
+     "110006+00000002 21.324+35959570 22.324+08950310 31..01+00452914 51..1.+0000+000 \r\n", "_79 r79"},
+    {"410007+00000005 42...+00000234\n", "410007+00000005 42....+00000234 \r\n", ".21 _30 r30"},
+    {"410008+00000002 42...+00005.56\n", "410008+00000002 42....+00005.56 \r\n", ".21 _30 r30"},
+    {"110009+00000003 21.324+09952470 22.324+08959170 31..01+00265964 51..1.+0009+000\n",
+     "110009+00000003 21.324+09952470 22.324+08959170 31..01+00265964 51..1.+0009+000 \r\n", "_79 r79"},
+    {"110010+00000003 21.324+27952480 22.324+27000420 31..01+00452917 51..1.+0009+000\n",
+     "110010+00000003 21.324+27952480 22.324+27000420 31..01+00452917 51..1.+0009+000 \r\n", "_79 r79"},
+    {"110012+00000002 21.324+35959570 22.324+08950260 31..01+00452917 51..1.+0009+000\n",
+     "110012+00000002 21.324+35959570 22.324+08950260 31..01+00452917 51..1.+0009+000 \r\n", "_79 r79"},
+    {"110013+00000003 21.324+09952480 22.324+08959160 31..01+00265964 51..1.+0009+000\n",
+     "110013+00000003 21.324+09952480 22.324+08959160 31..01+00265964 51..1.+0009+000 \r\n", "_79 r79"},
+    {"110014+00000003 21.324+27952530 22.324+27000430 31..01+00265965 51..1.+0009+000\n",
+     "110014+00000003 21.324+27952530 22.324+27000430 31..01+00265965 51..1.+0009+000 \r\n", "_79 r79"},
+    {"110015+00000002 21.324+17959590 22.324+27009210 31..01+00452918 51..1.+0009+000\n",
+     "110015+00000002 21.324+17959590 22.324+27009210 31..01+00452918 51..1.+0009+000 \r\n", "_79 r79"},
+};
+
+static void check_listings(void)
+{
+    char line[100], said[20];
+
+    family = &station;
+    for (size_t i = 0; i < sizeof first_listing / sizeof *first_listing; i++)
+        CHECK(mends(first_listing[i].line, first_listing[i].block, first_listing[i].edits));
+    /* Only 41 to 49 of it are words of a level. */
+    family = &level;
+    for (size_t i = 0; i < 5; i++)
+        CHECK(mends(first_listing[i].line, first_listing[i].block, first_listing[i].edits));
+    CHECK(mending(first_listing[5].line) == ANSWER(15, 16));
+
+    /* 003's second listing, the level's, whose four dots were left: its blocks without their last blank, with LF alone. */
+    for (size_t i = 0; i < sizeof listing / sizeof *listing; i++) {
+        size_t n = strlen(listing[i].block) - 3;
+        memcpy(line, listing[i].block, n);
+        memcpy(line + n, "\n", 2);
+        snprintf(said, sizeof said, "_%u r%u", (unsigned)n, (unsigned)n);
+        CHECK(mends(line, listing[i].block, said));
+    }
+    /* With three dots in its 42 too. */
+    CHECK(mends("410001+00000020 42...+10842V02\n", listing[0].block, ".21 _30 r30"));
+
+    /* The listings' other lines are no blocks. */
+    CHECK(mending("WILD GIF-10\n") == ANSWER(2, 0) && mending("! ----+\n") == ANSWER(2, 0));
+    family = &station;
+    CHECK(mending("Leica TPS-1000 Series\n") == ANSWER(5, 0) && mending("Leica TPS-1000 Series") == ANSWER(5, 0));
+    CHECK(mending("410004+?......1\n") == MENDED(18, 2) && mending(listing[5].block) == ANSWER(6, 34));
+}
+
+static void check_mending(void)
+{
+    static char many[33 * 24 + 8], right_many[33 * 24 + 8];
+    char two[40];
+    size_t n = 0, m = 0;
+
+    family = &station;
+    /* Each of the three alone, and each two of them. */
+    CHECK(mends("31..00+00000001\r", "31..00+00000001 \r", "_15"));
+    CHECK(mends("31..00+00000001\r\n", "31..00+00000001 \r\n", "_15"));
+    CHECK(mends("31..00+00000001 \n", "31..00+00000001 \r\n", "r16"));
+    CHECK(mends("42...+00007142 \r\n", "42....+00007142 \r\n", ".5"));
+    CHECK(mends("31..00+00000001\n", "31..00+00000001 \r\n", "_15 r15"));
+    CHECK(mends("42...+00007142\r", "42....+00007142 \r", ".5 _14"));
+    CHECK(mends("42...+00007142 \n", "42....+00007142 \r\n", ".5 r15"));
+    CHECK(mends("42...+00007142\n", "42....+00007142 \r\n", ".5 _14 r14"));
+    /* "A block that reads comes back unchanged with no edits" */
+    CHECK(stays("110014+00000003 21.324+27952530 22.324+27000430 31..01+00265965 51..1.+0009+000 \r\n"));
+    CHECK(stays("42....+00007142 \r\n") && stays("42....+00007142 \r") && stays("42...7+00007142 \r") && stays("42.1..+0000...+ \r"));
+    CHECK(stays("*11....+000000000PNC0058 \r") && stays("*42....+...+0000...+0000 \r\n"));
+    /* A wide one. */
+    CHECK(mends("*42...+000000000PNC0058\n", "*42....+000000000PNC0058 \r\n", ".6 _23 r23"));
+    CHECK(mends("*31..00+0000000000000001 49...+0000000000005.27\r", "*31..00+0000000000000001 49....+0000000000005.27 \r", ".30 _47"));
+    CHECK(mends("*51..1.-000000000009-002 \n", "*51..1.-000000000009-002 \r\n", "r25"));
+
+    /* "Bytes past the terminator aren't copied." */
+    CHECK(mends("31..00+00000001 \r31..00+00000002 \r", "31..00+00000001 \r", ""));
+    CHECK(mends("31..00+00000001 \r\n\n", "31..00+00000001 \r\n", "") && mends("31..00+00000001 \r\r\n", "31..00+00000001 \r", ""));
+    CHECK(mends("31..00+00000001\n\n", "31..00+00000001 \r\n", "_15 r15"));
+    CHECK(mends("31..00+00000001\n\r", "31..00+00000001 \r\n", "_15 r15"));
+    CHECK(mends("42...+00007142\r\nxyz", "42....+00007142 \r\n", ".5 _14"));
+    CHECK(mends("42...+00007142\n42...+0000", "42....+00007142 \r\n", ".5 _14 r14"));
+    /* A CR or LF in the place of any word's blank ends the block there. */
+    CHECK(mends("31..00+00000001\r31..00+00000002 \r", "31..00+00000001 \r", "_15"));
+    CHECK(mends("31..00+00000001\n31..00+00000002 \r", "31..00+00000001 \r\n", "_15 r15"));
+    CHECK(mends("31..00+00000001\r\n31..00+00000002 \r", "31..00+00000001 \r\n", "_15"));
+
+    /* What isn't mended: a blank missing in the middle, which nothing but a CR or LF gets, */
+    CHECK(mending("31..00+0000000131..00+00000002 \r\n") == ANSWER(9, 15));
+    CHECK(mending("42...+0000714243...+00000001\n") == ANSWER(9, 15));
+    CHECK(mending("31..00+00000001x\r") == ANSWER(9, 15) && mending("31..00+00000001\t\r") == ANSWER(9, 15));
+    /* the dots of other words, two dots, none, other signs and places, */
+    CHECK(mending("41...+00007142 \r\n") == ANSWER(6, 5) && mending("40...+00007142 \r\n") == ANSWER(15, 0));
+    CHECK(mending("11...+00007142 \r\n") == ANSWER(6, 5) && mending("71...+00007142 \r\n") == ANSWER(6, 5));
+    CHECK(mending("52...+00007142 \r\n") == ANSWER(6, 5) && mending("50...+00007142 \r\n") == ANSWER(15, 0));
+    CHECK(mending("42..+00007142 \r\n") == ANSWER(6, 4) && mending("42...-00007142 \r\n") == ANSWER(6, 5));
+    CHECK(mending("42.1.+00007142 \r\n") == ANSWER(6, 5) && mending("42..1+00007142 \r\n") == ANSWER(6, 5));
+    CHECK(mending("421..+00007142 \r\n") == ANSWER(6, 2) && mending("42+00007142 \r\n+00") == ANSWER(6, 2));
+    CHECK(mending("4....+00007142 \r\n") == ANSWER(5, 1) && mending(" 42...+0007142 \r\n") == ANSWER(5, 0));
+    CHECK(mending("*42...+00007142 \r\n") == ANSWER(2, 1) && mending("*41...+000000000PNC0058 \r") == ANSWER(6, 6));
+    /* blanks before the last one, and more of them. */
+    CHECK(mending("31..00+00000001  \r") == ANSWER(2, 16) && mending("31..00+ 0000001\r") == ANSWER(8, 7));
+    CHECK(mending("42...+0000 714\r\n") == ANSWER(8, 11) && mending("42...+000071\n") == ANSWER(2, 0));
+    /* The reader's place is counted in the mended bytes: one on for each edit before it. */
+    CHECK(mending("42...+00007142 43...+0000714x 31..00+0000000x \r") == ANSWER(8, 46));
+    CHECK(mending("42...+00007142 43...+00007142 21.102+40000000\n") == ANSWER(10, 39));
+    CHECK(mending("42...+00007142 31..00*00007142\n") == ANSWER(7, 22));
+    CHECK(mending("42...+00007142 31..00+00007142x\n") == ANSWER(9, 31));
+    /* A dot that makes the word whole is right, a right word's last dot left out elsewhere is not. */
+    CHECK(mending("31..0+00000001 \r") == ANSWER(6, 5) && mending("13...+ABCDEFGH \r") == ANSWER(6, 5));
+
+    /* No bytes; none left where more should come; a terminator first. */
+    CHECK(mending("") == ANSWER(1, 0) && mending_in("", 0, 0, 0) == ANSWER(1, 0));
+    CHECK(mending("42....+00007142 ") == ANSWER(2, 16) && mending("42....+00007142") == ANSWER(2, 0));
+    CHECK(mending("42...+00007142 ") == ANSWER(2, 16) && mending("42...+00007142") == ANSWER(2, 0) && mending("42...") == ANSWER(2, 0));
+    CHECK(mending("42...+00007142 43...+00007142") == ANSWER(2, 16) && mending("*") == ANSWER(2, 1));
+    CHECK(mending("\r") == ANSWER(3, 0) && mending("\n") == ANSWER(3, 0) && mending("*\n") == ANSWER(3, 0));
+    CHECK(mending("\n42....+00007142 \r") == ANSWER(3, 0));
+    /* 42...+00007142 with one byte less of the input in turn. */
+    for (size_t k = 1; k < 15; k++)
+        CHECK(mending_in("42...+00007142\n", k, MEND_ROOM, MEND_PLACES) == ANSWER(2, 0));
+    /* The reader's number comes before 14, and 14 before 11. */
+    CHECK(mending_in("42...+0000714x 3\n", 17, 0, 0) == ANSWER(2, 16) && mending_in("42...+000071 2\n", 15, 0, 0) == ANSWER(8, 13));
+    CHECK(mending_in("42...+00007142\n", 15, 17, 2) == ANSWER(14, 18) && mending_in("42...+00007142\n", 15, 18, 2) == ANSWER(11, 3));
+    CHECK(mending_in("42...+00007142\n", 15, 18, 3) == MENDED(18, 3) && mending_in("42....+00007142 \r", 17, 17, 0) == MENDED(17, 0));
+
+    /* Every two digits in the place of 42: only 42 to 49 get the dot. */
+    for (unsigned i = 0; i < 100; i++)
+        for (int of = 0; of < 2; of++) {
+            family = of ? &level : &station;
+            snprintf(two, sizeof two, "%02u...+00007142 \r", i);
+            if (i >= 42 && i <= 49)
+                CHECK(mending(two) == MENDED(17, 1) && edited(".5"));
+            else
+                CHECK(mending(two) >> 32 == 6 || mending(two) >> 32 == 15);
+        }
+
+    /* 32 words that each lack the dot, the last blank and the CR: 34 edits. */
+    for (int wide = 0; wide < 2; wide++)
+        for (int of = 0; of < 2; of++) {
+            size_t width = wide ? 16 : 8;
+            family = of ? &level : &station;
+            n = m = 0;
+            if (wide)
+                many[n++] = right_many[m++] = '*';
+            for (size_t i = 0; i < 33; i++) {
+                snprintf(many + n, 26, "4%u...+%0*u ", (unsigned)(2 + i % 8), (int)width, (unsigned)i);
+                snprintf(right_many + m, 26, "4%u....+%0*u ", (unsigned)(2 + i % 8), (int)width, (unsigned)i);
+                n += width + 7;
+                m += width + 8;
+            }
+            memcpy(many + n - 1, "\n", 2);
+            memcpy(right_many + m, "\r\n", 3);
+            /* 33 words: 4 */
+            CHECK(mending_in(many, n, MEND_ROOM, MEND_PLACES) == ANSWER(4, m - width - 8));
+            CHECK(mending_in(many, n - 1, MEND_ROOM, MEND_PLACES) == ANSWER(4, m - width - 8));
+            CHECK(mending_in(right_many, m + 2, MEND_ROOM, MEND_PLACES) == ANSWER(4, m - width - 8));
+            n -= width + 7;
+            m -= width + 8;
+            CHECK(mending_in(many, n, MEND_ROOM, MEND_PLACES) == ANSWER(4, m));
+            CHECK(mending_in(many, n - 1, MEND_ROOM, MEND_PLACES) == ANSWER(2, m - width - 8));
+            many[n - 1] = '\n';
+            memcpy(right_many + m, "\r\n", 3);
+            CHECK(mending_in(many, n, MEND_ROOM, MEND_PLACES) == MENDED(m + 2, 34) && memcmp(mended, right_many, m + 2) == 0);
+            for (size_t i = 0; i < 32; i++)
+                CHECK(edits[i].kind == 1 && edits[i].place == (size_t)wide + i * (width + 7) + 5);
+            CHECK(edits[32].kind == 2 && edits[32].place == n - 1 && edits[33].kind == 3 && edits[33].place == n - 1);
+            CHECK(mending_in(many, n, m + 1, 33) == ANSWER(14, m + 2) && mending_in(many, n, m + 2, 33) == ANSWER(11, 34));
+            CHECK(mending_in(many, n, m + 2, 34) == MENDED(m + 2, 34));
+            CHECK(mending_in(right_many, m + 2, m + 2, 0) == MENDED(m + 2, 0) && memcmp(mended, right_many, m + 2) == 0);
+            /* A word more just past the terminator isn't looked at; with its blank in place and nothing after it is 4. */
+            many[n] = '4';
+            CHECK(mending_in(many, n + 1, m + 2, 34) == MENDED(m + 2, 34));
+            many[n - 1] = ' ';
+            many[n] = '\n';
+            CHECK(mending_in(many, n + 1, m + 2, 34) == MENDED(m + 2, 33) && edits[32].kind == 3 && edits[32].place == n);
+            CHECK(mending_in(many, n, m + 2, 34) == ANSWER(4, m));
+        }
     family = &station;
 }
 
@@ -2155,6 +2427,8 @@ int main(void)
     check_minus_nought();
     check_places();
     check_every_place();
+    check_listings();
+    check_mending();
     check_proved_lines();
     check_line_slips();
     check_states();

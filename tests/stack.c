@@ -14,7 +14,18 @@ int memcmp(const void *, const void *, size_t);
 size_t strlen(const char *);
 size_t strcspn(const char *, const char *);
 
-enum { LINE, SHEET_LOAD, SHEET_WRITE, FACTORY, FACTORY_300, READ, WRITE, READ_LEVEL, WRITE_LEVEL, FUNCTIONS };
+/* Until gsi.h has them. */
+#ifndef GSI_EDITS_MOST
+#define GSI_EDITS_MOST 34
+typedef struct {
+    uint32_t place;
+    uint32_t kind;
+} gsi_edit;
+uint64_t gsi_mend(const uint8_t *block, size_t n, uint8_t *mended, size_t room, gsi_edit *edits, size_t places);
+uint64_t gsi_mend_level(const uint8_t *block, size_t n, uint8_t *mended, size_t room, gsi_edit *edits, size_t places);
+#endif
+
+enum { LINE, SHEET_LOAD, SHEET_WRITE, FACTORY, FACTORY_300, READ, WRITE, READ_LEVEL, WRITE_LEVEL, MEND, MEND_LEVEL, FUNCTIONS };
 
 #define AS_ANY(function) (void (*)(void))function
 
@@ -33,6 +44,8 @@ static const struct {
     {"gsi_write", AS_ANY(gsi_write), 8192},
     {"gsi_read_level", AS_ANY(gsi_read_level), 8192},
     {"gsi_write_level", AS_ANY(gsi_write_level), 8192},
+    {"gsi_mend", AS_ANY(gsi_mend), 8192},
+    {"gsi_mend_level", AS_ANY(gsi_mend_level), 8192},
 };
 
 #define COUNT_OF(array) (sizeof(array) / sizeof *(array))
@@ -355,6 +368,7 @@ static const char *const family_names[FAMILIES] = {"a total station's", "a level
 
 static uint8_t block[LONG], room[LONG];
 static gsi_word list[LONG / 24];
+static gsi_edit edits[GSI_EDITS_MOST];
 
 /* Lays down a block of so many words, from the first one on and over again from the start, and tells its bytes. */
 static size_t make_block(unsigned family, size_t first, size_t words, int wide, int crlf)
@@ -422,6 +436,72 @@ static void try_block(unsigned family, size_t first, size_t words, int wide, int
     }
 }
 
+static uint64_t mend_block(unsigned family, size_t n, size_t bytes, size_t places)
+{
+    return CALL(MEND + family, PLACE(block), n, PLACE(room), bytes, PLACE(edits), places);
+}
+
+/* Makes the block's words, every other one or all, words of 42-49 with four dots; the data, which are text then, stay. */
+static void lay_dots(size_t words, int wide, int all)
+{
+    for (size_t i = 0; i < words; i++)
+        if (all || i % 2) {
+            uint8_t *word = block + wide + i * (wide ? 24 : 16);
+            memcpy(word, "42....+", 7);
+            word[1] = (uint8_t)('2' + i % 8);
+        }
+}
+
+/* Spoils the block, whose end is CR LF, as a print program does: no word of 42-49 has its fourth dot, the last one no blank, and the
+   end is LF alone. Tells its bytes, where its last word starts, and the edits that mend it. */
+static size_t spoil_block(size_t words, int wide, size_t *last, size_t *missing)
+{
+    size_t each = wide ? 24 : 16, at = (size_t)wide;
+
+    *missing = 2;
+    for (size_t i = 0; i < words; i++) {
+        const uint8_t *word = block + wide + i * each;
+        size_t dot = memcmp(word + 2, "....", 4) == 0 && word[0] == '4' && word[1] >= '2';
+        *last = at;
+        *missing += dot;
+        for (size_t k = 0; k < each; k++)
+            if (k != 5 || !dot)
+                block[at++] = word[k];
+    }
+    block[at - 1] = '\n';
+    return at;
+}
+
+/* A right block is mended to itself, and to itself too when it is spoiled; then it is refused with too little room, with too few places
+   for its edits, cut short, and with each byte of its last word wrong. */
+static void try_mend(unsigned family, size_t first, size_t words, int wide, int all)
+{
+    static uint8_t right[LONG];
+    size_t n = make_block(family, first, words, wide, 1), spoiled, last = 0, missing;
+
+    snprintf(now, NAME, "%s block of %u words to mend, %s, %s of 42-49, from %s on", family_names[family], (unsigned)words,
+             wide ? "wide" : "narrow", all ? "each one" : "every other", words_of[family][first]);
+    lay_dots(words, wide, all);
+    memcpy(right, block, n);
+    if (mend_block(family, n, n, 0) != n || memcmp(room, right, n) != 0)
+        stop("it is mended to another");
+    expect(mend_block(family, n, n - 1, 0), 14);
+
+    spoiled = spoil_block(words, wide, &last, &missing);
+    if (mend_block(family, spoiled, n, missing) != (n | (uint64_t)missing << 16) || memcmp(room, right, n) != 0)
+        stop("it is mended to another when it is spoiled");
+    expect(mend_block(family, spoiled, n - 1, missing), 14);
+    expect(mend_block(family, spoiled, n, missing - 1), 11);
+    expect(mend_block(family, spoiled - 1, n, missing), 2);
+    for (size_t at = last; at < spoiled; at++) {
+        uint8_t was = block[at];
+        block[at] = WRONG;
+        if (GSI_NUMBER(mend_block(family, spoiled, n, missing)) == 0)
+            stop("it should be refused with a wrong byte");
+        block[at] = was;
+    }
+}
+
 static void try_blocks(void)
 {
     for (unsigned family = 0; family < FAMILIES; family++)
@@ -430,19 +510,25 @@ static void try_blocks(void)
                 for (int crlf = 0; crlf < 2; crlf++) {
                     try_block(family, first, 1, wide, crlf);
                     try_block(family, first, WORDS, wide, crlf);
+                    try_mend(family, first, 1, wide, crlf);
+                    try_mend(family, first, WORDS, wide, crlf);
                 }
             snprintf(now, NAME, "%s block of 33 words, %s", family_names[family], wide ? "wide" : "narrow");
             expect(read_block(family, make_block(family, 0, WORDS + 1, wide, 0), COUNT_OF(list)), 4);
             expect(write_block(family, WORDS + 1, wide, 0, sizeof room), 12);
+            expect(mend_block(family, make_block(family, 0, WORDS + 1, wide, 0), sizeof room, COUNT_OF(edits)), 4);
             snprintf(now, NAME, "%s block of no words", family_names[family]);
             expect(read_block(family, 0, WORDS), 1);
+            expect(mend_block(family, 0, sizeof room, COUNT_OF(edits)), 1);
             memcpy(block, "\r", 1);
             expect(read_block(family, 1, WORDS), 3);
+            expect(mend_block(family, 1, sizeof room, COUNT_OF(edits)), 3);
             expect(write_block(family, 0, wide, 0, sizeof room), 12);
         }
     snprintf(now, NAME, "an angle of 400 gon");
     memcpy(block, "21.102+40000000 \r", 17);
     expect(read_block(STATION, 17, WORDS), 10);
+    expect(mend_block(STATION, 17, sizeof room, COUNT_OF(edits)), 10);
 }
 
 /* A number with a comma before its last three digits. */

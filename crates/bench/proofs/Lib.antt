@@ -1,3 +1,4 @@
 pub mod Readings
 pub mod Noughts
 pub mod Told
+pub mod Mended

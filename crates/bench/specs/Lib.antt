@@ -2,3 +2,4 @@ pub mod Readings
 pub mod Levels
 pub mod Noughts
 pub mod Told
+pub mod Mended

@@ -28,6 +28,9 @@ refusal-tells-determined = by-equation Refusal ℕ refusalTells
 pub judge-determined : (f : Family) → Determined (List ℕ × ℕ) JudgedBlock (λ i r. r ≡ keptOf (judged f (i .0) (i .1)))
 judge-determined f = by-equation (List ℕ × ℕ) JudgedBlock (λ i. keptOf (judged f (i .0) (i .1)))
 
+pub answer-of-determined : (f : Family) → Determined (List ℕ) Answer (λ i r. r ≡ judged f i 32 .answer)
+answer-of-determined f = by-equation (List ℕ) Answer (λ i. judged f i 32 .answer)
+
 pub emit-determined : (f : Family)
     → Determined (Block × Bool × Bool × List ℕ) (Wrote × List ℕ) (λ i o. Writes f (listOf (i .0)) (i .1) (i .2) (i .3) (o .0) (o .1))
 emit-determined f =

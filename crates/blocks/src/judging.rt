@@ -206,3 +206,45 @@ pub fn judge(s: &[u8], family: Family, places: usize) -> JudgedBlock
 {
     judge_whole(s, family, places)
 }
+
+// Answers a block by its words from a place on, as `words_from` does, and keeps no record of them.
+fn answer_from(s: &[u8], family: Family, wide: bool, start: usize) -> Answer
+    requires { ⌜ start ≤ length (now s) ⌝ }
+    ensures { λ r. ⌜ r ≡ blockFrom family 32 wide 32 start (drop start (now (s .entry))) [] .answer ⌝ }
+{
+    let size = width_of(wide) + 8;
+    let mut n = 0;
+    let mut at = start;
+    loop {
+        let stepped = step(s, family, wide, at, n, 32);
+        let next = stepped.next;
+        match next {
+            Next::Ends => {
+                return ended(s, wide, at, n);
+            }
+            Next::Stops(refusal) => {
+                return Answer::Refused(refusal);
+            }
+            Next::Goes => {
+                n += 1;
+                at += size;
+            }
+        }
+    }
+}
+
+// Answers the block of the family at the start of s, with a place for each of its words, and keeps no record of them: for callers that need none. They don't
+// share `judge`, which the compiler joins with `read` as long as it is called there alone (docs/BENCHMARK.md).
+pub fn answer_of(s: &[u8], family: Family) -> Answer
+    ensures { λ r. ⌜ r ≡ judged family (now (s .entry)) 32 .answer ⌝ }
+{
+    if s.len() == 0 {
+        return Answer::Refused(Refusal::Empty);
+    }
+    let wide = s[0] == b'*';
+    let start = start_of(wide);
+    if is_at(s, start, 13) {
+        return Answer::Refused(Refusal::NoWord);
+    }
+    answer_from(s, family, wide, start)
+}

@@ -14,6 +14,9 @@ use Rattle.blocks.specs.Composing.{written}
 use Rattle.blocks.specs.Keeping.{listOf}
 use Rattle.blocks.specs.declared.answers.Answer.{Answer}
 use Rattle.blocks.specs.declared.judging.Block.{Block}
+use Rattle.listings.specs.declared.edits.Edit.{Edit}
+use Rattle.listings.specs.declared.mending.Mended.{Mended}
+use Rattle.listings.specs.Outcome.{outcome, listed}
 use Rattle.instrument.specs.declared.settings.Series.{Series}
 use Rattle.state.specs.Entries.{factoryState}
 use Rattle.state.specs.Image.{imageN, imageOf}
@@ -22,11 +25,14 @@ use Rattle.lines.specs.declared.machine.Told.{Told}
 use Rattle.sheets.specs.Sheet.{writtenSheet}
 use Rattle.sheets.specs.Loading.{loaded}
 use Rattle.sheets.specs.declared.answers.Sheeted.{Sheeted}
-use Rattle.host.specs.Answers.{readTold, wroteTold, isYes, ReadsC, WritesC}
+use Rattle.host.specs.Answers.{readTold, wroteTold, mendedTold, isYes, ReadsC, WritesC, MendsC}
 use Rattle.host.specs.Machine.{toldLine, toldSheet, LaysFactory, CallsC, WritesSheetC, LoadsC}
 
 pub told-read-determined : Determined Answer ℕ (λ i r. r ≡ readTold i)
 told-read-determined = by-equation Answer ℕ readTold
+
+pub told-mended-determined : Determined Mended ℕ (λ i r. r ≡ mendedTold i)
+told-mended-determined = by-equation Mended ℕ mendedTold
 
 pub put-told-determined : (f : Family) → Determined (Block × ℕ × ℕ × List ℕ) (ℕ × List ℕ) (λ i o. WritesC f (listOf (i .0)) (i .1) (i .2) (i .3) (o .0) (o .1))
 put-told-determined f =
@@ -43,6 +49,13 @@ pub gsi-write-determined : (f : Family) → Determined (List Word × ℕ × ℕ 
 gsi-write-determined f =
     by-two (List Word × ℕ × ℕ × List ℕ) ℕ (List ℕ) (λ i. wroteTold (written f (i .0) (isYes (i .1)) (isYes (i .2)) (i .3) .answer))
     (λ i. written f (i .0) (isYes (i .1)) (isYes (i .2)) (i .3) .room)
+
+-- `gsi_mend` and `gsi_mend_level`
+pub gsi-mend-determined : (f : Family)
+    → Determined (List ℕ × List ℕ × List Edit) (ℕ × (List ℕ × List Edit)) (λ i o. MendsC f (i .0) (i .1) (i .2) (o .0) (o .1 .0) (o .1 .1))
+gsi-mend-determined f =
+    by-three (List ℕ × List ℕ × List Edit) ℕ (List ℕ) (List Edit) (λ i. mendedTold (outcome f (i .0) (i .1) (length (i .2)) .answer))
+    (λ i. outcome f (i .0) (i .1) (length (i .2)) .room) (λ i. listed (outcome f (i .0) (i .1) (length (i .2)) .edits) (i .2))
 
 pub told-line-determined : Determined Told ℕ (λ i r. r ≡ toldLine i)
 told-line-determined = by-equation Told ℕ toldLine

@@ -25,12 +25,12 @@ use Rattle.host.proofs.Whole.{ReadSmall, read-small, gsi-read-whole, gs
 use Rattle.host.proofs.Refused.{gsi-read-accepted, gsi-write-accepted}
 
 -- each part of what a reading tells has its own bits
-record Parts (r used words : ℕ) (wide crlf : Bool) : Type 0 where
-  low : r < 4294967296
-  used-in : usedIn r ≡ used
-  words-in : wordsIn r ≡ words
-  wide-in : isYes (wideIn r) ≡ wide
-  crlf-in : isYes (crlfIn r) ≡ crlf
+pub record Parts (r used words : ℕ) (wide crlf : Bool) : Type 0 where
+  pub low : r < 4294967296
+  pub used-in : usedIn r ≡ used
+  pub words-in : wordsIn r ≡ words
+  pub wide-in : isYes (wideIn r) ≡ wide
+  pub crlf-in : isYes (crlfIn r) ≡ crlf
 
 bits : (r u w x y : ℕ) → r ≡ u + w * 65536 + x * 16777216 + y * 33554432 → u ≤ 771 → w ≤ 32 → x ≤ 1 → y ≤ 1
     → (r < 4294967296) × (usedIn r ≡ u) × (wordsIn r ≡ w) × (wideIn r ≡ x) × (crlfIn r ≡ y)
@@ -48,7 +48,7 @@ parts r u w wide crlf h k e =
     record { low = low; used-in = used; words-in = words; wide-in = ap isYes at-24 ∙ is-wide; crlf-in = ap isYes at-25 ∙ is-crlf }
 
 module _ (f : Family) (s : List ℕ) (list : List Word) {r : ℕ} {list′ : List Word} (h : ReadsC f s list r list′) where
-  told-parts : (k : Reading) → judged f s (length list) .answer ≡ Read k → Parts r (k .used) (k .words) (k .wide) (k .crlf)
+  pub told-parts : (k : Reading) → judged f s (length list) .answer ≡ Read k → Parts r (k .used) (k .words) (k .wide) (k .crlf)
   told-parts k e =
       let small : ReadSmall (Read k) = rw e at (read-small f s (length list)) in
       parts r (k .used) (k .words) (k .wide) (k .crlf) (small .0) (small .1) (gsi-read-whole f s list h ∙ ap readWhole e)

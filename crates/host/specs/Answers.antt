@@ -16,6 +16,10 @@ use Rattle.blocks.specs.declared.answers.Wrote.the-variants as wrote
 use Rattle.blocks.specs.Answers.{refusalNumber, refusalTells}
 use Rattle.blocks.specs.Judging.{judged, filled}
 use Rattle.blocks.specs.Composing.{written}
+use Rattle.listings.specs.declared.edits.Edit.{Edit}
+use Rattle.listings.specs.declared.mending.Mended.{Mended}
+use Rattle.listings.specs.declared.mending.Mended.the-variants as mended
+use Rattle.listings.specs.Outcome.{outcome, listed}
 
 -- what would be told above 2^32 - 1 is told as 2^32 - 1, so that any answer has a number; no answer tells so much (proofs/Whole.antt, Answered.antt)
 abbrev pub packed : ℕ → ℕ → ℕ
@@ -40,6 +44,11 @@ abbrev pub wroteTold : Wrote → ℕ
 wroteTold (wrote.Refused r) = refusedTold r
 wroteTold (wrote.Written n) = packed 0 n
 
+-- told when mended: bytes + 2^16 * edits, each in its own bits
+abbrev pub mendedTold : Mended → ℕ
+mendedTold (mended.Refused r) = refusedTold r
+mendedTold (mended.Done n k) = n % 65536 + k % 65536 * 65536
+
 -- the same with nothing cut off
 abbrev pub refusedWhole : Refusal → ℕ
 refusedWhole r = refusalNumber r * 4294967296 + refusalTells r
@@ -52,6 +61,10 @@ abbrev pub wroteWhole : Wrote → ℕ
 wroteWhole (wrote.Refused r) = refusedWhole r
 wroteWhole (wrote.Written n) = n
 
+abbrev pub mendedWhole : Mended → ℕ
+mendedWhole (mended.Refused r) = refusedWhole r
+mendedWhole (mended.Done n k) = n + k * 65536
+
 -- the number that an answer has; 0 is accepted
 abbrev pub readNumber : Answer → ℕ
 readNumber (answer.Refused r) = refusalNumber r
@@ -60,6 +73,10 @@ readNumber (answer.Read k) = 0
 abbrev pub wroteNumber : Wrote → ℕ
 wroteNumber (wrote.Refused r) = refusalNumber r
 wroteNumber (wrote.Written n) = 0
+
+abbrev pub mendedNumber : Mended → ℕ
+mendedNumber (mended.Refused r) = refusalNumber r
+mendedNumber (mended.Done n k) = 0
 
 -- as gsi.h takes an answer apart: GSI_NUMBER, and of a block that was read GSI_USED, GSI_WORDS, GSI_IS_WIDE and GSI_IS_CRLF
 abbrev pub answerNumberIn : ℕ → ℕ
@@ -87,3 +104,7 @@ ReadsC f block list r list′ = (r ≡ readTold (judged f block (length list) .a
 abbrev pub WritesC : Family → List Word → ℕ → ℕ → List ℕ → ℕ → List ℕ → Type 0
 WritesC f list wide crlf room r room′ =
     (r ≡ wroteTold (written f list (isYes wide) (isYes crlf) room .answer)) × (room′ ≡ written f list (isYes wide) (isYes crlf) room .room)
+
+abbrev pub MendsC : Family → List ℕ → List ℕ → List Edit → ℕ → List ℕ → List Edit → Type 0
+MendsC f block room list r room′ list′ =
+    let o = outcome f block room (length list) in (r ≡ mendedTold (o .answer)) × ((room′ ≡ o .room) × (list′ ≡ listed (o .edits) list))

@@ -2,7 +2,7 @@
 ghost use mathlib.Core.Path.{_≡_};
 ghost use Prim.Native.Nat.{_≤_};
 ghost use Rattle.blocks.specs.Keeping.{listOf};
-ghost use Rattle.host.specs.Answers.{packed, bitOf, refusedTold, readingTold, readTold, wroteTold, WritesC};
+ghost use Rattle.host.specs.Answers.{packed, bitOf, refusedTold, readingTold, readTold, wroteTold, mendedTold, WritesC};
 use blocks::answers::Answer;
 use blocks::answers::Reading;
 use blocks::answers::Refusal;
@@ -11,6 +11,7 @@ use blocks::answers::refusal_number;
 use blocks::answers::refusal_tells;
 use blocks::composing::emit;
 use blocks::judging::Block;
+use listings::mending::Mended;
 use units::kinds::Family;
 
 // Packs an answer: the number over what is told; what would be more than 2^32 - 1 is told as that.
@@ -64,6 +65,16 @@ fn told_wrote(w: Wrote) -> u64
     match w {
         Wrote::Refused(refusal) => refused(refusal),
         Wrote::Written(n) => pack(0, n),
+    }
+}
+
+// Gives the answer of a mending, with what it tells in its own bits.
+pub fn told_mended(m: Mended) -> u64
+    ensures { λ r. ⌜ r ≡ mendedTold m ⌝ }
+{
+    match m {
+        Mended::Refused(refusal) => refused(refusal),
+        Mended::Done(bytes, edits) => bytes as u64 % 65536 + edits as u64 % 65536 * 65536,
     }
 }
 

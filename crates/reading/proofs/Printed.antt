@@ -5,11 +5,10 @@ use mathlib.Core.Bool.{Bool, true, false, cond}
 use mathlib.Core.List.{List, [], _∷_, _++_, append-assoc, append-nil}
 use native.Mathlib.Nat.{min-eq-left, min-le-left, le-min}
 use native.Mathlib.Omega.{arith}
-use borrow.Author.Tests.{lt-ltb, eq-eqb, ne-eqb}
+use borrow.Author.Tests.{eq-eqb, ne-eqb}
 use lib.Dec.{eqb, eqb·suc-zero}
 use lib.ListN.{length, take, drop, length-append, length-drop, replicate}
 use lib.Seq.{take-at, length-take-le}
-use Rattle.figures.proofs.Bytes.{laid-fits}
 use Rattle.figures.proofs.Decimal.{digits-length}
 use Rattle.units.specs.declared.kinds.Family.{Family}
 use Rattle.pieces.specs.Pieces.{isJoined, markAfter, fedFrom}
@@ -17,32 +16,20 @@ use Rattle.pieces.specs.declared.Mark.{Mark}
 use Rattle.pieces.specs.declared.Mark.the-variants.{Open}
 use Rattle.pieces.proofs.Fed.{fed-pieces}
 use Rattle.figures.specs.Rooms.{putAt}
+use Rattle.files.specs.Counting.{largest, moreOf}
+use Rattle.files.proofs.Counts.{more-is}
+use Rattle.files.proofs.Kept.{Keeps, keeps-none, keeps-more}
+use Rattle.files.proofs.Whole.{put-out, put-after}
 use Rattle.reports.specs.Piece.{reportOf}
 use Rattle.figures.proofs.Places.{digits-most}
 use Rattle.figures.proofs.Putting.{put-length}
 use Rattle.reports.proofs.Fits.{report-fits}
 use Rattle.reading.specs.declared.turns.Progress.{Progress}
 use Rattle.reading.specs.declared.turns.Turn.{Turn}
-use Rattle.reading.specs.Turns.{largest, moreOf, isTaken, joined, reported, toldText, Fed, goesOn, startsNext}
+use Rattle.reading.specs.Turns.{isTaken, joined, reported, toldText, Fed, goesOn, startsNext}
 use Rattle.reading.specs.Turns.{lastLine, Standing, next, afterBytes, begun}
 use Rattle.reading.specs.Printed.{reportsFrom, printedOf, handed, closing, printedFrom, handedFrom, handedNext, Due}
-use Rattle.reading.proofs.Kept.{Keeps, keeps-none, keeps-more, report-kept, accepted-kept}
-
-more-is : (n : ℕ) → n < largest → moreOf n ≡ n + 1
-more-is n h = rw (lt-ltb n largest h)
-
--- a text that fits is printed whole
-put-out : (text t : List ℕ) → length t ≤ length text → take (min (length t) (length text)) (putAt text 0 t) ≡ t
-put-out text t h = rw (min-eq-left {n = length t} {m = length text} h, laid-fits t text h) (take-at t (drop (length t) text) (length t) refl)
-
--- and so is one that is put after the n bytes that are there already
-put-after : (text t : List ℕ) (n : ℕ) → n + length t ≤ length text → take (min (n + length t) (length text)) (putAt text n t) ≡ take n text ++ t
-put-after text t n h =
-    let rest = drop (length t) (drop n text) in
-    let size : length (take n text ++ t) ≡ n + length t = length-append (take n text) t ∙ rw (length-take-le n text (omega arith)) in
-    let fits = laid-fits t (drop n text) (omega (arith, length-drop n text)) in
-    let put : putAt text n t ≡ (take n text ++ t) ++ rest = rw (fits, append-assoc (take n text) t rest) in
-    rw (min-eq-left {n = n + length t} {m = length text} h, put) (take-at (take n text ++ t) rest (n + length t) size)
+use Rattle.reading.proofs.Kept.{report-kept, accepted-kept}
 
 line-fits : (g : Progress) → length (lastLine g) ≤ 87
 line-fits g = simp (length-append, digits-length) (omega (arith, digits-most (g .blocks), digits-most (g .accepted), digits-most (g .refused)))

@@ -16,11 +16,12 @@ use Rattle.pieces.specs.declared.Mark.the-variants.{Open}
 use Rattle.figures.specs.Rooms.{putAt, Puts}
 use Rattle.figures.proofs.Bytes.{length-mid}
 use Rattle.figures.proofs.Putting.{put-length, lay-put, puts-within}
+use Rattle.files.specs.Counting.{moreOf}
 use Rattle.reports.specs.Piece.{reportOf}
 use Rattle.reports.specs.declared.piece.Reported.{Reported}
 use Rattle.reading.specs.declared.turns.Progress.{Progress}
 use Rattle.reading.specs.declared.turns.Turn.{Turn}
-use Rattle.reading.specs.Turns.{moreOf, isTaken, joined, reported, toldText, Fed, goesOn, startsNext, fed, Feeds}
+use Rattle.reading.specs.Turns.{isTaken, joined, reported, toldText, Fed, goesOn, startsNext, fed, Feeds}
 use Rattle.reading.specs.Turns.{lastLine, finished, finishedText, Closes, Standing, next, afterBytes, begun, Reached}
 use Rattle.reading.specs.Printed.{handed, closing, Due}
 

@@ -1,3 +1,2 @@
-pub mod Asked
 pub mod Turns
 pub mod Printed

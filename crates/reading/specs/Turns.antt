@@ -3,24 +3,18 @@ use Prim.Native.Nat.{ℕ, _+_, min}
 use mathlib.Core.Path.{_≡_}
 use mathlib.Core.Bool.{Bool, true, cond}
 use mathlib.Core.List.{List, [], _∷_}
-use lib.Dec.{eqb, ltb}
+use lib.Dec.{eqb}
 use lib.ListN.{length, take, replicate}
 use Rattle.blocks.specs.Judging.{judged}
 use Rattle.pieces.specs.Pieces.{isJoined, markAfter}
 use Rattle.units.specs.declared.kinds.Family.{Family}
 use Rattle.pieces.specs.declared.Mark.the-variants.{Open}
 use Rattle.figures.specs.Rooms.{putAt, Puts}
+use Rattle.files.specs.Counting.{moreOf}
 use Rattle.reports.specs.Piece.{reportOf, isRead, tallyText}
 use Rattle.reading.specs.declared.turns.Progress.{Progress}
 use Rattle.reading.specs.declared.turns.Turn.{Turn}
 use Rattle.reading.specs.declared.Next.{Next}
-
--- the largest count, at which counting stops; no file is that long
-abbrev pub largest : ℕ
-largest = 18446744073709551615
-
-abbrev pub moreOf : ℕ → ℕ
-moreOf n = cond (ltb n largest) (n + 1) n
 
 abbrev pub isTaken : Family → List ℕ → Bool
 isTaken f piece = isRead (judged f piece 32 .answer)

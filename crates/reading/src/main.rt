@@ -1,20 +1,19 @@
 // The program reading: reads a GSI file from standard input, and prints what stands in each of its blocks. The file is a total station's, or a
 // level's where the argument is `level`.
-mod asked;
 mod turns;
 
 ghost use Prim.Native.Nat.{_≤_};
 ghost use lib.ListN.{length};
 ghost use Rattle.reading.specs.Turns.{Reached, Takes, GoesOn};
 ghost use Rattle.reading.specs.Printed.{Due};
-use crate::asked::Asked;
-use crate::asked::asked_by;
 use crate::turns::KEPT;
 use crate::turns::Progress;
 use crate::turns::TEXT;
 use crate::turns::close;
 use crate::turns::feed;
 use crate::turns::start;
+use files::asked::Asked;
+use files::asked::asked_by;
 use libc::STDERR_FILENO;
 use libc::STDIN_FILENO;
 use libc::STDOUT_FILENO;

@@ -4,8 +4,9 @@ ghost use mathlib.Core.List.{_∷_, []};
 ghost use Prim.Native.Nat.{_≤_};
 ghost use lib.ListN.{length};
 ghost use Rattle.figures.specs.Rooms.{putAt};
-ghost use Rattle.reading.specs.Turns.{moreOf, started, joined, reported, toldText, Feeds, finished, finishedText, Closes};
+ghost use Rattle.reading.specs.Turns.{started, joined, reported, toldText, Feeds, finished, finishedText, Closes};
 use figures::rooms::put;
+use files::counting::more;
 use pieces::Mark;
 use pieces::after;
 use pieces::joins;
@@ -51,16 +52,6 @@ pub(crate) fn start() -> Progress
         accepted: 0,
         refused: 0,
     }
-}
-
-// Adds one, up to the largest count.
-fn more(n: u64) -> u64
-    ensures { λ r. ⌜ r ≡ moreOf n ⌝ }
-{
-    if n < u64::MAX {
-        return n + 1;
-    }
-    n
 }
 
 // Takes the piece's next byte.

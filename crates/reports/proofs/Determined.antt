@@ -5,8 +5,9 @@ use mathlib.Core.List.{List}
 use Rattle.figures.specs.Promises.{Determined}
 use Rattle.figures.proofs.Determined.{put-determined}
 use Rattle.figures.specs.Rooms.{Puts}
-use Rattle.reports.specs.Piece.{reportOf, Reports, tallyText}
+use Rattle.reports.specs.Piece.{fieldText, refusalText, reportOf, Reports, tallyText}
 use Rattle.units.specs.declared.kinds.Family.{Family}
+use Rattle.blocks.specs.declared.answers.Refusal.{Refusal}
 use Rattle.reports.specs.declared.piece.Reported.{Reported}
 
 -- a piece's number, its place and its bytes, and a room go in; the count, whether it was accepted, and the room come out
@@ -19,3 +20,10 @@ report-determined f i a b p q =
 -- the three counts and a room go in; the count of bytes and the room come out
 pub tally-determined : Determined (ℕ × ℕ × ℕ × List ℕ) (ℕ × List ℕ) (λ i o. Puts (i .3) 0 (tallyText (i .0) (i .1) (i .2)) (o .0) (o .1))
 tally-determined i = put-determined (i .3, 0, tallyText (i .0) (i .1) (i .2))
+
+-- a room, a place in it and what is put there go in; where the next part begins and the room come out
+pub put-field-determined : Determined (List ℕ × ℕ × List ℕ × ℕ) (ℕ × List ℕ) (λ i o. Puts (i .0) (i .1) (fieldText (i .2) (i .3)) (o .0) (o .1))
+put-field-determined i = put-determined (i .0, i .1, fieldText (i .2) (i .3))
+
+pub put-refusal-determined : Determined (List ℕ × ℕ × Refusal) (ℕ × List ℕ) (λ i o. Puts (i .0) (i .1) (refusalText (i .2)) (o .0) (o .1))
+put-refusal-determined i = put-determined (i .0, i .1, refusalText (i .2))

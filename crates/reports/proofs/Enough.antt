@@ -26,7 +26,7 @@ run-take p zero s = omega arith
 run-take p (suc n) [] = omega arith
 run-take p (suc n) (b ∷ s) = run-one (p b) n (runOf p (take n s)) (runOf p s) (run-take p n s)
 
-text-enough : (s : List ℕ) → textIn (take 800 s) ≡ textIn s
+pub text-enough : (s : List ℕ) → textIn (take 800 s) ≡ textIn s
 text-enough s =
     let n = min (runOf (isOther 13) s) 770 in
     let same : min (runOf (isOther 13) (take 800 s)) 770 ≡ n = omega (arith, run-take (isOther 13) 800 s) in

@@ -52,7 +52,7 @@ words-short f k wide (w ∷ ws) e =
 head-short : (number at : ℕ) → length (headText number at) ≤ 50
 head-short number at = simp (length-append, digits-length) (omega (arith, digits-most number, digits-most at))
 
-refusal-short : (r : Refusal) → length (refusalText r) ≤ 57
+pub refusal-short : (r : Refusal) → length (refusalText r) ≤ 57
 refusal-short r = simp (length-append, digits-length) (omega (arith, digits-most (refusalNumber r), digits-most (refusalTells r)))
 
 where-short : (piece : List ℕ) (place : ℕ) → place ≤ 769 → length (whereText piece place) ≤ 1542
@@ -76,7 +76,7 @@ abbrev Near : Answer → Type 0
 Near (Refused r) = refusalTells r ≤ 769
 Near (Read r) = Unit {0}
 
-told-near : (f : Family) (s : List ℕ) (r : Refusal) → judged f s 32 .answer ≡ Refused r → refusalTells r ≤ 769
+pub told-near : (f : Family) (s : List ℕ) (r : Refusal) → judged f s 32 .answer ≡ Refused r → refusalTells r ≤ 769
 told-near f s r e = subst Near e (judged-by f 32 (λ j. Near (j .answer)) (λ r h. h) (λ wide at rest ws h few. tt) s)
 
 answer-short : (f : Family) (s : List ℕ) (a : Answer) → judged f s 32 .answer ≡ a → length (answerText f s a (judged f s 32 .words)) ≤ 5193

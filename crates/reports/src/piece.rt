@@ -28,7 +28,7 @@ use words::records::Word;
 pub const ENOUGH: usize = 5_280;
 
 // The most that is shown of a refused piece: the bytes that the longest block has before its CR, and the one in the CR's place.
-const TEXT_MOST: usize = 770;
+pub const TEXT_MOST: usize = 770;
 
 // How many bytes of a report were put, and whether the block was accepted.
 pub struct Reported {
@@ -37,7 +37,7 @@ pub struct Reported {
 }
 
 // Puts a key, and a number in its fewest digits.
-fn put_field(room: &mut [u8], at: usize, key: &[u8], n: u64) -> usize
+pub fn put_field(room: &mut [u8], at: usize, key: &[u8], n: u64) -> usize
     ensures { λ r. ⌜ Puts (now (room .entry)) at (fieldText (now (key .entry)) n) r (now (room .exit)) ⌝ }
 {
     let next = put(room, at, key);
@@ -132,7 +132,8 @@ fn put_reading(room: &mut [u8], at: usize, reading: Reading) -> usize
     )
 }
 
-fn put_refusal(room: &mut [u8], at: usize, refusal: Refusal) -> usize
+// Puts a refusal's number and what it tells.
+pub fn put_refusal(room: &mut [u8], at: usize, refusal: Refusal) -> usize
     ensures { λ r. ⌜ Puts (now (room .entry)) at (refusalText refusal) r (now (room .exit)) ⌝ }
 {
     let place = wide_count(refusal_tells(refusal));

@@ -1,0 +1,2 @@
+pub mod Errata
+pub mod Keeping

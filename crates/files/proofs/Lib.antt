@@ -1,0 +1,4 @@
+pub mod Counts
+pub mod Kept
+pub mod Whole
+pub mod Determined

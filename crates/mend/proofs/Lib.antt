@@ -1,0 +1,3 @@
+pub mod Turning
+pub mod Put
+pub mod Lines
