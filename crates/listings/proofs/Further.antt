@@ -35,7 +35,7 @@ same-part p a b i j h =
     let fits : j ≤ length (drop i p) = omega (arith, length-drop i p) in
     rw (drop-append-le i p a (omega arith), drop-append-le i p b (omega arith), take-append-le j (drop i p) a fits, take-append-le j (drop i p) b fits)
 
-taken-most : (wide : Bool) (t : List ℕ) → (14 ≤ wordTaken wide t) × (width wide + 6 ≤ wordTaken wide t)
+pub taken-most : (wide : Bool) (t : List ℕ) → (14 ≤ wordTaken wide t) × (width wide + 6 ≤ wordTaken wide t)
 taken-most wide t =
     let (least, _) = width-bounds wide in
     cond-by (λ (n : ℕ). (14 ≤ n) × (width wide + 6 ≤ n)) (lacksDot t) _ _ (λ _. (omega arith, omega arith)) (λ _. (omega arith, omega arith))
@@ -244,10 +244,10 @@ block-goes f more wide places at t ws r unended =
     by one.Judged.Right long e = (long, (_, _, e))
     by (one.Judged.Wrong x byte) long e = absurd (clash (cc))
 
-no-return : (t : List ℕ) → isEnd t ≡ false → isAt 13 t ≡ false
+pub no-return : (t : List ℕ) → isEnd t ≡ false → isAt 13 t ≡ false
 no-return t e = by-test (isAt 13 t) (λ q. absurd (false≢true (rw q at (sym e)))) (λ q. q)
 
-no-end : (at : ℕ) (t : List ℕ) → isEnd t ≡ false → endMended at t ≡ copied []
+pub no-end : (at : ℕ) (t : List ℕ) → isEnd t ≡ false → endMended at t ≡ copied []
 no-end at t e = by (isAt 13 t) (isAt 10 t) e
   where
     by : (return alone : Bool) → return || alone ≡ false → endBy at return (isAt 10 (drop 1 t)) alone ≡ copied []

@@ -16,3 +16,4 @@ pub mod Twice
 pub mod Accepted
 pub mod Wrong
 pub mod Further
+pub mod Endless

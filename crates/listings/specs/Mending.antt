@@ -68,8 +68,7 @@ endMended at rest =
 abbrev pub toNext : Bool → List ℕ → ℕ
 toNext wide rest = wordTaken wide rest + blankTaken (drop (wordTaken wide rest) rest)
 
--- from a place on where a word would start, when so many more words may come. Where the input ends mending ends, and so it does after the 32nd word: what
--- stands there but an end is refused by 4, whatever it is
+-- from a place on where a word would start, when so many more words may come. Where the input ends mending ends
 unfoldable pub mendedFrom : ℕ → Bool → ℕ → List ℕ → Mending
 mendedFrom zero wide at rest = endMended at rest
 mendedFrom (suc more) wide at rest =
@@ -78,8 +77,13 @@ mendedFrom (suc more) wide at rest =
     (joined (wordMended wide at rest)
     (joined (blankMended (at + word) (drop word rest)) (mendedFrom more wide (at + toNext wide rest) (drop (toNext wide rest) rest))))
 
--- a first `*` is copied and means wide words
-unfoldable pub mended : List ℕ → Mending
-mended s =
+-- of so many words at most; a first `*` is copied and means wide words
+abbrev pub mendedOf : ℕ → List ℕ → Mending
+mendedOf most s =
     let first = firstAt (isWide s) in
-    joined (copied (starBytes (isWide s))) (mendedFrom 32 (isWide s) first (drop first s))
+    joined (copied (starBytes (isWide s))) (mendedFrom most (isWide s) first (drop first s))
+
+-- a block has 32 words at most. What goes on after them is refused by 4, whatever it is, so no more of it is copied or looked at: `to-the-end`, in
+-- proofs/Endless.antt, shows that a walk to the input's end comes to the same
+unfoldable pub mended : List ℕ → Mending
+mended s = mendedOf 32 s
