@@ -1,76 +1,55 @@
 -- What the walk over a lent list knows of the edits that it stores: how many they are, and what the list then is.
 use mathlib.Core.Path.{_≡_, refl}
-use mathlib.Core.Bool.{Bool, true, false, cond}
+use mathlib.Core.Bool.{Bool}
 use mathlib.Core.List.{List, _++_}
 use Prim.Native.Nat.{ℕ, zero, suc, _+_, _≤_, zero-le}
-use native.Mathlib.Nat.{add-zero}
 use native.Mathlib.Omega.{arith}
 use lib.Dec.{ltb}
-use lib.ListN.{length, take, drop, length-append}
+use lib.ListN.{length, drop, length-append}
 use lib.Seq.{take-append-seam}
 use borrow.Author.Tests.{ltb-false}
-use Rattle.figures.specs.Text.{cr, lf}
+use Rattle.figures.proofs.Tests.{by-test}
 use Rattle.units.specs.declared.kinds.Family.{Family}
-use Rattle.blocks.specs.Judging.{isAt, isWide, firstAt, judged}
+use Rattle.blocks.specs.Judging.{isWide, firstAt, judged}
 use Rattle.blocks.specs.declared.answers.Answer.{Answer}
 use Rattle.blocks.specs.declared.answers.Answer.the-variants as read
 use Rattle.blocks.proofs.Row.{mix}
 use Rattle.blocks.proofs.Steps.{cond-by}
 use Rattle.listings.specs.declared.edits.Edit.{Edit}
 use Rattle.listings.specs.declared.edits.Edits.{Edits}
-use Rattle.listings.specs.Edits.{blankKind}
-use Rattle.listings.specs.Mending.{Mending, copied, putBefore, lacksDot, wordMended, wordTaken, isEnd, blankMended, endMended, toNext}
-use Rattle.listings.specs.Mending.{mendedFrom, mended}
+use Rattle.listings.specs.Mending.{Mending, wordMended, wordTaken, isEnd, blankMended, toNext, mendedFrom, mended}
 use Rattle.listings.specs.Outcome.{Outcome, outcomeBy, outcome, listed}
-use Rattle.listings.specs.Keeping.{editsOf}
+use Rattle.listings.specs.Keeping.{oneIf, editsOf}
+use Rattle.listings.proofs.Seen.{one-most}
+use Rattle.listings.proofs.Turns.{end-small, over, at-end, goes, taken-least, word-edits, blank-ends}
 
 abbrev pub told : Mending → ℕ
 told m = length (m .edits)
 
--- no more than one
-abbrev One : Mending → Type 0
-One m = told m ≤ 1
-
-end-one : (at : ℕ) (rest : List ℕ) → One (endMended at rest)
-end-one at rest = cond-by One (isAt cr rest) _ _ (λ _. omega arith) (λ _. cond-by One (isAt lf rest) _ _ (λ _. omega arith) (λ _. omega arith))
-
-word-one : (wide : Bool) (at : ℕ) (word : List ℕ) → One (wordMended wide at word)
-word-one wide at word = cond-by One (lacksDot word) _ _ (λ _. omega arith) (λ _. omega arith)
-
-from-end : (more : ℕ) (wide : Bool) (at : ℕ) (rest : List ℕ) → isEnd rest ≡ true → One (mendedFrom more wide at rest)
-unfolding mendedFrom
-from-end zero wide at rest e = end-one at rest
-from-end (suc more) wide at rest e = rw e (end-one at rest)
-
--- where a blank is put an end follows
-blank-by : (end : Bool) (more : ℕ) (wide : Bool) (at next word : ℕ) (rest : List ℕ) → isEnd (drop word rest) ≡ end
-    → let later = mendedFrom more wide next (drop (word + cond end 0 1) rest) in
-    told later ≤ more + 2 → told (cond end (putBefore at blankKind) (copied (take 1 (drop word rest)))) + told later ≤ more + 2
-blank-by true more wide at next word rest e h = omega (arith, from-end more wide next (drop (word + cond true 0 1) rest) (rw add-zero e))
-blank-by false more wide at next word rest e h = omega (arith, h)
-
--- a dot in each word, and a blank and a CR
-from-few : (more : ℕ) (wide : Bool) (at : ℕ) (rest : List ℕ) → told (mendedFrom more wide at rest) ≤ more + 2
-unfolding mendedFrom
-from-few zero wide at rest = omega (arith, end-one at rest)
+-- a dot in each word, and a blank and a CR, which both stand before an end
+from-few : (more : ℕ) (wide : Bool) (at : ℕ) (rest : List ℕ) → told (mendedFrom more wide at rest) + oneIf (isEnd rest) ≤ more + 2
+from-few zero wide at rest = rw (over 0 wide at rest refl) (omega (arith, end-small at rest .1, one-most (isEnd rest)))
 from-few (suc more) wide at rest =
-    let word = wordTaken wide rest in
-    let blank = blankMended (at + word) (drop word rest) .edits in
-    let next = at + toNext wide rest in
-    let later = drop (toNext wide rest) rest in
-    let others = mendedFrom more wide next later .edits in
-    cond-by (λ (m : Mending). told m ≤ suc more + 2) (isEnd rest) _ _ (λ _. omega (arith, end-one at rest)) (λ _.
-    omega (
+    let size = wordTaken wide rest in
+    let to = toNext wide rest in
+    let w = wordMended wide at rest .edits in
+    let b = blankMended (at + size) (drop size rest) .edits in
+    let next = mendedFrom more wide (at + to) (drop to rest) .edits in
+    by-test (isEnd rest) (λ e. rw (at-end (suc more) wide at rest e, e) (omega (arith, end-small at rest .1))) (λ e.
+    rw (goes more wide at rest e, e)
+    (omega (
       arith,
-      word-one wide at rest,
-      length-append (wordMended wide at rest .edits) (blank ++ others),
-      length-append blank others,
-      blank-by (isEnd (drop word rest)) more wide (at + word) next word rest refl (from-few more wide next later),
-    ))
+      length-append w (b ++ next),
+      length-append b next,
+      word-edits wide at rest,
+      taken-least wide rest,
+      blank-ends wide at rest,
+      from-few more wide (at + to) (drop to rest),
+    )))
 
 pub mended-few : (s : List ℕ) → told (mended s) ≤ 34
 unfolding mended
-mended-few s = from-few 32 (isWide s) (firstAt (isWide s)) (drop (firstAt (isWide s)) s)
+mended-few s = omega (arith, from-few 32 (isWide s) (firstAt (isWide s)) (drop (firstAt (isWide s)) s))
 
 -- so many edits are kept by value, and so many places are lent
 abbrev pub Few : ℕ → ℕ → Type 0

@@ -1,7 +1,7 @@
 -- Each edit is one of the three rules' at a place that the walk reaches, and no place is passed over that the walk reaches and where a rule holds.
 use Prim.Native.Nat.{ℕ, zero, suc, _+_, _-_, _<_, _≤_}
 use mathlib.Core.Path.{_≡_, refl, sym, ap, subst, _∙_}
-use mathlib.Core.Bool.{Bool, true, false}
+use mathlib.Core.Bool.{true, false}
 use mathlib.Core.List.{List, [], _∷_, List·Memᴰ, List·Memᴰ·head, List·Memᴰ·not-nil, List·Memᴰ·eq-of-singleton, List·Memᴰ·append-cases}
 use mathlib.Core.List.{Memᴰ·append-left, Memᴰ·append-right}
 use mathlib.Core.Logic.{_↔_, _⊎_, inl, inr, ⊎-elim}
@@ -11,13 +11,14 @@ use lib.ListN.{getD, drop}
 use lib.Seq.{getD-drop, drop-drop}
 use Rattle.figures.specs.Text.{byte, cr, lf}
 use Rattle.figures.proofs.Tests.{by-test}
-use Rattle.blocks.specs.Judging.{isAt, isWide, firstAt}
+use Rattle.blocks.specs.Judging.{isWide, firstAt}
 use Rattle.blocks.proofs.Steps.{cond-by}
 use Rattle.listings.specs.declared.edits.Edit.{Edit}
 use Rattle.listings.specs.Edits.{dotKind, blankKind, crKind, edit}
-use Rattle.listings.specs.Mending.{Mending, joined, lacksDot, wordMended, wordTaken, isEnd, blankMended, endMended, toNext, mendedFrom, mended}
+use Rattle.listings.specs.Mending.{Mending, lacksDot, wordMended, wordTaken, isEnd, blankMended, endMended, toNext, mendedFrom, mended}
 use Rattle.listings.specs.Telling.{Starts, first, next, Due, dot, blank, return}
 use Rattle.listings.proofs.Seen.{next-is, end-is, lf-no-cr, lacks-tells, lacks-no-end}
+use Rattle.listings.proofs.Turns.{end-cases, over, at-end, goes}
 
 -- a mending has the edit
 abbrev Has : Mending → Edit → Type 0
@@ -31,27 +32,12 @@ only s due m = subst (λ (x : Edit). Due s x) (sym (List·Memᴰ·eq-of-singleto
 none : {e : Edit} {A : Type 0} → List·Memᴰ e [] → A
 none m = absurd (List·Memᴰ·not-nil m)
 
--- a turn of the walk
-
-ends : (more : ℕ) (wide : Bool) (at : ℕ) (rest : List ℕ) → isEnd rest ≡ true → mendedFrom more wide at rest ≡ endMended at rest
-unfolding mendedFrom
-ends zero wide at rest e = refl
-ends (suc more) wide at rest e = rw e
-
-goes : (more : ℕ) (wide : Bool) (at : ℕ) (rest : List ℕ) → isEnd rest ≡ false
-    → mendedFrom (suc more) wide at rest
-    ≡ joined (wordMended wide at rest) (joined (blankMended (at + wordTaken wide rest) (drop (wordTaken wide rest) rest))
-    (mendedFrom more wide (at + toNext wide rest) (drop (toNext wide rest) rest)))
-unfolding mendedFrom
-goes more wide at rest e = rw e
-
 -- what the walk puts is due
 
 module _ (s : List ℕ) (e : Edit) where
   end-due : {n at : ℕ} → Starts s n at → Has (endMended at (drop at s)) e → Due s e
   end-due {at} st =
-      cond-by (λ (m : Mending). Has m e → Due s e) (isAt cr (drop at s)) _ _ (λ _. none)
-      (λ _. cond-by (λ (m : Mending). Has m e → Due s e) (isAt lf (drop at s)) _ _ (λ l. only s (return st l)) (λ _. none))
+      end-cases (λ (m : Mending). Has m e → Due s e) at (drop at s) (λ _ _. none) (λ _ _. none) (λ _ l. only s (return st l)) (λ _. none)
 
   word-due : {n at : ℕ} → Starts s n at → n < 32 → Has (wordMended (isWide s) at (drop at s)) e → Due s e
   word-due {at} st small =
@@ -65,21 +51,18 @@ module _ (s : List ℕ) (e : Edit) where
       (λ l. only s (blank st small going (ap isEnd (sym (drop-drop word at s)) ∙ l))) (λ _. none)
 
   from-due : (more n at : ℕ) → n + more ≡ 32 → Starts s n at → Has (mendedFrom more (isWide s) at (drop at s)) e → Due s e
-  unfolding mendedFrom
-  from-due zero n at q st m = end-due st m
+  from-due zero n at q st m = end-due st (rw (over 0 (isWide s) at (drop at s) refl) at m)
   from-due (suc more) n at q st m =
       let wide = isWide s in
       let rest = drop at s in
       let word = wordTaken wide rest in
       let to = toNext wide rest in
-      by-test (isEnd rest) (λ h. end-due st (subst (λ (x : Mending). Has x e) (ends (suc more) wide at rest h) m))
-      (λ going.
-      ⊎-elim (word-due st (omega arith))
-      (λ m′. ⊎-elim (blank-due st (omega arith) going)
-      (λ m″. from-due more (suc n) (at + to) (omega arith) (next st (omega arith) going)
-      (subst (λ (t : List ℕ). Has (mendedFrom more wide (at + to) t) e) (drop-drop to at s) m″))
+      by-test (isEnd rest) (λ h. end-due st (rw (at-end (suc more) wide at rest h) at m)) (λ going.
+      ⊎-elim (word-due st (omega arith)) (λ m′.
+      ⊎-elim (blank-due st (omega arith) going) (λ m″.
+      from-due more (suc n) (at + to) (omega arith) (next st (omega arith) going) (rw (drop-drop to at s) at m″))
       (List·Memᴰ·append-cases (blankMended (at + word) (drop word rest) .edits) m′))
-      (List·Memᴰ·append-cases (wordMended wide at rest .edits) (subst (λ (x : Mending). Has x e) (goes more wide at rest going) m)))
+      (List·Memᴰ·append-cases (wordMended wide at rest .edits) (rw (goes more wide at rest going) at m)))
 
 -- what is due is put: what the walk does from a place on that it reaches is a part of what it does from the start
 
@@ -98,9 +81,9 @@ reached {s} {e} (next {n} {at} st small going) more q m =
     let rest = drop at s in
     let word = wordTaken wide rest in
     let to = toNext wide rest in
-    let m′ = subst (λ (t : List ℕ). Has (mendedFrom more wide (at + to) t) e) (sym (drop-drop to at s)) m in
+    let m′ : Has (mendedFrom more wide (at + to) (drop to rest)) e = rw (drop-drop to at s) m in
     reached st (suc more) (omega arith)
-    (subst (λ (x : Mending). Has x e) (sym (goes more wide at rest going))
+    (rw (goes more wide at rest going)
     (Memᴰ·append-right (wordMended wide at rest .edits) (Memᴰ·append-right (blankMended (at + word) (drop word rest) .edits) m′)))
 
 due-told : {s : List ℕ} {e : Edit} → Due s e → Has (mended s) e
@@ -108,8 +91,7 @@ due-told {s} (dot {n} {at} st small lacks) =
     let wide = isWide s in
     let rest = drop at s in
     let here : Has (wordMended wide at rest) (edit (at + 5) dotKind) = rw lacks (List·Memᴰ·head refl) in
-    reached st (suc (31 - n)) (omega arith)
-    (subst (λ (x : Mending). Has x (edit (at + 5) dotKind)) (sym (goes (31 - n) wide at rest (lacks-no-end rest lacks))) (Memᴰ·append-left _ here))
+    reached st (suc (31 - n)) (omega arith) (rw (goes (31 - n) wide at rest (lacks-no-end rest lacks)) (Memᴰ·append-left _ here))
 due-told {s} (blank {n} {at} st small going ended) =
     let wide = isWide s in
     let rest = drop at s in
@@ -117,15 +99,13 @@ due-told {s} (blank {n} {at} st small going ended) =
     let there : isEnd (drop word rest) ≡ true = ap isEnd (drop-drop word at s) ∙ ended in
     let here : Has (blankMended (at + word) (drop word rest)) (edit (at + word) blankKind) = rw there (List·Memᴰ·head refl) in
     reached st (suc (31 - n)) (omega arith)
-    (subst (λ (x : Mending). Has x (edit (at + word) blankKind)) (sym (goes (31 - n) wide at rest going))
-    (Memᴰ·append-right (wordMended wide at rest .edits) (Memᴰ·append-left _ here)))
+    (rw (goes (31 - n) wide at rest going) (Memᴰ·append-right (wordMended wide at rest .edits) (Memᴰ·append-left _ here)))
 due-told {s} (return {n} {at} st ended) =
     let rest = drop at s in
     let no-cr = lf-no-cr rest ended in
     let there : isEnd rest ≡ true = rw (no-cr, ended) in
     let here : Has (endMended at rest) (edit at crKind) = rw (no-cr, ended) (List·Memᴰ·head refl) in
-    reached st (32 - n) (omega (arith, starts-most st))
-    (subst (λ (x : Mending). Has x (edit at crKind)) (sym (ends (32 - n) (isWide s) at rest there)) here)
+    reached st (32 - n) (omega (arith, starts-most st)) (rw (at-end (32 - n) (isWide s) at rest there) here)
 
 pub due : (s : List ℕ) (e : Edit) → List·Memᴰ e (mended s .edits) ↔ Due s e
 unfolding mended

@@ -1,14 +1,14 @@
 -- Mending need go no further than 32 words: a walk that goes on, to the input's end if it likes, comes to the same outcome.
-use Prim.Native.Nat.{ℕ, zero, suc, _+_, _<_, _≤_}
+use Prim.Native.Nat.{ℕ, zero, suc, _+_, _≤_}
 use mathlib.Core.Path.{_≡_, refl, sym, ap, _∙_}
 use mathlib.Core.Bool.{Bool, true, false, cond}
-use mathlib.Core.List.{List, [], _∷_, _++_, append-assoc}
+use mathlib.Core.List.{List, [], _∷_, _++_}
 use mathlib.Core.Logic.{_⊎_, inl, inr, ⊎-elim, ⊎-map}
 use native.Mathlib.Omega.{arith}
 use borrow.Author.Tests.{le-ltb, ltb-true, ltb-false}
 use lib.Dec.{leb, ltb, eqb·suc-zero}
-use lib.ListN.{length, drop, length-append, length-drop, drop-of-length-le}
-use lib.Seq.{drop-at, length-take-le}
+use lib.ListN.{length, drop, length-append, length-drop}
+use lib.Seq.{drop-at}
 use Rattle.figures.specs.Text.{cr, starBytes}
 use Rattle.figures.proofs.Tests.{by-test}
 use Rattle.words.specs.Reading.{wordSize, wordOf}
@@ -19,13 +19,10 @@ use Rattle.words.specs.declared.reading.Judged as one
 use Rattle.blocks.specs.Judging.{Judgement, isAt, isWide, firstAt, refusedBy, afterWord, blockFrom, judged}
 use Rattle.blocks.specs.declared.answers.Refusal.{Refusal}
 use Rattle.blocks.specs.declared.answers.Refusal.the-variants.{Wrong, NoEnd, NoPlace}
-use Rattle.blocks.proofs.Steps.{cond-by}
-use Rattle.listings.specs.Mending.{Mending, copied, joined, wordMended, wordTaken, isEnd, blankMended, endMended, toNext, mendedFrom, mendedOf, mended}
+use Rattle.listings.specs.Mending.{Mending, copied, joined, wordTaken, isEnd, endMended, toNext, mendedFrom, mendedOf, mended}
 use Rattle.listings.specs.Outcome.{Outcome, refusedMend, outcomeBy, outcome}
-use Rattle.listings.proofs.Walks.{from-end}
-use Rattle.listings.proofs.Plain.{end-first, at-end, nothing-left}
-use Rattle.listings.proofs.Twice.{word, word-long, word-first, word-starts}
-use Rattle.listings.proofs.Further.{taken-most, no-return, no-end}
+use Rattle.listings.proofs.Seen.{end-first, no-return}
+use Rattle.listings.proofs.Turns.{no-end, over, at-end, nothing-left, step, steps, taken-least, step-long, last-word, word-first, step-unended}
 
 -- one and the same refusal
 abbrev Alike : Judgement → Judgement → Type 0
@@ -58,30 +55,10 @@ word-before f more wide w t t′ size unended later places at ws =
     by false one.Judged.Right next = next
     by false (one.Judged.Wrong fault byte) next = (Wrong fault (at + byte), refl, refl)
 
--- a mended word and what stands in its blank's place: as long as the reader's words, where the input goes on past the word
-abbrev step : Bool → ℕ → List ℕ → Mending
-step wide at rest = joined (wordMended wide at rest) (blankMended (at + wordTaken wide rest) (drop (wordTaken wide rest) rest))
-
-step-size : (wide : Bool) (at : ℕ) (rest : List ℕ) → wordTaken wide rest < length rest → length (step wide at rest .bytes) ≡ wordSize wide
-step-size wide at rest h =
-    let size = wordTaken wide rest in
-    let past = drop size rest in
-    let blank : length (blankMended (at + size) past .bytes) ≡ 1 =
-    cond-by (λ (m : Mending). length (m .bytes) ≡ 1) (isEnd past) _ _ (λ _. refl) (λ _. length-take-le 1 past (omega (arith, length-drop size rest))) in
-    omega (arith, length-append (word wide at rest) (blankMended (at + size) past .bytes), word-long wide at rest (omega arith))
-
--- where no end is next that comes first, however many words may follow; it starts as the input does, and so with no CR
-module _ (wide : Bool) (at x : ℕ) (rest : List ℕ) (q : isEnd (x ∷ rest) ≡ false) where
-  steps : (more : ℕ) → mendedFrom (suc more) wide at (x ∷ rest)
-      ≡ joined (step wide at (x ∷ rest)) (mendedFrom more wide (at + toNext wide (x ∷ rest)) (drop (toNext wide (x ∷ rest)) (x ∷ rest)))
-  unfolding mendedFrom
-  steps more = simp (q, append-assoc)
-
-  starts : (more : ℕ) → (u : List ℕ) × (mendedFrom (suc more) wide at (x ∷ rest) .bytes ≡ x ∷ u)
-  starts more = rw (steps more, word-first wide at x rest .1) (_, refl)
-
-  step-unended : (t : List ℕ) → isAt cr (step wide at (x ∷ rest) .bytes ++ t) ≡ false
-  step-unended t = no-return (step wide at (x ∷ rest) .bytes ++ t) (rw append-assoc (word-starts wide at x rest _ ∙ q))
+-- where no end is next the walk starts as the input does
+starts : (wide : Bool) (at x : ℕ) (rest : List ℕ) → isEnd (x ∷ rest) ≡ false → (more : ℕ)
+    → (u : List ℕ) × (mendedFrom (suc more) wide at (x ∷ rest) .bytes ≡ x ∷ u)
+starts wide at x rest q more = rw (steps more wide at (x ∷ rest) q, word-first wide at x rest .1) (_, refl)
 
 -- what holds of one walk and itself holds of two walks where an end is next, or nothing
 unless-over : (P : Mending → Mending → Type 0) → ((m : Mending) → P m m) → (wide : Bool) (most more at : ℕ) (rest : List ℕ)
@@ -101,22 +78,20 @@ module _ (f : Family) (wide : Bool) (at x : ℕ) (rest : List ℕ) (q : isEnd (x
   past-last : (k : ℕ) → BothRefused f 0 wide (mendedFrom (suc k) wide at (x ∷ rest) .bytes) (mendedFrom 0 wide at (x ∷ rest) .bytes)
   unfolding blockFrom
   past-last k places at₂ ws =
-      (NoEnd at₂, rw (steps wide at x rest q k, step-unended wide at x rest q _), rw (from-end 0 wide at (x ∷ rest) refl, no-end at (x ∷ rest) q))
+      (NoEnd at₂, rw (steps k wide at (x ∷ rest) q, step-unended wide at x rest _ q), rw (over 0 wide at (x ∷ rest) refl, no-end at (x ∷ rest) q))
 
-  -- a word without a byte in its blank's place leaves nothing for another
   one-more : (most more : ℕ) → let to = toNext wide (x ∷ rest) in
       Comes f more wide (mendedFrom most wide (at + to) (drop to (x ∷ rest))) (mendedFrom more wide (at + to) (drop to (x ∷ rest)))
       → Comes f (suc more) wide (mendedFrom (suc most) wide at (x ∷ rest)) (mendedFrom (suc more) wide at (x ∷ rest))
   one-more most more later =
       let size = wordTaken wide (x ∷ rest) in
-      let to = toNext wide (x ∷ rest) in
       let here = step wide at (x ∷ rest) in
-      rw (steps wide at x rest q most, steps wide at x rest q more)
-      (by-test (ltb size (length (x ∷ rest))) (λ e.
-      let long = step-size wide at (x ∷ rest) (ltb-true size (length (x ∷ rest)) e) in
-      ⊎-map (ap (joined here)) (word-before f more wide (here .bytes) _ _ long (step-unended wide at x rest q)) later) (λ e.
-      let gone = drop-of-length-le (x ∷ rest) {i = to} (omega (arith, ltb-false size (length (x ∷ rest)) e)) in
-      inl (ap (joined here) (rw gone (nothing-left most wide (at + to) ∙ sym (nothing-left more wide (at + to)))))))
+      by-test (ltb size (length (x ∷ rest))) (λ e.
+      let long = step-long wide at (x ∷ rest) (ltb-true size (length (x ∷ rest)) e) in
+      rw (steps most wide at (x ∷ rest) q, steps more wide at (x ∷ rest) q)
+      (⊎-map (ap (joined here)) (word-before f more wide (here .bytes) _ _ long (λ u. step-unended wide at x rest u q)) later)) (λ e.
+      let short = ltb-false size (length (x ∷ rest)) e in
+      inl (last-word most wide at (x ∷ rest) q short ∙ sym (last-word more wide at (x ∷ rest) q short)))
 
 further : (f : Family) (wide : Bool) (most more at : ℕ) (rest : List ℕ) → more ≤ most
     → Comes f more wide (mendedFrom most wide at rest) (mendedFrom more wide at rest)
@@ -172,8 +147,8 @@ no-longer wide zero (suc more) at rest few h = absurd (omega arith)
 no-longer wide (suc most) (suc more) at rest few h =
     unless-over (λ m m′. m ≡ m′) (λ _. refl) wide (suc most) (suc more) at rest (λ x t is q.
     let to = toNext wide (x ∷ t) in
-    let fewer : length (drop to (x ∷ t)) ≤ more = omega (arith, length-drop to (x ∷ t), ap length is, taken-most wide (x ∷ t) .0) in
-    rw (steps wide at x t q most, steps wide at x t q more)
+    let fewer : length (drop to (x ∷ t)) ≤ more = omega (arith, length-drop to (x ∷ t), ap length is, taken-least wide (x ∷ t)) in
+    rw (steps most wide at (x ∷ t) q, steps more wide at (x ∷ t) q)
     (ap (joined (step wide at (x ∷ t))) (no-longer wide most more (at + to) (drop to (x ∷ t)) fewer (omega arith))))
 
 pub to-the-end : (f : Family) (s room : List ℕ) (places : ℕ)

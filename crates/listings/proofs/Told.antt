@@ -1,7 +1,7 @@
 -- The edits tell the whole difference: the mended bytes are the input's, up to the terminator, with the edits' bytes put in, and the input's again without them.
 use Prim.Native.Nat.{ℕ, zero, suc, _+_, _-_, _<_, _≤_}
 use mathlib.Core.Path.{_≡_, refl, sym, ap, subst, _∙_}
-use mathlib.Core.Bool.{Bool, true, false, cond, _||_}
+use mathlib.Core.Bool.{Bool, true, false}
 use mathlib.Core.List.{List, [], _∷_, _++_, append-nil, append-assoc}
 use native.Mathlib.Nat.{add-zero, zero-add, sub-self}
 use native.Mathlib.Omega.{arith}
@@ -9,10 +9,10 @@ use borrow.Author.Tests.{leb-true, leb-false}
 use lib.Dec.{leb}
 use lib.ListN.{length, take, drop, length-append, length-drop, drop-of-length-le}
 use lib.Seq.{take-all, take-nil, take-length, length-take-le, take-append-add, drop-append-add, take-add, drop-drop}
-use Rattle.figures.specs.Text.{cr, lf, endBytes}
+use Rattle.figures.specs.Text.{cr, lf}
 use Rattle.figures.proofs.Tests.{by-test}
 use Rattle.words.specs.Records.{width}
-use Rattle.blocks.specs.Judging.{isAt, isWide, firstAt}
+use Rattle.blocks.specs.Judging.{isWide, firstAt}
 use Rattle.blocks.proofs.Steps.{is-inside}
 use Rattle.listings.specs.declared.edits.Edit.{Edit}
 use Rattle.listings.specs.Edits.{dotKind, blankKind, crKind, kindByte}
@@ -20,7 +20,8 @@ use Rattle.listings.specs.Mending.{Mending, copied, putBefore, joined, l
 use Rattle.listings.specs.Mending.{isEnd, blankMended, blankTaken, endMended, toNext, mendedFrom, mended}
 use Rattle.listings.specs.Telling.{putIn, takeOut, taken, InOrder}
 use Rattle.listings.specs.Keeping.{oneIf}
-use Rattle.listings.proofs.Seen.{is-there, next-taken, lacks-tells, star-taken}
+use Rattle.listings.proofs.Seen.{at-is, end-bytes, lacks-long, star-taken, one-most}
+use Rattle.listings.proofs.Turns.{end-cases, over, at-end, goes}
 
 -- edits in order
 
@@ -133,81 +134,54 @@ put-told at k rest m t =
 -- so each part of the walk tells, and the whole
 
 end-told : (at : ℕ) (rest : List ℕ) → Told (oneIf (isEnd rest)) at rest (endMended at rest)
-end-told at rest = by (isAt cr rest) (isAt lf rest) (isAt lf (drop 1 rest)) refl refl refl
-  where
-    by : (c l f : Bool) → isAt cr rest ≡ c → isAt lf rest ≡ l → isAt lf (drop 1 rest) ≡ f
-        → Told (oneIf (c || l)) at rest (cond c (copied (endBytes f)) (cond l (joined (putBefore at crKind) (copied (lf ∷ []))) (copied [])))
-    by true l true ec el ef =
-        let is : take 2 rest ≡ endBytes true =
-        take-add 1 1 rest ∙ ap (λ (a : List ℕ). a ++ take 1 (drop 1 rest)) (next-taken cr rest ec)
-        ∙ ap (λ (a : List ℕ). cr ∷ a) (next-taken lf (drop 1 rest) ef) in
-        let long = is-inside lf rest 1 ef in
-        fewer 1 2 at rest (copied (endBytes true)) (omega arith) (rw is at (copied-told 2 at rest (omega arith)))
-    by true l false ec el ef =
-        rw (next-taken cr rest ec) at (copied-told 1 at rest (is-inside cr rest 0 ec))
-    by false true f ec el ef =
-        put-told at crKind rest (copied (lf ∷ [])) (rw (next-taken lf rest el) at (copied-told 1 at rest (is-inside lf rest 0 el)))
-    by false false f ec el ef = copied-told 0 at rest (omega arith)
+end-told at rest =
+    let low = oneIf (isEnd rest) in
+    let most = one-most (isEnd rest) in
+    end-cases (λ (m : Mending). Told low at rest m) at rest
+    (λ c l. fewer low 2 at rest _ (omega arith) (rw (end-bytes rest true c l) at (copied-told 2 at rest (is-inside lf rest 1 l))))
+    (λ c l. fewer low 1 at rest _ most (rw (end-bytes rest false c l) at (copied-told 1 at rest (is-inside cr rest 0 c))))
+    (λ _ l.
+    let byte = rw (ap (take 1) (at-is lf rest l)) at (copied-told 1 at rest (is-inside lf rest 0 l)) in
+    fewer low 1 at rest _ most (put-told at crKind rest (copied (lf ∷ [])) byte)) (λ e. rw e (copied-told 0 at rest (omega arith)))
 
 blank-told : (at : ℕ) (rest : List ℕ) (m : Mending)
-    → Told (oneIf (isEnd (drop (blankTaken rest) rest))) (at + blankTaken rest) (drop (blankTaken rest) rest) m → Told 0 at rest (joined (blankMended at rest) m)
-blank-told at rest m = by (isEnd rest) refl
-  where
-    by : (t : Bool) → isEnd rest ≡ t → Told (oneIf (isEnd (drop (cond t 0 1) rest))) (at + cond t 0 1) (drop (cond t 0 1) rest) m
-        → Told 0 at rest (joined (cond t (putBefore at blankKind) (copied (take 1 rest))) m)
-    by true e h =
-        let one : Told 1 at rest m = subst (λ (t : Bool). Told (oneIf t) at rest m) e (rw add-zero at h) in
-        fewer 0 1 at rest (joined (putBefore at blankKind) m) (omega arith) (put-told at blankKind rest m one)
-    by false e h = copy-told 0 at 1 rest m (omega arith) (omega arith) h
+    → Told (oneIf (isEnd (drop (blankTaken rest) rest))) (at + blankTaken rest) (drop (blankTaken rest) rest) m
+    → Told 0 at rest (joined (blankMended at rest) m)
+blank-told at rest m h =
+    by-test (isEnd rest) (λ e.
+    let one : Told 1 at rest m = rw (e, add-zero, e) at h in
+    rw e (fewer 0 1 at rest (joined (putBefore at blankKind) m) (omega arith) (put-told at blankKind rest m one)))
+    (λ e. rw e (copy-told 0 at 1 rest m (omega arith) (omega arith) (rw e at h)))
 
 word-told : {low : ℕ} (wide : Bool) (at : ℕ) (rest : List ℕ) (m : Mending)
     → Told low (at + wordTaken wide rest) (drop (wordTaken wide rest) rest) m → Told 0 at rest (joined (wordMended wide at rest) m)
-word-told {low} wide at rest m = by (lacksDot rest) refl
-  where
-    by : (t : Bool) → lacksDot rest ≡ t
-        → Told low (at + cond t (width wide + 6) (width wide + 7)) (drop (cond t (width wide + 6) (width wide + 7)) rest) m
-        → Told 0 at rest (joined (cond t
-        (joined (copied (take 5 rest)) (joined (putBefore (at + 5) dotKind) (copied (take (width wide + 1) (drop 5 rest)))))
-        (copied (take (width wide + 7) rest))) m)
-    by true e h =
-        let after = drop 5 rest in
-        let long = is-there rest 5 42 (lacks-tells rest e .1) in
-        let to : width wide + 6 ≡ 5 + (width wide + 1) = omega arith in
-        let place : at + (5 + (width wide + 1)) ≡ at + 5 + (width wide + 1) = omega arith in
-        let then : Told low (at + 5 + (width wide + 1)) (drop (width wide + 1) after) m = rw (drop-drop (width wide + 1) 5 rest) (rw (to, place) at h) in
-        let last : Told 1 (at + 5) after (joined (copied (take (width wide + 1) after)) m) =
-        copy-told 1 (at + 5) (width wide + 1) after m (omega arith) (omega (arith, length-drop 5 rest)) then in
-        rw (append-assoc (take 5 rest)) (copy-told 0 at 5 rest _ (omega arith) (omega arith) (put-told (at + 5) dotKind after _ last))
-    by false e h = copy-told 0 at (width wide + 7) rest m (omega arith) (omega arith) h
+word-told {low} wide at rest m h =
+    by-test (lacksDot rest) (λ e.
+    let after = drop 5 rest in
+    let long = lacks-long rest e in
+    let to : width wide + 6 ≡ 5 + (width wide + 1) = omega arith in
+    let place : at + (5 + (width wide + 1)) ≡ at + 5 + (width wide + 1) = omega arith in
+    let then : Told low (at + 5 + (width wide + 1)) (drop (width wide + 1) after) m = rw (drop-drop (width wide + 1) 5 rest) (rw (e, to, place) at h) in
+    let last : Told 1 (at + 5) after (joined (copied (take (width wide + 1) after)) m) =
+    copy-told 1 (at + 5) (width wide + 1) after m (omega arith) (omega (arith, length-drop 5 rest)) then in
+    rw (e, append-assoc (take 5 rest)) (copy-told 0 at 5 rest _ (omega arith) (omega arith) (put-told (at + 5) dotKind after _ last)))
+    (λ e. rw e (copy-told 0 at (width wide + 7) rest m (omega arith) (omega arith) (rw e at h)))
 
 -- from one place to the next in two steps
 two-steps : (at a b : ℕ) (rest : List ℕ) (m : Mending) → Told (oneIf (isEnd (drop (a + b) rest))) (at + (a + b)) (drop (a + b) rest) m
     → Told (oneIf (isEnd (drop b (drop a rest)))) (at + a + b) (drop b (drop a rest)) m
 two-steps at a b rest m t = let place : at + (a + b) ≡ at + a + b = omega arith in rw (drop-drop b a rest) (rw place at t)
 
--- a word and its blank, or the end, where the walk goes on
-step-told : (wide : Bool) (at : ℕ) (rest : List ℕ) (next : Mending)
-    → Told (oneIf (isEnd (drop (toNext wide rest) rest))) (at + toNext wide rest) (drop (toNext wide rest) rest) next
-    → Told (oneIf (isEnd rest)) at rest (cond (isEnd rest) (endMended at rest)
-    (joined (wordMended wide at rest) (joined (blankMended (at + wordTaken wide rest) (drop (wordTaken wide rest) rest)) next)))
-step-told wide at rest next h = by (isEnd rest) refl
-  where
-    word : ℕ
-    word = wordTaken wide rest
-
-    by : (t : Bool) → isEnd rest ≡ t
-        → Told (oneIf t) at rest (cond t (endMended at rest) (joined (wordMended wide at rest) (joined (blankMended (at + word) (drop word rest)) next)))
-    by true e = subst (λ (t : Bool). Told (oneIf t) at rest (endMended at rest)) e (end-told at rest)
-    by false e =
-        word-told wide at rest (joined (blankMended (at + word) (drop word rest)) next)
-        (blank-told (at + word) (drop word rest) next (two-steps at word (blankTaken (drop word rest)) rest next h))
-
 from-told : (more : ℕ) (wide : Bool) (at : ℕ) (rest : List ℕ) → Told (oneIf (isEnd rest)) at rest (mendedFrom more wide at rest)
-unfolding mendedFrom
-from-told zero wide at rest = end-told at rest
+from-told zero wide at rest = rw (over 0 wide at rest refl) (end-told at rest)
 from-told (suc more) wide at rest =
-    step-told wide at rest (mendedFrom more wide (at + toNext wide rest) (drop (toNext wide rest) rest))
-    (from-told more wide (at + toNext wide rest) (drop (toNext wide rest) rest))
+    let word = wordTaken wide rest in
+    let to = toNext wide rest in
+    let next = mendedFrom more wide (at + to) (drop to rest) in
+    by-test (isEnd rest) (λ e. rw (at-end (suc more) wide at rest e) (end-told at rest)) (λ e.
+    rw (goes more wide at rest e, e)
+    (word-told wide at rest (joined (blankMended (at + word) (drop word rest)) next)
+    (blank-told (at + word) (drop word rest) next (two-steps at word (blankTaken (drop word rest)) rest next (from-told more wide (at + to) (drop to rest))))))
 
 mended-told : (s : List ℕ) → Told 0 0 s (mended s)
 unfolding mended

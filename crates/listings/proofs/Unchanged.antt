@@ -2,13 +2,13 @@
 use Prim.Native.Nat.{ℕ, zero, suc, _+_, _≤_}
 use mathlib.Core.Path.{_≡_, refl, sym, ap, _∙_}
 use mathlib.Core.Bool.{Bool, true, false, cond, and-false, false≢true}
-use mathlib.Core.List.{List, [], _∷_, _++_, append-nil}
+use mathlib.Core.List.{List, [], append-nil}
 use native.Mathlib.Omega.{arith}
 use borrow.Author.Tests.{eqb-true, leb-true, ne-eqb}
 use lib.Dec.{eqb, leb}
 use lib.ListN.{length, getD, take, drop}
 use lib.Seq.{take-add, length-take-le}
-use Rattle.figures.specs.Text.{byte, endBytes, starBytes}
+use Rattle.figures.specs.Text.{byte}
 use Rattle.figures.specs.Bytes.{among, laid}
 use Rattle.figures.specs.Decimal.{isDigit, areDigits}
 use Rattle.figures.proofs.Bytes.{within-bounds}
@@ -26,23 +26,24 @@ use Rattle.words.specs.declared.records.Word.{Word}
 use Rattle.words.specs.declared.reading.Fault.{Fault}
 use Rattle.words.specs.declared.reading.Judged as one
 use Rattle.words.specs.declared.reading.OneWord.{OneWord}
-use Rattle.blocks.specs.Judging.{Judgement, isAt, isWide, firstAt, refusedBy, endedAt, afterWord, blockFrom, judged}
-use Rattle.blocks.specs.declared.answers.Refusal.the-variants.{Wrong}
+use Rattle.blocks.specs.Judging.{Judgement, isAt, isWide, firstAt, blockFrom, judged}
 use Rattle.blocks.specs.declared.answers.Reading.{Reading}
 use Rattle.blocks.specs.declared.answers.Answer.the-variants.{Read}
 use Rattle.blocks.specs.Rules.{Ruled}
 use Rattle.blocks.proofs.Accepted.{accepted}
 use Rattle.blocks.proofs.Exactly.{ruled-read}
-use Rattle.blocks.proofs.Steps.{cond-by, start-by, is-in}
+use Rattle.blocks.proofs.Steps.{cond-by, is-in}
 use Rattle.listings.specs.Mending.{Mending, copied, lacksDot, isEnd, mendedFrom, mended}
 use Rattle.listings.specs.declared.mending.Mended.the-variants.{Done}
 use Rattle.listings.specs.Outcome.{outcomeBy, outcome}
 use Rattle.listings.proofs.Outcomes.{fits-done}
-use Rattle.listings.proofs.Plain.{is-first, at-end, plain, no-plus}
+use Rattle.listings.proofs.Reader.{judged-reads, read-end, read-none, read-word}
+use Rattle.listings.proofs.Seen.{no-plus, end-bytes, star-taken}
+use Rattle.listings.proofs.Turns.{at-end, plain}
 
 -- a word that is right: it has its bytes, starts with two digits, has no `+` at position 6, and a blank in its place
 
-pub through : (b : Bool) (x : Fault) (at : ℕ) (o : OneWord) → unless b x at o .answer ≡ one.Judged.Right → (b ≡ true) × (o .answer ≡ one.Judged.Right)
+through : (b : Bool) (x : Fault) (at : ℕ) (o : OneWord) → unless b x at o .answer ≡ one.Judged.Right → (b ≡ true) × (o .answer ≡ one.Judged.Right)
 through true x at o e = (refl, e)
 through false x at o e = absurd (clash (cc))
 
@@ -86,13 +87,13 @@ module _ (f : Family) (wide : Bool) (t : List ℕ) (right : wordOf f wide t .ans
       let end = through (eqb (getD t (7 + width wide) 0) (byte " ")) _ _ _ (letters .1) in
       (leb-true (wordSize wide) (length t) (long .0), digits .0, info .0, eqb-true (getD t (7 + width wide) 0) 32 (end .0))
 
-  pub right-long : wordSize wide ≤ length t
+  right-long : wordSize wide ≤ length t
   right-long = sized .0
 
-  pub right-dots : lacksDot t ≡ false
+  right-dots : lacksDot t ≡ false
   right-dots = no-plus t (right-unit f (indexIn f t) (kindAt f t) (leadIn f t) (pos 4 t) (pos 5 t) (pos 6 t) (sized .2))
 
-  pub right-starts : isEnd t ≡ false
+  right-starts : isEnd t ≡ false
   right-starts =
       let (low, high) = within-bounds 48 57 (pos 1 t) (both (isDigit (pos 1 t)) (isDigit (pos 2 t)) (sized .1) .0) in
       rw (
@@ -102,21 +103,11 @@ module _ (f : Family) (wide : Bool) (t : List ℕ) (right : wordOf f wide t .ans
         ne-eqb (pos 1 t) 10 (λ e. omega arith),
       )
 
-  pub right-blank : isEnd (drop (width wide + 7) t) ≡ false
+  right-blank : isEnd (drop (width wide + 7) t) ≡ false
   right-blank =
       let place : 7 + width wide ≡ width wide + 7 = omega arith in
       let blank : getD t (width wide + 7) 0 ≡ 32 = rw place at (sized .3) in
       rw (is-in 13 t (width wide + 7) (omega (arith, right-long)), is-in 10 t (width wide + 7) (omega (arith, right-long)), blank)
-
--- a terminator and the bytes that it has
-
-pub at-is : (b : ℕ) (rest : List ℕ) → isAt b rest ≡ true → rest ≡ b ∷ drop 1 rest
-at-is b [] e = absurd (false≢true e)
-at-is b (x ∷ rest) e = ap (λ n. n ∷ rest) (eqb-true x b (sym (is-first b x rest) ∙ e))
-
-pub end-bytes : (rest : List ℕ) (crlf : Bool) → isAt 13 rest ≡ true → isAt 10 (drop 1 rest) ≡ crlf → take (length (endBytes crlf)) rest ≡ endBytes crlf
-end-bytes rest true cr is = rw (at-is 13 rest cr, at-is 10 (drop 1 rest) is)
-end-bytes rest false cr is = rw (at-is 13 rest cr)
 
 -- from a place on where a word would start: what is read there is so many bytes, and they are mended to themselves
 record Same (more : ℕ) (wide : Bool) (at : ℕ) (rest : List ℕ) (r : Reading) : Type 0 where
@@ -124,68 +115,43 @@ record Same (more : ℕ) (wide : Bool) (at : ℕ) (rest : List ℕ) (r : Reading
   used : r .used ≡ at + size
   same : mendedFrom more wide at rest ≡ copied (take size rest)
 
-same-end : (more : ℕ) (wide : Bool) (at : ℕ) (rest : List ℕ) (n : ℕ) (r : Reading) → isAt 13 rest ≡ true → endedAt wide at rest n ≡ Read r
-    → Same more wide at rest r
-same-end more wide at rest n r cr e = by (isAt 10 (drop 1 rest)) refl
+same-end : (f : Family) (more : ℕ) (wide : Bool) (places at : ℕ) (rest : List ℕ) (ws : List Word) (r : Reading)
+    → blockFrom f more wide places at rest ws .answer ≡ Read r → isAt 13 rest ≡ true → Same more wide at rest r
+same-end f more wide places at rest ws r e q =
+    by (isAt 10 (drop 1 rest)) refl (ap (λ (r : Reading). r .used) (read-end f wide places at rest ws r more q e))
   where
-    by : (crlf : Bool) → isAt 10 (drop 1 rest) ≡ crlf → Same more wide at rest r
-    by crlf is = record {
-      size = length (endBytes crlf);
-      used =
-          let q : Read (record { wide = wide; crlf = crlf; words = n; used = cond crlf (at + 2) (at + 1) }) ≡ Read r = rw is at e in
-          let it : record { wide = wide; crlf = crlf; words = n; used = cond crlf (at + 2) (at + 1) } ≡ r = cc in
-          sym (ap (λ (r : Reading). r .used) it) ∙ size-is crlf;
-      same = at-end more wide at rest (rw cr) ∙ rw (cr, is, end-bytes rest crlf cr is);
-    }
-      where
-        size-is : (crlf : Bool) → cond crlf (at + 2) (at + 1) ≡ at + length (endBytes crlf)
-        size-is true = refl
-        size-is false = refl
+    by : (crlf : Bool) → isAt 10 (drop 1 rest) ≡ crlf → r .used ≡ cond crlf (at + 2) (at + 1) → Same more wide at rest r
+    by true is used = record { size = 2; used = used; same = at-end more wide at rest (rw q) ∙ rw (q, is, end-bytes rest true q is) }
+    by false is used = record { size = 1; used = used; same = at-end more wide at rest (rw q) ∙ rw (q, is, end-bytes rest false q is) }
 
 -- a right word, its blank, and then the same
-same-word : (f : Family) (more : ℕ) (wide : Bool) (at : ℕ) (rest : List ℕ) (r : Reading) (a : one.Judged) (next : Judgement) → wordOf f wide rest .answer ≡ a
-    → (next .answer ≡ Read r → Same more wide (at + wordSize wide) (drop (wordSize wide) rest) r) → afterWord at a next .answer ≡ Read r
-    → Same (suc more) wide at rest r
-same-word f more wide at rest r (one.Judged.Wrong x byte) next is later e = absurd (clash (cc))
-same-word f more wide at rest r one.Judged.Right next right later e =
-    let on = later e in
-    record {
-      size = wordSize wide + on .size;
-      used = omega (arith, on .used);
-      same =
-          plain more wide at rest (right-starts f wide rest right) (right-dots f wide rest right) (right-blank f wide rest right)
-          ∙ rw (on .same, take-add (wordSize wide) (on .size) rest);
-    }
+same-word : (f : Family) (more : ℕ) (wide : Bool) (at : ℕ) (rest : List ℕ) (r : Reading) → wordOf f wide rest .answer ≡ one.Judged.Right
+    → Same more wide (at + wordSize wide) (drop (wordSize wide) rest) r → Same (suc more) wide at rest r
+same-word f more wide at rest r right on = record {
+  size = wordSize wide + on .size;
+  used = omega (arith, on .used);
+  same =
+      plain more wide at rest (right-starts f wide rest right) (right-dots f wide rest right) (right-blank f wide rest right)
+      ∙ rw (on .same, take-add (wordSize wide) (on .size) rest);
+}
 
 from-same : (f : Family) (more : ℕ) (wide : Bool) (places at : ℕ) (rest : List ℕ) (ws : List Word) (r : Reading)
     → blockFrom f more wide places at rest ws .answer ≡ Read r → Same more wide at rest r
-unfolding blockFrom
-from-same f zero wide places at rest ws r =
-    cond-by (λ (j : Judgement). j .answer ≡ Read r → Same zero wide at rest r) (isAt 13 rest) _ _ (same-end zero wide at rest (length ws) r)
-    (λ _ e. absurd (clash (cc)))
-from-same f (suc more) wide places at rest ws r =
-    let size = wordSize wide in
-    start-by (λ (j : Judgement). j .answer ≡ Read r → Same (suc more) wide at rest r) false size places (length ws) at rest refusedBy _ _
-    (same-end (suc more) wide at rest (length ws) r) (λ e. absurd (clash (cc))) (λ _ _ e. absurd (clash (cc))) (λ e. absurd (clash (cc)))
-    (λ _ _ _ _. same-word f more wide at rest r (wordOf f wide rest .answer) _ refl
-    (from-same f more wide places (at + size) (drop size rest) (ws ++ (wordOf f wide rest .word ∷ [])) r))
-
-star-taken : (s : List ℕ) (wide : Bool) → isWide s ≡ wide → starBytes wide ≡ take (firstAt wide) s
-star-taken [] true e = absurd (false≢true e)
-star-taken (x ∷ s) true e = ap (λ n. n ∷ []) (sym (eqb-true x 42 e))
-star-taken s false e = refl
+from-same f zero wide places at rest ws r e =
+    by-test (isAt 13 rest) (same-end f zero wide places at rest ws r e) (λ q. absurd (read-none f wide places at rest ws r q e))
+from-same f (suc more) wide places at rest ws r e =
+    by-test (isAt 13 rest) (same-end f (suc more) wide places at rest ws r e) (λ q.
+    let w = read-word f wide places at rest ws r more q e in
+    same-word f more wide at rest r (w .right) (from-same f more wide places (at + wordSize wide) (drop (wordSize wide) rest) _ r (w .next)))
 
 pub unchanged : (f : Family) (s : List ℕ) (places : ℕ) (r : Reading) → judged f s places .answer ≡ Read r → mended s ≡ copied (take (r .used) s)
 unfolding mended
-unchanged f s places r =
+unchanged f s places r e =
     let wide = isWide s in
     let start = firstAt wide in
-    let P : Judgement → Type 0 = λ j. j .answer ≡ Read r → mended s ≡ copied (take (r .used) s) in
-    cond-by P (eqb (length s) 0) _ _ (λ _ e. absurd (clash (cc))) (λ _.
-    cond-by P (isAt 13 (drop start s)) _ _ (λ _ e. absurd (clash (cc))) (λ _ e.
-    let on = from-same f 32 wide places start (drop start s) [] r e in
-    let whole : mended s ≡ copied (take (start + on .size) s) = rw (on .same, star-taken s wide refl, take-add start (on .size) s) in
-    whole ∙ ap (λ n. copied (take n s)) (sym (on .used))))
+    let on = from-same f 32 wide places start (drop start s) [] r (judged-reads f s places r e) in
+    let whole : mended s ≡ copied (take (start + on .size) s) = rw (on .same, star-taken s, take-add start (on .size) s) in
+    whole ∙ ap (λ n. copied (take n s)) (sym (on .used))
 
 -- so it is accepted in whatever room it fits, and no place need be lent
 pub unchanged-done : (f : Family) (s room : List ℕ) (places : ℕ) (r : Reading) → judged f s places .answer ≡ Read r → r .used ≤ length room → (places₂ : ℕ)

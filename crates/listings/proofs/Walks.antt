@@ -1,31 +1,33 @@
--- Laws of the walk: what one word and its blank come to, what ends it, and what is kept of both.
-use Prim.Native.Nat.{ℕ, zero, suc, _+_, _-_, _*_, _<_, _≤_, min}
+-- What the loop of `walk` keeps of the bytes that it put and the edits that it stored: at the start, after each turn, and at the end, where it is the promise.
+use Prim.Native.Nat.{ℕ, suc, _+_, _-_, _*_, _<_, _≤_, min}
 use mathlib.Core.Path.{_≡_, refl, sym, ap, _∙_}
 use mathlib.Core.Bool.{Bool, true, false, cond, not, _&&_}
 use mathlib.Core.List.{List, [], _∷_, _++_, append-assoc, append-nil}
 use native.Mathlib.Nat.{add-zero}
 use native.Mathlib.Numerals.{add-one}
 use native.Mathlib.Omega.{arith}
-use borrow.Author.Tests.{lt-ltb, ltb-true, ltb-false, leb-true, leb-false, ne-eqb, eqb-true, not-false}
+use borrow.Author.Tests.{leb-true, leb-false}
 use lib.Dec.{eqb, leb, ltb}
 use lib.ListN.{length, getD, set, take, drop, replicate, length-append, length-take, length-drop, length-set, length-replicate, getD-replicate}
-use lib.ListN.{drop-of-length-le, List·getD-eq-default, take-append-drop}
-use lib.Seq.{drop-drop, drop-cons, take-nil, drop-nil, take-suc-set, take-set-le, drop-set-add, take-at, drop-at, length-take-le}
-use Rattle.figures.specs.Text.{codes, starBytes, endBytes}
-use Rattle.figures.specs.Bytes.{within}
+use lib.ListN.{drop-of-length-le}
+use lib.Seq.{drop-drop, drop-cons, take-suc-set, take-set-le, drop-set-add, take-at, drop-at, length-take-le}
+use Rattle.figures.specs.Text.{cr, lf, starBytes}
+use Rattle.figures.specs.Bytes.{laid}
 use Rattle.figures.specs.Rooms.{Puts}
-use Rattle.figures.proofs.Bytes.{laid-fits, end-long}
-use Rattle.figures.proofs.Putting.{puts-long, puts-more}
-use Rattle.figures.proofs.Tests.{by-test, both}
+use Rattle.figures.proofs.Bytes.{laid-fits}
+use Rattle.figures.proofs.Putting.{puts-long, puts-more, puts-nothing}
+use Rattle.figures.proofs.Tests.{by-test}
 use Rattle.words.specs.Records.{width}
 use Rattle.blocks.specs.Judging.{isAt, isWide}
-use Rattle.blocks.proofs.Steps.{width-small, kept-all, kept-more}
+use Rattle.blocks.proofs.Steps.{cond-by, width-small, kept-all, kept-more}
+use Rattle.blocks.proofs.Rooms.{star-length}
 use Rattle.listings.specs.declared.edits.Edit.{Edit}
 use Rattle.listings.specs.Edits.{dotKind, blankKind, crKind, edit}
-use Rattle.listings.specs.Mending.{Mending, copied, putBefore, joined, lacksDot, isEnd, blankMended, endMended}
-use Rattle.listings.specs.Mending.{mendedFrom, mended}
+use Rattle.listings.specs.Mending.{Mending, joined, lacksDot, wordMended, wordTaken, isEnd, blankMended, blankTaken, endMended}
+use Rattle.listings.specs.Mending.{toNext, mendedFrom, mended}
 use Rattle.listings.specs.Keeping.{noEdit, editIf, oneIf, part, dotted, Walks}
-use Rattle.listings.proofs.Stepping.{is-byte, lacksBy, lacks-bytes, part-up}
+use Rattle.listings.proofs.Seen.{is-byte, lf-no-cr, lacks-long, star-taken, part-up, one-most}
+use Rattle.listings.proofs.Turns.{end-small, over, nothing-left, joined-on, steps, blank-most, word, word-most}
 
 -- the edits that an edit which may not be due comes to
 abbrev editsIf : Bool → ℕ → ℕ → List Edit
@@ -33,10 +35,6 @@ editsIf is place kind = cond is (edit place kind ∷ []) []
 
 abbrev pub none : List Edit
 none = replicate 34 noEdit
-
-joined-on : (m a b : Mending) → joined (joined m a) b ≡ joined m (joined a b)
-joined-on m a b =
-    λ i. record { bytes = append-assoc (m .bytes) (a .bytes) (b .bytes) i; edits = append-assoc (m .edits) (a .edits) (b .edits) i }
 
 -- the list after an edit, or none, is stored at the count
 
@@ -53,30 +51,6 @@ module _ (list : List Edit) (n : ℕ) (long : length list ≡ 34) (h : n < 34) (
       let there : drop n (set list n noEdit) ≡ set (drop n list) 0 noEdit = rw add-zero at (drop-set-add n list 0 noEdit) in
       rw (add-zero n, there, e, here)
 
--- the room after a part is put that fits
-
-module _ (room t room′ : List ℕ) (at r : ℕ) (h : at + length t ≤ length room) (p : Puts room at t r room′) where
-  put-next : r ≡ at + length t
-  put-next = omega (arith, p .0)
-
-  front-long : length (take at room ++ t) ≡ at + length t
-  front-long = length-append (take at room) t ∙ omega (arith, length-take-le at room (omega arith))
-
-  put-is : room′ ≡ (take at room ++ t) ++ drop (at + length t) room
-  put-is = p .1 ∙ rw (laid-fits t (drop at room) (omega (arith, length-drop at room)), drop-drop (length t) at room, append-assoc)
-
-  put-front : take r room′ ≡ take at room ++ t
-  put-front = rw (put-next, put-is) (take-at (take at room ++ t) (drop (at + length t) room) (at + length t) front-long)
-
-  put-back : drop r room′ ≡ drop r room
-  put-back = rw (put-next, put-is) (drop-at (take at room ++ t) (drop (at + length t) room) (at + length t) front-long)
-
--- what is behind a place is behind each later one
-drop-later : {A : Type 0} (a b : List A) (m n : ℕ) → m ≤ n → drop m a ≡ drop m b → drop n a ≡ drop n b
-drop-later a b m n h e =
-    let on : m + (n - m) ≡ n = omega arith in
-    ap (λ k. drop k a) (sym on) ∙ (sym (drop-drop (n - m) m a) ∙ (ap (drop (n - m)) e ∙ (drop-drop (n - m) m b ∙ ap (λ k. drop k b) on)))
-
 -- a word
 
 abbrev pub takenBy : Bool → Bool → ℕ
@@ -86,93 +60,21 @@ pub taken-is : (wide lacks : Bool) (w : ℕ) → w ≡ width wide → w + 7 - on
 taken-is wide true w e = omega arith
 taken-is wide false w e = omega arith
 
-lacks-last : (b₁ b₂ b₃ b₄ b₅ b₆ : ℕ) → lacksBy b₁ b₂ b₃ b₄ b₅ b₆ ≡ true → b₆ ≡ 43
-lacks-last b₁ b₂ b₃ b₄ b₅ b₆ e =
-    let dots = eqb b₃ 46 && (eqb b₄ 46 && eqb b₅ 46) in
-    eqb-true b₆ 43 (both dots (eqb b₆ 43) (both (eqb b₁ 52 && within 50 57 b₂) (dots && eqb b₆ 43) e .1) .1)
-
 lacks-six : (s : List ℕ) (from : ℕ) → lacksDot (drop from s) ≡ true → from + 5 < length s
-lacks-six s from e =
-    let tell = lacks-last (getD s from 0) (getD s (from + 1) 0) (getD s (from + 2) 0) (getD s (from + 3) 0) (getD s (from + 4) 0) (getD s (from + 5) 0) in
-    let last = tell (sym (lacks-bytes s from) ∙ e) in
-    by-test (ltb (from + 5) (length s)) (ltb-true (from + 5) (length s))
-    (λ past. absurd (omega (arith, last, List·getD-eq-default s 0 (ltb-false (from + 5) (length s) past))))
+lacks-six s from e = omega (arith, lacks-long (drop from s) e, length-drop from s)
 
-module _ (wide : Bool) (s : List ℕ) (from to : ℕ) (inside : from ≤ length s) where
-  word-bytes : (lacks : Bool) → (lacks ≡ true → from + 5 < length s) → to ≡ min (from + takenBy wide lacks) (length s)
-      → dotted lacks from to s
-      ≡ cond lacks (take 5 (drop from s) ++ (codes "." ++ take (width wide + 1) (drop 5 (drop from s)))) (take (width wide + 7) (drop from s))
-  word-bytes true six e =
-      let five : from + 5 - from ≡ 5 = omega arith in
-      let on : from + (width wide + 6) ≡ from + 5 + (width wide + 1) = omega arith in
-      rw (e, on, five, drop-drop 5 from s, part-up s (from + 5) (width wide + 1) (omega (arith, six refl)))
-  word-bytes false six e = rw e (part-up s from (width wide + 7) inside)
-
--- what the next bytes come to, by whether a dot lacks and a blank does
-
-abbrev pub wordBy : Bool → Bool → ℕ → List ℕ → Mending
-wordBy wide lacks at word =
-    cond lacks
-    (joined (copied (take 5 word)) (joined (putBefore (at + 5) dotKind) (copied (take (width wide + 1) (drop 5 word)))))
-    (copied (take (width wide + 7) word))
-
-abbrev pub blankBy : Bool → ℕ → List ℕ → Mending
-blankBy ends at rest = cond ends (putBefore at blankKind) (copied (take 1 rest))
-
-pub from-by : (more : ℕ) (wide : Bool) (at : ℕ) (rest : List ℕ) (lacks ends : Bool) → isEnd rest ≡ false → lacksDot rest ≡ lacks
-    → isEnd (drop (takenBy wide lacks) rest) ≡ ends
-    → mendedFrom (suc more) wide at rest
-    ≡ joined (wordBy wide lacks at rest)
-    (joined (blankBy ends (at + takenBy wide lacks) (drop (takenBy wide lacks) rest))
-    (mendedFrom more wide (at + (takenBy wide lacks + (1 - oneIf ends))) (drop (takenBy wide lacks + (1 - oneIf ends)) rest)))
-unfolding mendedFrom
-from-by more wide at rest true true going e f = rw (going, e, f)
-from-by more wide at rest true false going e f = rw (going, e, f)
-from-by more wide at rest false true going e f = rw (going, e, f)
-from-by more wide at rest false false going e f = rw (going, e, f)
-
--- past the input there is nothing
-
-from-past : (more : ℕ) (wide : Bool) (at : ℕ) → mendedFrom more wide at [] ≡ copied []
-from-past zero wide at = unfold mendedFrom in refl
-from-past (suc more) wide at =
-    from-by more wide at [] false false refl refl (rw drop-nil) ∙ simp (take-nil, drop-nil, from-past more wide)
-
-drop-up : {A : Type 0} (s : List A) (k : ℕ) → drop (min k (length s)) s ≡ drop k s
-drop-up s k =
-    by-test (leb k (length s))
-    (λ e. let fits = leb-true k (length s) e in let is : min k (length s) ≡ k = omega arith in rw is)
-    (λ e. let past = leb-false k (length s) e in
-    drop-of-length-le s {i = min k (length s)} (omega arith) ∙ sym (drop-of-length-le s {i = k} (omega arith)))
-
-from-up : (more : ℕ) (wide : Bool) (s : List ℕ) (k : ℕ)
-    → mendedFrom more wide k (drop k s) ≡ mendedFrom more wide (min k (length s)) (drop (min k (length s)) s)
-from-up more wide s k =
-    by-test (leb k (length s))
-    (λ e. let fits = leb-true k (length s) e in let is : min k (length s) ≡ k = omega arith in rw is)
-    (λ e. let past = leb-false k (length s) e in
-    rw (drop-up s k, drop-of-length-le s {i = k} (omega arith)) (from-past more wide k ∙ sym (from-past more wide (min k (length s)))))
-
-blank-up : (s : List ℕ) (k : ℕ) (ends : Bool) → isEnd (drop k s) ≡ ends
-    → blankBy ends k (drop k s) ≡ blankBy ends (min k (length s)) (drop (min k (length s)) s)
-blank-up s k ends e =
-    by-test (leb k (length s))
-    (λ t. let fits = leb-true k (length s) t in let is : min k (length s) ≡ k = omega arith in rw is)
-    (λ t. let past = leb-false k (length s) t in
-    let none : drop k s ≡ [] = drop-of-length-le s {i = k} (omega arith) in
-    let not-end : false ≡ ends = ap isEnd (sym none) ∙ e in
-    rw (drop-up s k, ← not-end))
-
-pub from-end : (more : ℕ) (wide : Bool) (at : ℕ) (rest : List ℕ) → ltb 0 more && not (isEnd rest) ≡ false → mendedFrom more wide at rest ≡ endMended at rest
-unfolding mendedFrom
-from-end zero wide at rest e = refl
-from-end (suc more) wide at rest e = rw (not-false (isEnd rest) (rw (lt-ltb 0 (suc more) (omega arith)) at e))
+-- where nothing is left the place is no matter, and so the walk may stop at the input's end
+up-to : {A : Type 0} (P : ℕ → List ℕ → A) → ((k n : ℕ) → P k [] ≡ P n []) → (s : List ℕ) (k : ℕ)
+    → P k (drop k s) ≡ P (min k (length s)) (drop (min k (length s)) s)
+up-to P same s k =
+    by-test (leb k (length s)) (λ e.
+    let fits = leb-true k (length s) e in
+    let is : min k (length s) ≡ k = omega arith in
+    rw is) (λ e.
+    let past = leb-false k (length s) e in
+    rw (drop-of-length-le s {i = k} (omega arith), drop-of-length-le s {i = min k (length s)} (omega arith)) (same k (min k (length s))))
 
 -- one word and its blank
-
-pub one-most : (is : Bool) → oneIf is ≤ 1
-one-most true = omega arith
-one-most false = omega arith
 
 abbrev wordDone : (s : List ℕ) (lacks : Bool) (from to : ℕ) → Mending
 wordDone s lacks from to = record { bytes = dotted lacks from to s; edits = editsIf lacks (from + 5) dotKind }
@@ -180,14 +82,21 @@ wordDone s lacks from to = record { bytes = dotted lacks from to s; edits = edit
 abbrev blankDone : (s : List ℕ) (ends : Bool) (to : ℕ) → Mending
 blankDone s ends to = record { bytes = blankMended to (drop to s) .bytes; edits = editsIf ends to blankKind }
 
-word-is : (wide : Bool) (s : List ℕ) (from to : ℕ) (lacks : Bool) → from ≤ length s → (lacks ≡ true → from + 5 < length s)
-    → to ≡ min (from + takenBy wide lacks) (length s) → wordBy wide lacks from (drop from s) ≡ wordDone s lacks from to
-word-is wide s from to true h six e = λ i. record { bytes = sym (word-bytes wide s from to h true six e) i; edits = edit (from + 5) dotKind ∷ [] }
-word-is wide s from to false h six e = λ i. record { bytes = sym (word-bytes wide s from to h false six e) i; edits = [] }
+word-is : (wide : Bool) (s : List ℕ) (from to : ℕ) (lacks : Bool) → from ≤ length s → lacksDot (drop from s) ≡ lacks
+    → to ≡ min (from + takenBy wide lacks) (length s) → wordMended wide from (drop from s) ≡ wordDone s lacks from to
+word-is wide s from to true h e f =
+    let five : from + 5 - from ≡ 5 = omega arith in
+    let on : from + (width wide + 6) ≡ from + 5 + (width wide + 1) = omega arith in
+    rw (e, f, on, five, drop-drop 5 from s, part-up s (from + 5) (width wide + 1) (omega (arith, lacks-six s from e)))
+word-is wide s from to false h e f = rw (e, f, part-up s from (width wide + 7) h)
 
-blank-is : (s : List ℕ) (to : ℕ) (ends : Bool) → isEnd (drop to s) ≡ ends → blankBy ends to (drop to s) ≡ blankDone s ends to
+blank-is : (s : List ℕ) (to : ℕ) (ends : Bool) → isEnd (drop to s) ≡ ends → blankMended to (drop to s) ≡ blankDone s ends to
 blank-is s to true e = rw e
 blank-is s to false e = rw e
+
+blank-one : (ends : Bool) → cond ends 0 1 + oneIf ends ≡ 1
+blank-one true = refl
+blank-one false = refl
 
 pub word-inside : (wide : Bool) (s : List ℕ) (from to : ℕ) (lacks : Bool) → from ≤ length s → lacksDot (drop from s) ≡ lacks
     → to ≡ min (from + takenBy wide lacks) (length s) → (from ≤ to) × (to ≤ length s) × (lacks ≡ true → from + 5 ≤ to)
@@ -196,27 +105,6 @@ word-inside wide s from to lacks inside lacking e = (
   omega arith,
   λ is. let full : takenBy wide lacks ≡ width wide + 6 = rw is in omega (arith, lacks-six s from (lacking ∙ is)),
 )
-
--- how many bytes that puts
-
-word-long : (s : List ℕ) (from to : ℕ) (lacks : Bool) → from ≤ to → to ≤ length s → (lacks ≡ true → from + 5 ≤ to)
-    → length (dotted lacks from to s) ≡ to - from + oneIf lacks
-word-long s from to true h hs six =
-    let five = six refl in
-    let a = part from (from + 5) s in
-    let b = part (from + 5) to s in
-    let long-a = length-take-le (from + 5 - from) (drop from s) (omega (arith, length-drop from s)) in
-    let long-b = length-take-le (to - (from + 5)) (drop (from + 5) s) (omega (arith, length-drop (from + 5) s)) in
-    omega (arith, length-append a (codes "." ++ b), length-append (codes ".") b)
-word-long s from to false h hs six = omega (arith, length-take-le (to - from) (drop from s) (omega (arith, length-drop from s)))
-
-blank-long : (s : List ℕ) (to next : ℕ) (ends : Bool) → to ≤ length s → isEnd (drop to s) ≡ ends → next ≡ min (to + 1 - oneIf ends) (length s)
-    → (length (blankMended to (drop to s) .bytes) ≤ 1) × (next ≤ to + length (blankMended to (drop to s) .bytes))
-blank-long s to next true h e f = rw e (omega arith, omega arith)
-blank-long s to next false h e f =
-    let long = length-take 1 (drop to s) in
-    let rest = length-drop to s in
-    rw e (omega arith, omega arith)
 
 -- before a blank that was put an end stands, and there the walk ends
 ends-next : (s : List ℕ) (to next : ℕ) (ends : Bool) → to ≤ length s → isEnd (drop to s) ≡ ends → next ≡ min (to + 1 - oneIf ends) (length s)
@@ -232,50 +120,48 @@ module _ (more : ℕ) (wide : Bool) (s : List ℕ) (from to next : ℕ) (lacks e
   step-from : mendedFrom (suc more) wide from (drop from s)
       ≡ joined (joined (wordDone s lacks from to) (blankDone s ends to)) (mendedFrom more wide next (drop next s))
   step-from =
-      let size = takenBy wide lacks in
-      let past = from + size in
-      let on = from + (size + (1 - oneIf ends)) in
-      let there : drop size (drop from s) ≡ drop past s = drop-drop size from s in
-      let here : drop to s ≡ drop past s = rw to-is (drop-up s past) in
-      let ended : isEnd (drop past s) ≡ ends = ap isEnd (sym here) ∙ ending in
-      let place : min on (length s) ≡ next = omega (arith, one-most ends) in
-      let w = word-is wide s from to lacks inside (λ e. lacks-six s from (lacking ∙ e)) to-is in
-      let b = ap (blankBy ends past) there ∙ (blank-up s past ends ended ∙ (ap (λ k. blankBy ends k (drop k s)) (sym to-is) ∙ blank-is s to ends ending)) in
-      let n = ap (mendedFrom more wide on) (drop-drop (size + (1 - oneIf ends)) from s)
-      ∙ (from-up more wide s on ∙ ap (λ k. mendedFrom more wide k (drop k s)) place) in
-      from-by more wide from (drop from s) lacks ends going lacking (ap isEnd there ∙ ended)
-      ∙ ((λ i. joined (w i) (joined (b i) (n i)))
-      ∙ sym (joined-on (wordDone s lacks from to) (blankDone s ends to) (mendedFrom more wide next (drop next s))))
+      let rest = drop from s in
+      let size = wordTaken wide rest in
+      let sized : size ≡ takenBy wide lacks = λ i. takenBy wide (lacking i) in
+      let there : drop size rest ≡ drop (from + size) s = drop-drop size from s in
+      let here : min (from + size) (length s) ≡ to = omega arith in
+      let ended : isEnd (drop size rest) ≡ ends =
+      ap isEnd (there ∙ up-to (λ _ t. t) (λ _ _. refl) s (from + size)) ∙ (ap (λ k. isEnd (drop k s)) here ∙ ending) in
+      let blank : blankTaken (drop size rest) ≡ cond ends 0 1 = λ i. cond (ended i) 0 1 in
+      let place : min (from + toNext wide rest) (length s) ≡ next = omega (arith, blank-one ends) in
+      let w = word-is wide s from to lacks inside lacking to-is in
+      let b = ap (blankMended (from + size)) there
+      ∙ (up-to blankMended (λ _ _. refl) s (from + size) ∙ (ap (λ k. blankMended k (drop k s)) here ∙ blank-is s to ends ending)) in
+      let n = ap (mendedFrom more wide (from + toNext wide rest)) (drop-drop (toNext wide rest) from s)
+      ∙ (up-to (mendedFrom more wide) (λ k m. nothing-left more wide k ∙ sym (nothing-left more wide m)) s (from + toNext wide rest)
+      ∙ ap (λ k. mendedFrom more wide k (drop k s)) place) in
+      steps more wide from rest going ∙ (λ i. joined (joined (w i) (b i)) (n i))
 
-  step-long : let t = dotted lacks from to s ++ blankMended to (drop to s) .bytes in (length t ≤ 24) × (next ≤ from + length t)
-  step-long =
-      let all = length-append (dotted lacks from to s) (blankMended to (drop to s) .bytes) in
-      let in-s = word-inside wide s from to lacks inside lacking to-is in
-      let word = word-long s from to lacks (in-s .0) (in-s .1) (in-s .2) in
-      let blank = blank-long s to next ends (in-s .1) ending next-is in
-      counts (in-s .0) (width-small wide) (taken-is wide lacks (width wide) refl) (one-most lacks) all word blank (omega arith)
-    where
-      counts : {w o k n t b : ℕ} → from ≤ to → w ≤ 16 → w + 7 - o ≡ k → o ≤ 1 → n ≡ t + b → t ≡ to - from + o → (b ≤ 1) × (next ≤ to + b)
-          → to ≤ from + k → (n ≤ 24) × (next ≤ from + n)
-      counts h hw hk ho hn ht hb e = (omega arith, omega arith)
+  step-most : length (dotted lacks from to s ++ blankMended to (drop to s) .bytes) ≤ 24
+  step-most =
+      let word : word wide from (drop from s) ≡ dotted lacks from to s = ap (λ (m : Mending). m .bytes) (word-is wide s from to lacks inside lacking to-is) in
+      let blank = blankMended to (drop to s) .bytes in
+      omega (
+        arith,
+        length-append (dotted lacks from to s) blank,
+        ap length word,
+        word-most wide from (drop from s),
+        width-small wide,
+        blank-most to (drop to s),
+      )
 
--- the walk at a place: what the block comes to is what is done and what comes from there on; the room and the list are as they were beyond what is done
+-- the walk at a place: what the block comes to is what stood in the room at first, what was put since and what comes from there on
 pub record Walking (s first : List ℕ) (start : ℕ) (wide : Bool) (room : List ℕ) (list : List Edit) (n from at more : ℕ) : Type 0 where
-  pub so-far : mended s ≡ joined (record { bytes = take at room; edits = take n list }) (mendedFrom more wide from (drop from s))
+  pub done : List ℕ
+  pub put : Puts first start done at room
+  pub so-far : mended s ≡ joined (record { bytes = take start first ++ done; edits = take n list }) (mendedFrom more wide from (drop from s))
   pub beyond : drop n list ≡ drop n none
   pub places : length list ≡ 34
-  pub untouched : drop at room ≡ drop at first
   pub long : length room ≡ length first
-  pub behind : from ≤ at
-  pub begun : start ≤ at
+  pub behind : from + 24 * more ≤ 769
   pub inside : from ≤ length s
   pub fits : at + 24 * more ≤ 769
   pub few : n + more ≤ 32 + oneIf (isEnd (drop from s))
-
--- done, and a part more
-done-more : (m a b : Mending) (bytes : List ℕ) (edits : List Edit) → bytes ≡ m .bytes ++ a .bytes → edits ≡ m .edits ++ a .edits
-    → joined m (joined a b) ≡ joined (record { bytes = bytes; edits = edits }) b
-done-more m a b bytes edits eb ee = sym (joined-on m a b) ∙ (λ i. joined (record { bytes = sym eb i; edits = sym ee i }) b)
 
 -- two edits, or fewer
 step-edits : (list : List Edit) (n place place′ : ℕ) (a b : Bool) → length list ≡ 34 → n < 33 → drop n list ≡ drop n none →
@@ -308,61 +194,41 @@ module _ {s first : List ℕ} {start : ℕ} {wide : Bool} {room : List ℕ} {lis
   abbrev stepBytes : List ℕ
   stepBytes = dotted lacks from to s ++ blankMended to (drop to s) .bytes
 
-  step-room : at + length stepBytes ≤ length room
-  step-room = omega (arith, step-long m wide s from to next lacks ends (w .inside) going lacking to-is ending next-is .0, w .long, w .fits)
-
   pub walk-on : {room₁ room₂ : List ℕ} {at₁ at₂ : ℕ} → Puts room at (dotted lacks from to s) at₁ room₁
       → Puts room₁ at₁ (blankMended to (drop to s) .bytes) at₂ room₂
       → Walking s first start wide room₂ (set (set list n (editIf lacks (from + 5) dotKind)) (n + oneIf lacks) (editIf ends to blankKind))
       (n + oneIf lacks + oneIf ends) next at₂ m
   walk-on {room₁} {room₂} {at₁} {at₂} p q =
       let put = puts-more room at (dotted lacks from to s) (blankMended to (drop to s) .bytes) p q in
-      let at-is = put-next room stepBytes room₂ at at₂ step-room put in
-      let front = put-front room stepBytes room₂ at at₂ step-room put in
-      let back = put-back room stepBytes room₂ at at₂ step-room put in
-      let long = step-long m wide s from to next lacks ends (w .inside) going lacking to-is ending next-is in
+      let most = step-most m wide s from to next lacks ends (w .inside) going lacking to-is ending next-is in
       let kept = step-edits list n (from + 5) to lacks ends (w .places) (omega (arith, few-left w going)) (w .beyond) in
       let step = step-from m wide s from to next lacks ends (w .inside) going lacking to-is ending next-is in
-      let done : Mending = record { bytes = take at room; edits = take n list } in
+      let after = mendedFrom m wide next (drop next s) in
+      let before : Mending = record { bytes = take start first ++ w .done; edits = take n list } in
       record {
+        done = w .done ++ stepBytes;
+        put = puts-more first start (w .done) stepBytes (w .put) put;
         so-far =
             w .so-far
-            ∙ (ap (λ k. joined done (mendedFrom k wide from (drop from s))) is
-            ∙ (ap (joined done) step
-            ∙ done-more done (joined (wordDone s lacks from to) (blankDone s ends to)) (mendedFrom m wide next (drop next s)) _ _ front (kept .0)));
+            ∙ (ap (λ k. joined before (mendedFrom k wide from (drop from s))) is
+            ∙ (ap (joined before) step
+            ∙ (sym (joined-on before (joined (wordDone s lacks from to) (blankDone s ends to)) after)
+            ∙ (λ i. joined (record { bytes = append-assoc (take start first) (w .done) stepBytes i; edits = sym (kept .0) i }) after))));
         beyond = kept .1;
         places = kept .2;
-        untouched = back ∙ drop-later room first at at₂ (omega arith) (w .untouched);
         long = puts-long room at stepBytes put ∙ w .long;
-        behind = omega (arith, long .1, w .behind);
-        begun = omega (arith, w .begun);
+        behind = omega (arith, taken-is wide lacks (width wide) refl, width-small wide, w .behind);
         inside = omega arith;
-        fits = omega (arith, long .0, w .fits);
+        fits = omega (arith, most, put .0, w .fits);
         few = omega (arith, few-left w going, one-most lacks, ends-next s to next ends (omega arith) ending next-is);
       }
 
 -- its end
 
-end-by : (at : ℕ) (rest : List ℕ) (t u : Bool) → isAt 13 rest ≡ t → isAt 10 rest ≡ u → (t ≡ true → u ≡ false)
-    → endMended at rest ≡ record { bytes = endMended at rest .bytes; edits = editsIf u at crKind }
-end-by at rest true u e f h = rw (e, h refl)
-end-by at rest false true e f h = rw (e, f)
-end-by at rest false false e f h = rw (e, f)
-
-end-is : (s : List ℕ) (at : ℕ)
-    → endMended at (drop at s) ≡ record { bytes = endMended at (drop at s) .bytes; edits = editsIf (eqb (getD s at 0) 10) at crKind }
-end-is s at =
-    end-by at (drop at s) (eqb (getD s at 0) 13) (eqb (getD s at 0) 10) (is-byte 13 s at (omega arith)) (is-byte 10 s at (omega arith))
-    (λ e. ne-eqb (getD s at 0) 10 (λ f. omega (arith, eqb-true (getD s at 0) 13 e)))
-
-pub end-most : (at : ℕ) (rest : List ℕ) → length (endMended at rest .bytes) ≤ 2
-end-most at rest = by (isAt 13 rest) (isAt 10 rest) (end-long (isAt 10 (drop 1 rest)))
-  where
-    by : (t u : Bool) → length (endBytes (isAt 10 (drop 1 rest))) ≤ 2
-        → length (cond t (copied (endBytes (isAt 10 (drop 1 rest)))) (cond u (joined (putBefore at crKind) (copied (10 ∷ []))) (copied [])) .bytes) ≤ 2
-    by true u h = h
-    by false true h = omega arith
-    by false false h = omega arith
+end-edits : (at : ℕ) (rest : List ℕ) → endMended at rest .edits ≡ editsIf (isAt lf rest) at crKind
+end-edits at rest =
+    by-test (isAt lf rest) (λ l. rw (lf-no-cr rest l, l))
+    (λ l. rw l (cond-by (λ (m : Mending). m .edits ≡ []) (isAt cr rest) _ _ (λ _. refl) (λ _. refl)))
 
 pub walk-end : {s first : List ℕ} {start : ℕ} {wide : Bool} {room : List ℕ} {list : List Edit} {n from at more : ℕ}
     → Walking s first start wide room list n from at more → (entry : List ℕ) → 771 ≤ length entry → length first ≡ length entry
@@ -371,11 +237,13 @@ pub walk-end : {s first : List ℕ} {start : ℕ} {wide : Bool} {room : List ℕ
     → Walks s entry (record { bytes = r; edits = record { list = set list n (editIf alone from crKind); n = n + oneIf alone } }) room′
 walk-end {s} {first} {start} {wide} {room} {list} {n} {from} {at} {more} w entry large same first-is ending alone alone-is {room′} {r} p =
     let last = endMended from (drop from s) .bytes in
-    let here : at + length last ≤ length room = omega (arith, end-most from (drop from s), w .long, w .fits) in
-    let r-is = put-next room last room′ at r here p in
-    let front = put-front room last room′ at r here p in
-    let back = put-back room last room′ at r here p in
-    let long : length room′ ≡ length entry = puts-long room at last p ∙ (w .long ∙ same) in
+    let head = take start first in
+    let t = w .done ++ last in
+    let (r-is, room-is) = puts-more first start (w .done) last (w .put) p in
+    let small : start + length t ≤ length first =
+    omega (arith, length-append (w .done) last, end-small from (drop from s) .0, w .put .0, w .fits) in
+    let head-long = length-take-le start first (omega arith) in
+    let size : r ≡ length (head ++ t) = omega (arith, length-append head t) in
     let count : n < 34 = omega (arith, w .few, one-most (isEnd (drop from s))) in
     let list′ = set list n (editIf alone from crKind) in
     let n′ = n + oneIf alone in
@@ -383,63 +251,58 @@ walk-end {s} {first} {start} {wide} {room} {list} {n} {from} {at} {more} w entry
     let rest = stored-none list n (w .places) count (w .beyond) from crKind alone in
     let places : length list′ ≡ 34 = length-set list n (editIf alone from crKind) ∙ w .places in
     let ended : mendedFrom more wide from (drop from s) ≡ record { bytes = last; edits = editsIf alone from crKind } =
-    from-end more wide from (drop from s) ending ∙ rw alone-is (end-is s from) in
-    let whole : mended s ≡ record { bytes = take r room′; edits = take n′ list′ } =
-    w .so-far ∙ (ap (joined (record { bytes = take at room; edits = take n list })) ended ∙ (λ i. record { bytes = sym front i; edits = sym edits i })) in
-    let fits : r ≤ length room′ = omega (arith, end-most from (drop from s), w .fits) in
-    let size = length-take-le r room′ fits in
+    over more wide from (drop from s) ending
+    ∙ rw (alone-is, ← is-byte lf s from (omega arith)) (λ i. record { bytes = last; edits = end-edits from (drop from s) i }) in
+    let whole : mended s ≡ record { bytes = head ++ t; edits = take n′ list′ } =
+    w .so-far ∙ (ap (joined (record { bytes = head ++ w .done; edits = take n list })) ended
+    ∙ (λ i. record { bytes = append-assoc head (w .done) last i; edits = sym edits i })) in
     let number = length-take-le n′ list′ (omega (arith, one-most alone)) in
     let all = kept-all list′ none n′ (omega (arith, one-most alone)) rest in
-    let beyond : drop r room′ ≡ drop r entry =
-    back ∙ (drop-later room first at r (omega arith) (w .untouched) ∙ drop-later first entry start r (omega (arith, w .begun)) first-is) in
-    let laid-is = laid-fits (take r room′) entry (omega arith) ∙ (ap (λ k. take r room′ ++ drop k entry) size ∙ ap (λ l. take r room′ ++ l) (sym beyond)) in
-    rw whole ((λ i. record { bytes = sym size i; edits = record { list = sym all i; n = sym number i } }), sym (laid-is ∙ take-append-drop r room′))
+    let to-end : start + length t ≡ length (head ++ t) = omega (arith, length-append head t) in
+    let beyond : drop (length t) (drop start first) ≡ drop (length (head ++ t)) entry = rw (first-is, ← to-end) (drop-drop (length t) start entry) in
+    let laid-is : room′ ≡ laid (head ++ t) entry =
+    room-is ∙ (rw (laid-fits t (drop start first) (omega (arith, length-drop start first)), beyond)
+    (sym (append-assoc head t _) ∙ sym (laid-fits (head ++ t) entry (omega arith)))) in
+    rw whole ((λ i. record { bytes = size i; edits = record { list = sym all i; n = sym number i } }), laid-is)
 
 -- its start
-
-star : (s : List ℕ) → take (oneIf (isWide s)) s ≡ starBytes (isWide s)
-star [] = refl
-star (x ∷ s) = by-test (eqb x 42) (λ e. let is = eqb-true x 42 e in rw (e, is)) (λ e. rw e)
-
-star-long : (wide : Bool) → length (starBytes wide) ≡ oneIf wide
-star-long true = refl
-star-long false = refl
 
 pub star-inside : (s : List ℕ) → oneIf (isWide s) ≤ length s
 star-inside [] = omega arith
 star-inside (x ∷ s) = omega (arith, one-most (eqb x 42))
 
 begins : (s room : List ℕ) (wide : Bool) (at first : ℕ) (list : List Edit) → wide ≡ isWide s → first ≡ oneIf wide → take at room ≡ starBytes wide
-    → mended s ≡ joined (record { bytes = take at room; edits = take 0 list }) (mendedFrom 32 wide first (drop first s))
+    → mended s ≡ joined (record { bytes = take at room ++ []; edits = take 0 list }) (mendedFrom 32 wide first (drop first s))
 unfolding mended
-begins s room wide at first list e f front = rw (front, f, e)
+begins s room wide at first list e f front = rw (append-nil, front, f, e)
+
+-- what the start left of the room
+module _ (s entry room : List ℕ) (at first : ℕ) (large : 771 ≤ length entry) (small : first ≤ 1) (p : Puts entry 0 (take (first - 0) s) at room) where
+  start-is : (at ≡ length (take (first - 0) s)) × (room ≡ take (first - 0) s ++ drop (length (take (first - 0) s)) entry)
+  start-is =
+      let fits : length (take (first - 0) s) ≤ length entry = omega (arith, length-take (first - 0) s) in
+      (omega (arith, p .0), p .1 ∙ laid-fits (take (first - 0) s) entry fits)
+
+  pub start-back : (length room ≡ length entry) × (drop at room ≡ drop at entry)
+  start-back = (puts-long entry 0 (take (first - 0) s) p, rw (start-is .1, start-is .0) (drop-at (take (first - 0) s) _ _ refl))
 
 pub walk-start : (s entry room : List ℕ) (wide : Bool) (at first : ℕ) (list : List Edit) → 771 ≤ length entry → wide ≡ isWide s → first ≡ oneIf wide
     → list ≡ none → Puts entry 0 (take (first - 0) s) at room → Walking s room at wide room list 0 first at 32
 walk-start s entry room wide at first list large e f empty p =
     let all : first - 0 ≡ oneIf wide = omega arith in
-    let part : take (first - 0) s ≡ starBytes wide = rw (all, e) (star s) in
-    let put : Puts entry 0 (starBytes wide) at room = rw part at p in
+    let part : take (first - 0) s ≡ starBytes wide = rw (all, e) (sym (star-taken s)) in
     let small = one-most wide in
-    let room-for : 0 + length (starBytes wide) ≤ length entry = omega (arith, star-long wide) in
-    let at-is : at ≡ oneIf wide = omega (arith, put-next entry (starBytes wide) room 0 at room-for put, star-long wide) in
-    let front = put-front entry (starBytes wide) room 0 at room-for put in
+    let (at-is, room-is) = start-is s entry room at first large (omega arith) p in
+    let one : at ≡ oneIf wide = at-is ∙ (ap length part ∙ star-length wide) in
     record {
-      so-far = begins s room wide at first list e f front;
+      done = [];
+      put = puts-nothing room at (omega (arith, start-back s entry room at first large (omega arith) p .0));
+      so-far = begins s room wide at first list e f (ap (take at) room-is ∙ (take-at (take (first - 0) s) _ at (sym at-is) ∙ part));
       beyond = empty;
       places = ap length empty;
-      untouched = refl;
       long = refl;
       behind = omega arith;
-      begun = omega arith;
       inside = rw (f, e) (star-inside s);
       fits = omega arith;
       few = omega arith;
     }
-
--- what the start left of the room
-pub start-back : (s entry room : List ℕ) (at first : ℕ) → 771 ≤ length entry → first ≤ 1 → Puts entry 0 (take (first - 0) s) at room
-    → (length room ≡ length entry) × (drop at room ≡ drop at entry)
-start-back s entry room at first large h p =
-    let part = take (first - 0) s in
-    (puts-long entry 0 part p, put-back entry part room 0 at (omega (arith, length-take (first - 0) s)) p)

@@ -1,7 +1,7 @@
 -- `walking::ends_at` meets its contract: the byte there tells it.
 use borrow.Author.Needs.{needs}
 use borrow.Author.Tests.{eq-eqb, ne-eqb}
-use Rattle.listings.proofs.Stepping.{end-byte}
+use Rattle.listings.proofs.Seen.{end-byte}
 use Rattle.listings.proofs.walking.ends_at.Statement.{statement}
 use Rattle.listings.proofs.walking.ends_at.Tie as tie
 

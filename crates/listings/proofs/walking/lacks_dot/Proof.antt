@@ -7,7 +7,7 @@ use borrow.Author.Tests.{eq-eqb, ne-eqb, le-leb, lt-leb}
 use lib.Dec.{eqb}
 use lib.ListN.{getD, drop}
 use Rattle.listings.specs.Mending.{lacksDot}
-use Rattle.listings.proofs.Stepping.{lacks-bytes}
+use Rattle.listings.proofs.Seen.{lacks-bytes}
 use Rattle.listings.proofs.walking.lacks_dot.Statement.{statement}
 use Rattle.listings.proofs.walking.lacks_dot.Tie as tie
 

@@ -4,7 +4,8 @@ use mathlib.Core.Path.{refl, sym, ap, _∙_}
 use borrow.Author.Needs.{needs}
 use lib.ListN.{take, drop}
 use Rattle.figures.proofs.Putting.{puts-as}
-use Rattle.listings.proofs.Stepping.{part-up, blank-put, blank-kept}
+use Rattle.listings.proofs.Seen.{part-up}
+use Rattle.listings.proofs.Turns.{blank-put, blank-kept}
 use Rattle.listings.proofs.walking.put_blank.Statement.{statement}
 use Rattle.listings.proofs.walking.put_blank.Tie as tie
 

@@ -11,7 +11,8 @@ use lib.Seq.{drop-drop}
 use Rattle.figures.specs.Text.{endBytes}
 use Rattle.figures.proofs.Putting.{puts-as}
 use Rattle.blocks.specs.Judging.{isAt}
-use Rattle.listings.proofs.Stepping.{is-byte, end-kept, end-put, end-none}
+use Rattle.listings.proofs.Seen.{is-byte}
+use Rattle.listings.proofs.Turns.{end-kept, end-put, end-none}
 use Rattle.listings.proofs.walking.put_end.Statement.{statement}
 use Rattle.listings.proofs.walking.put_end.Tie as tie
 

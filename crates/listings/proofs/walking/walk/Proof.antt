@@ -15,7 +15,8 @@ use Rattle.blocks.proofs.Steps.{width-small}
 use Rattle.listings.specs.declared.edits.Edits.{Edits}
 use Rattle.listings.specs.Mending.{isEnd}
 use Rattle.listings.specs.Keeping.{oneIf}
-use Rattle.listings.proofs.Walks.{Walking, one-most, takenBy, taken-is, word-inside, few-left, walk-start, walk-on, walk-end, star-inside, start-back}
+use Rattle.listings.proofs.Seen.{one-most}
+use Rattle.listings.proofs.Walks.{Walking, takenBy, taken-is, word-inside, few-left, walk-start, walk-on, walk-end, star-inside, start-back}
 use Rattle.listings.proofs.walking.walk.Statement.{statement}
 use Rattle.listings.proofs.walking.walk.Tie as tie
 
