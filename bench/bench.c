@@ -3,7 +3,7 @@
    Usage: bench ROUNDS, which table.awk makes tables of; or bench CASE SIDE PASSES (SIDE is library or C), which plays a case
    so often and looks at no clock, for counters and profilers. Compiled with BEFORE, an earlier build of the library
    (before_gsi_*) stands in the place of the C; where it has no level's functions, a level's blocks are left out, and mending
-   where it has none. */
+   and sheets of form 2 where it has none. */
 #include "../tests/reference.h"
 
 int printf(const char *, ...);
@@ -28,6 +28,7 @@ uint64_t gsi_mend(const uint8_t *block, size_t n, uint8_t *mended, size_t room, 
 uint64_t gsi_mend_level(const uint8_t *block, size_t n, uint8_t *mended, size_t room, ref_edit *edits, size_t places);
 uint64_t gsi_line(uint8_t *image, size_t n, const uint8_t *line, size_t m, uint8_t *reply, size_t room);
 uint64_t gsi_sheet_write(const uint8_t *image, size_t n, uint8_t *sheet, size_t room);
+uint64_t gsi_sheet_write_2(const uint8_t *image, size_t n, uint8_t *sheet, size_t room);
 uint64_t gsi_sheet_load(uint8_t *image, size_t n, const uint8_t *sheet, size_t m);
 
 #ifdef BEFORE
@@ -39,30 +40,33 @@ __attribute__((weak)) uint64_t before_gsi_mend(const uint8_t *block, size_t n, u
 __attribute__((weak)) uint64_t before_gsi_mend_level(const uint8_t *block, size_t n, uint8_t *mended, size_t room, ref_edit *edits, size_t places);
 uint64_t before_gsi_line(uint8_t *image, size_t n, const uint8_t *line, size_t m, uint8_t *reply, size_t room);
 uint64_t before_gsi_sheet_write(const uint8_t *image, size_t n, uint8_t *sheet, size_t room);
+__attribute__((weak)) uint64_t before_gsi_sheet_write_2(const uint8_t *image, size_t n, uint8_t *sheet, size_t room);
 uint64_t before_gsi_sheet_load(uint8_t *image, size_t n, const uint8_t *sheet, size_t m);
 #endif
 
-enum { EDITS_MOST = 34, IMAGE = 1039, AT_VALUES = 20, VALUE_BYTES = 11, AT_COUNT = 141, BLOCK_MOST = 771, REPLY_MOST = 306, SHEET_MOST = 352 };
+enum { EDITS_MOST = 34, IMAGE = 1039, AT_VALUES = 20, VALUE_BYTES = 11, AT_COUNT = 141, BLOCK_MOST = 771, REPLY_MOST = 306, SHEET_MOST = 1775 };
 
 #define COUNT_OF(array) (sizeof(array) / sizeof *(array))
 
 enum { STATION, LEVEL };
 
-/* The two sides, called alike; reading, writing and mending by the family. */
+enum { FORM_1, FORM_2 };
+
+/* The two sides, called alike; reading, writing and mending by the family, a sheet's writing by its form. */
 static const struct side {
     uint64_t (*read[2])(const uint8_t *, size_t, ref_word *, size_t);
     uint64_t (*write[2])(const ref_word *, size_t, uint64_t, uint64_t, uint8_t *, size_t);
     uint64_t (*mend[2])(const uint8_t *, size_t, uint8_t *, size_t, ref_edit *, size_t);
     uint64_t (*line)(uint8_t *, size_t, const uint8_t *, size_t, uint8_t *, size_t);
-    uint64_t (*sheet_write)(const uint8_t *, size_t, uint8_t *, size_t);
+    uint64_t (*sheet_write[2])(const uint8_t *, size_t, uint8_t *, size_t);
     uint64_t (*sheet_load)(uint8_t *, size_t, const uint8_t *, size_t);
 } sides[2] = {
-    {{gsi_read, gsi_read_level}, {gsi_write, gsi_write_level}, {gsi_mend, gsi_mend_level}, gsi_line, gsi_sheet_write, gsi_sheet_load},
+    {{gsi_read, gsi_read_level}, {gsi_write, gsi_write_level}, {gsi_mend, gsi_mend_level}, gsi_line, {gsi_sheet_write, gsi_sheet_write_2}, gsi_sheet_load},
 #ifdef BEFORE
     {{before_gsi_read, before_gsi_read_level}, {before_gsi_write, before_gsi_write_level}, {before_gsi_mend, before_gsi_mend_level},
-     before_gsi_line, before_gsi_sheet_write, before_gsi_sheet_load},
+     before_gsi_line, {before_gsi_sheet_write, before_gsi_sheet_write_2}, before_gsi_sheet_load},
 #else
-    {{ref_read, ref_read_level}, {ref_write, ref_write_level}, {ref_mend, ref_mend_level}, ref_line, ref_sheet_write, ref_sheet_load},
+    {{ref_read, ref_read_level}, {ref_write, ref_write_level}, {ref_mend, ref_mend_level}, ref_line, {ref_sheet_write, ref_sheet_write_2}, ref_sheet_load},
 #endif
 };
 
@@ -370,9 +374,9 @@ static struct line make_line(const uint8_t *image)
 
 enum { LINES = 2048, STATES = 256 };
 static struct line script[LINES];
-/* Images out of the script's middle, and the sheet that each has. */
-static uint8_t states[STATES][IMAGE], sheets[STATES][SHEET_MOST];
-static unsigned sheet_bytes[STATES];
+/* Images out of the script's middle, and the sheet that each has, by its form. */
+static uint8_t states[STATES][IMAGE], sheets[2][STATES][SHEET_MOST];
+static unsigned sheet_bytes[2][STATES];
 static uint8_t image[IMAGE], images[STATES][IMAGE], reply[REPLY_MOST], sheet[SHEET_MOST];
 static unsigned accepted, standing;
 
@@ -386,8 +390,10 @@ static void make_script(void)
         if (i % (LINES / STATES) == 0)
             memcpy(states[i / (LINES / STATES)], image, IMAGE);
     }
-    for (unsigned i = 0; i < STATES; i++)
-        sheet_bytes[i] = (unsigned)ref_sheet_write(states[i], IMAGE, sheets[i], SHEET_MOST);
+    for (unsigned i = 0; i < STATES; i++) {
+        sheet_bytes[FORM_1][i] = (unsigned)ref_sheet_write(states[i], IMAGE, sheets[FORM_1][i], SHEET_MOST);
+        sheet_bytes[FORM_2][i] = (unsigned)ref_sheet_write_2(states[i], IMAGE, sheets[FORM_2][i], SHEET_MOST);
+    }
 }
 
 /* Images of that many undo entries, SETs and PUTs in turn, all values put. */
@@ -437,19 +443,19 @@ static void play_script(const struct side *s)
     sum += all;
 }
 
-static void load_sheets(const struct side *s)
+static void load_sheets(const struct side *s, unsigned form)
 {
     uint64_t all = 0;
     for (unsigned i = 0; i < STATES; i++)
-        all += s->sheet_load(images[i], IMAGE, sheets[STATES - 1 - i], sheet_bytes[STATES - 1 - i]);
+        all += s->sheet_load(images[i], IMAGE, sheets[form][STATES - 1 - i], sheet_bytes[form][STATES - 1 - i]);
     sum += all;
 }
 
-static void write_sheets(const struct side *s)
+static void write_sheets(const struct side *s, unsigned form)
 {
     uint64_t all = 0;
     for (unsigned i = 0; i < STATES; i++)
-        all += s->sheet_write(states[i], IMAGE, sheet, sizeof sheet);
+        all += s->sheet_write[form](states[i], IMAGE, sheet, sizeof sheet);
     sum += all;
 }
 
@@ -466,13 +472,14 @@ static void check_script(void)
         if (a != b || memcmp(image, theirs, IMAGE) != 0 || memcmp(reply, their_reply, (size_t)(a & 0xffff)) != 0)
             stop("a line", i);
     }
-    for (unsigned i = 0; i < STATES; i++) {
-        unsigned other = STATES - 1 - i;
-        if (gsi_sheet_write(states[i], IMAGE, sheet, sizeof sheet) != sheet_bytes[i] || memcmp(sheet, sheets[i], sheet_bytes[i]) != 0)
+    for (unsigned i = 0; i < 2 * STATES; i++) {
+        unsigned form = i / STATES, at = i % STATES, other = STATES - 1 - at, bytes = sheet_bytes[form][at];
+        if (sides[0].sheet_write[form](states[at], IMAGE, sheet, sizeof sheet) != bytes || memcmp(sheet, sheets[form][at], bytes) != 0)
             stop("a sheet written", i);
-        memcpy(image, states[i], IMAGE);
-        memcpy(theirs, states[i], IMAGE);
-        if (gsi_sheet_load(image, IMAGE, sheets[other], sheet_bytes[other]) != 0 || ref_sheet_load(theirs, IMAGE, sheets[other], sheet_bytes[other]) != 0)
+        bytes = sheet_bytes[form][other];
+        memcpy(image, states[at], IMAGE);
+        memcpy(theirs, states[at], IMAGE);
+        if (gsi_sheet_load(image, IMAGE, sheets[form][other], bytes) != 0 || ref_sheet_load(theirs, IMAGE, sheets[form][other], bytes) != 0)
             stop("a sheet loaded", i);
         if (memcmp(image, theirs, IMAGE) != 0)
             stop("the image that a sheet leaves", i);
@@ -506,9 +513,11 @@ static const struct timed wholes[] = {
     {"a level's written", WRITE, LEVEL, 1},
     {"blocks mended", MEND, 0, 1},
     {"a level's mended", MEND, LEVEL, 1},
+    {"form 2 written", SHEET_WRITE, FORM_2, 1},
+    {"form 2 loaded", SHEET_LOAD, FORM_2, 1},
 };
 
-enum { LEVEL_WHOLES = 2, MEND_WHOLES = 2 };
+enum { LEVEL_WHOLES = 2, MEND_WHOLES = 2, FORM_WHOLES = 2 };
 
 /* Before a batch, outside the time that is measured: the script starts from the factory, and sheets are loaded over the script's images. */
 static void prepare(enum kind kind)
@@ -533,10 +542,10 @@ static void play(const struct timed *t, const struct side *s)
             play_script(s);
             break;
         case SHEET_WRITE:
-            write_sheets(s);
+            write_sheets(s, t->which);
             break;
         case SHEET_LOAD:
-            load_sheets(s);
+            load_sheets(s, t->which);
             break;
         case MEND:
             mend_file(s, &mixed[t->which]);
@@ -669,7 +678,7 @@ int main(int words, char **word)
 
     const unsigned families = sides[1].read[LEVEL] ? 2 : 1;
     const int mends = sides[1].mend[STATION] != 0;
-    const unsigned whole = COUNT_OF(wholes) - (mends ? 0 : MEND_WHOLES) - (families == 2 ? 0 : LEVEL_WHOLES);
+    const unsigned whole = COUNT_OF(wholes) - (sides[1].sheet_write[FORM_2] ? 0 : FORM_WHOLES) - (mends ? 0 : MEND_WHOLES) - (families == 2 ? 0 : LEVEL_WHOLES);
 
     for (unsigned family = 0; family < families; family++) {
         check_file(&mixed[family]);
@@ -677,7 +686,7 @@ int main(int words, char **word)
             check_file(&alike[family][k]);
     }
     check_script();
-    printf("Both sides gave the same answers on %u blocks of %u words of %s, %u lines (%u accepted, %u undo entries standing at the average line) and %u sheets.\n",
+    printf("Both sides gave the same answers on %u blocks of %u words of %s, %u lines (%u accepted, %u undo entries standing at the average line) and %u sheets in each form.\n",
            mixed[STATION].blocks, (unsigned)mixed[STATION].words, families == 2 ? "each family" : "a total station", LINES, accepted, standing / LINES, STATES);
 
     rounds = words == 2 ? (unsigned)atoi(word[1]) : 0;

@@ -1,5 +1,5 @@
-/* host.c: a small host. It reads a block and shows what stands in it, mends a printed one and tells the edits, plays four lines on the stand-in, and writes the
-   sheet. */
+/* host.c: a small host. It reads a block and shows what stands in it, mends a printed one and tells the edits, plays four lines on the stand-in, writes the
+   sheet, and goes on from one that remembers the undo list. */
 #include "gsi.h"
 
 int printf(const char *, ...);
@@ -54,6 +54,18 @@ int main(void)
 
     uint8_t sheet[GSI_SHEET_MOST];
     answer = gsi_sheet_write(image, n, sheet, sizeof sheet);
+    if (GSI_NUMBER(answer) != 0)
+        return 1;
     printf("%.*s", (int)GSI_TOLD(answer), (const char *)sheet);
-    return GSI_NUMBER(answer) != 0;
+
+    /* shifts change: the sheet of form 2 has the undo list too, and whoever loads it can take the PUT back */
+    answer = gsi_sheet_write_2(image, n, sheet, sizeof sheet);
+    if (GSI_NUMBER(answer) != 0 || GSI_NUMBER(gsi_factory(image, n)) != 0)
+        return 1;
+    if (GSI_NUMBER(gsi_sheet_load(image, n, sheet, GSI_TOLD(answer))) != 0)
+        return 1;
+    play(n, "GET/I/WI88\r");
+    play(n, "UNDO\r");
+    play(n, "GET/I/WI88\r");
+    return 0;
 }

@@ -68,8 +68,9 @@ GSI_ASSERT(offsetof(gsi_word, size) == 8 && offsetof(gsi_word, mm) == 16 && offs
 #define GSI_IS_WIDE(answer) ((int)((answer) >> 24 & 1))        /* 16-wide words, after a `*` */
 #define GSI_IS_CRLF(answer) ((int)((answer) >> 25 & 1))        /* the terminator is CR LF */
 
-/* The longest block, reply and sheet, of either series: a TPS300's wide GET and its sheet. A TPS100's reply has at most 306 bytes, its sheet 352. */
-enum { GSI_BLOCK_MOST = 771, GSI_REPLY_MOST = 459, GSI_SHEET_MOST = 441 };
+/* The longest block, reply and sheet, of either series and form: a TPS300's wide GET and its sheet of form 2. A TPS100's reply has at most 306 bytes. A sheet of
+   form 1 has at most 352 bytes of a TPS100 and 441 of a TPS300, one of form 2 at most 1,775 and 1,864. */
+enum { GSI_BLOCK_MOST = 771, GSI_REPLY_MOST = 459, GSI_SHEET_MOST = 1864 };
 
 /* Reads the total station's block at the start of n bytes into a list that has room for `places` records.
    Read (0): tells GSI_USED, GSI_WORDS, GSI_IS_WIDE and GSI_IS_CRLF; records beyond the words are as before, bytes after the terminator aren't looked at.
@@ -160,14 +161,27 @@ uint64_t gsi_factory_300(uint8_t *image, size_t n);
    30 (the reply, `@W127` included, is longer than the room) and 31 (the bytes are no image): tells 0, and nothing is written or changed. */
 uint64_t gsi_line(uint8_t *image, size_t n, const uint8_t *line, size_t m, uint8_t *reply, size_t room);
 
-/* Writes the image's sheet into the room. Written (0): tells the sheet's bytes; room beyond them is as before.
+/* Write the image's sheet into the room: gsi_sheet_write in form 1, which names settings and values; gsi_sheet_write_2 in form 2, which remembers the undo
+   list too: `form=2`, form 1's lines, `undo=` and the count, then for each entry, the oldest first, `u=`, what it altered, a colon and what was there before.
+   Written (0): tells the sheet's bytes; room beyond them is as before.
    31 (the bytes are no image) and 30 (the sheet is longer than the room): tells 0, and nothing is written. */
 uint64_t gsi_sheet_write(const uint8_t *image, size_t n, uint8_t *sheet, size_t room);
+uint64_t gsi_sheet_write_2(const uint8_t *image, size_t n, uint8_t *sheet, size_t room);
 
-/* Loads a sheet: the image is then that of its settings and values with no undo entry. Loaded (0): tells 0.
+/* Loads a sheet of either form: the image is then that of its settings and values, with the undo list of form 2, and with no undo entry from form 1. A list
+   that was loaded counts as lines accepted since the last KEEP, so UNDO takes its entries back, the newest first. Loaded (0): tells 0.
    31 (the bytes are no image): tells 0. 40: tells the start of the first wrong, missing or surplus line; a sheet of the other series is wrong at its
-   first, so tells 0. Refused, the image is as before. */
+   `series=` line. A count above the number of `u=` lines is told where the next should start, one below it at the first `u=` line too many. Where each line is
+   right by itself but no state has that undo list (taken back, an entry names a value that is never put then), 40 tells the start of the `undo=` line.
+   Refused, the image is as before. */
 uint64_t gsi_sheet_load(uint8_t *image, size_t n, const uint8_t *sheet, size_t m);
+
+/* Move a sheet, of either series, from one form to the other, into the room: gsi_sheet_move takes exactly the sheets of form 1, and adds `form=2` and `undo=0`;
+   gsi_sheet_back takes exactly those of form 2, and gives form 1's bytes. Moved (0): tells the bytes written; room beyond them is as before.
+   40: as of gsi_sheet_load, and a sheet of the other form is wrong at its first line. 41, of gsi_sheet_back alone: the sheet has undo entries, which form 1 can't
+   hold; tells the start of the `undo=` line. 30 (what would be written is longer than the room): tells 0. They are judged in this order, and nothing is written. */
+uint64_t gsi_sheet_move(const uint8_t *sheet, size_t m, uint8_t *moved, size_t room);
+uint64_t gsi_sheet_back(const uint8_t *sheet, size_t m, uint8_t *moved, size_t room);
 
 #ifdef __cplusplus
 }

@@ -1,9 +1,9 @@
 /* driver.c: sweeps the words and records of both families, minus nought wherever it may stand, the place that each refusal
-   tells, spoiled blocks and their mending, and the settings, lines, sheets and images of both series, makes cases by seed and
-   compares the library (gsi_*) with the second implementation (ref_*): the answer, what it tells and every lent byte. Usage:
-   driver CASES SEED, the sweeps not counted. Status 0 when there is no difference and every number was seen, each byte of a
-   word told, each mixture of edits made, each rule that a PUT can break, minus nought in each function that may have it, and
-   wide replies. */
+   tells, spoiled blocks and their mending, and the settings, lines, sheets of either form and images of both series, makes cases
+   by seed and compares the library (gsi_*) with the second implementation (ref_*): the answer, what it tells and every lent byte.
+   Usage: driver CASES SEED, the sweeps not counted. Status 0 when there is no difference and every number was seen, each byte of
+   a word told, each mixture of edits made, each rule that a PUT can break, minus nought in each function that may have it, wide
+   replies, each line of a sheet told, undo lists of no entry, of some and of 64 loaded, and lists that no state has refused. */
 #include "reference.h"
 
 int printf(const char *, ...);
@@ -27,6 +27,9 @@ uint64_t gsi_factory_300(uint8_t *image, size_t n);
 uint64_t gsi_line(uint8_t *image, size_t n, const uint8_t *line, size_t m, uint8_t *reply, size_t room);
 uint64_t gsi_sheet_write(const uint8_t *image, size_t n, uint8_t *sheet, size_t room);
 uint64_t gsi_sheet_load(uint8_t *image, size_t n, const uint8_t *sheet, size_t m);
+uint64_t gsi_sheet_write_2(const uint8_t *image, size_t n, uint8_t *sheet, size_t room);
+uint64_t gsi_sheet_move(const uint8_t *sheet, size_t m, uint8_t *moved, size_t room);
+uint64_t gsi_sheet_back(const uint8_t *sheet, size_t m, uint8_t *moved, size_t room);
 
 enum { CR = 13, LF = 10 };
 enum { VALUES = 11, VALUE = 11, ENTRIES = 64, ENTRY = 14 };
@@ -36,21 +39,22 @@ enum { VALUES = 11, VALUE = 11, ENTRIES = 64, ENTRY = 14 };
 /* The series */
 
 enum { TPS100, TPS300, SERIES };
-enum { MOST_SETTINGS = 30, MOST_IMAGE = 1050, MOST_REPLY = 459, MOST_SHEET = 441, MOST_LINES = 1 + MOST_SETTINGS + VALUES };
+enum { MOST_SETTINGS = 30, MOST_IMAGE = 1050, MOST_REPLY = 459, MOST_SHEET = 441, MOST_SHEET_2 = 1864 };
+enum { MOST_LINES = 3 + MOST_SETTINGS + VALUES + ENTRIES };
 
-/* A series' settings in their order, where its image has what, its longest reply, its least and greatest sheet. */
+/* A series' settings in their order, where its image has what, its longest reply, its least and greatest sheet in either form. */
 static const struct shape {
     const char *name;
     uint8_t mark;
     unsigned settings, of_73, of_137;
-    size_t image, values, count, entries, reply, least_sheet, sheet;
+    size_t image, values, count, entries, reply, least_sheet, sheet, least_sheet_2, sheet_2;
     struct setting { uint8_t number, lowest, highest, read_only; } setting[MOST_SETTINGS];
 } shapes[SERIES] = {
-    {"TPS100", 1, 19, 10, 19, 1039, 20, 141, 143, 306, 187, 352,
+    {"TPS100", 1, 19, 10, 19, 1039, 20, 141, 143, 306, 187, 352, 201, 1775,
      {{30, 0, 1, 0}, {32, 0, 3, 0}, {34, 0, 1, 0}, {40, 0, 2, 0}, {41, 0, 1, 0}, {44, 0, 2, 0}, {49, 0, 1, 0}, {50, 0, 2, 0},
       {70, 0, 5, 0}, {71, 0, 2, 0}, {73, 0, 1, 0}, {76, 0, 1, 0}, {80, 0, 1, 0}, {81, 0, 2, 0}, {95, 0, 1, 0}, {102, 0, 1, 0},
       {103, 0, 1, 0}, {135, 0, 1, 0}, {136, 0, 1, 0}}},
-    {"TPS300", 17, 30, 9, 25, 1050, 31, 152, 154, 459, 263, 441,
+    {"TPS300", 17, 30, 9, 25, 1050, 31, 152, 154, 459, 263, 441, 277, 1864,
      {{41, 0, 4, 0}, {42, 0, 1, 0}, {43, 0, 6, 0}, {50, 0, 4, 0}, {51, 0, 4, 0}, {55, 1, 10, 0}, {56, 1, 10, 0}, {70, 0, 6, 0},
       {71, 0, 2, 0}, {73, 0, 1, 0}, {75, 0, 1, 0}, {76, 0, 1, 0}, {78, 0, 50, 0}, {90, 0, 10, 1}, {91, 0, 100, 1}, {95, 0, 1, 0},
       {102, 0, 1, 0}, {103, 0, 1, 0}, {104, 0, 100, 0}, {105, 0, 100, 0}, {106, 0, 1, 0}, {120, 0, 1, 0}, {122, 0, 1, 1},
@@ -92,6 +96,22 @@ static char one_of(const char *characters)
 
 #define PICK(array) ((array)[below(COUNT_OF(array))])
 
+/* A length about what is needed: ample, just enough, one too short, or any. */
+static size_t some_length(size_t need)
+{
+    switch (below(8)) {
+    case 0:
+        return need - (need > 0);
+    case 1:
+        return below(need + 4);
+    case 2:
+    case 3:
+        return need;
+    default:
+        return need + below(6);
+    }
+}
+
 /* A byte that is likely to matter somewhere: digits, signs, and the neighbours of each range's ends. */
 static uint8_t telling_byte(uint8_t old)
 {
@@ -129,7 +149,7 @@ static void change_to(uint8_t *p, size_t n, const char *characters)
 
 /* Lent memory */
 
-enum { GUARD = 48, MOST = 2048, WHOLE = GUARD + 8 + MOST + GUARD };
+enum { GUARD = 48, MOST = 2560, WHOLE = GUARD + 8 + MOST + GUARD };
 
 /* One lent memory between guards: its contents before the call, and what each side made of its own copy. */
 struct lent {
@@ -142,7 +162,8 @@ struct lent {
 };
 
 static struct lent block = {.name = "block"}, list = {.name = "list"}, mended = {.name = "mended"}, edits = {.name = "edits"},
-                   line = {.name = "line"}, reply = {.name = "reply"}, sheet = {.name = "sheet"}, spare = {.name = "image"};
+                   line = {.name = "line"}, reply = {.name = "reply"}, sheet = {.name = "sheet"}, moved = {.name = "moved"},
+                   spare = {.name = "image"};
 
 /* A run of each series goes on between the cases; run is that of the series at hand. */
 static struct lent runs[SERIES] = {{.name = "image"}, {.name = "image"}}, *run = runs;
@@ -182,13 +203,17 @@ static void lend(struct lent *l, const void *content, size_t len, int how)
 enum { STATION, LEVEL, FAMILIES };
 enum {
     READ, WRITE = READ + FAMILIES, MEND = WRITE + FAMILIES, FACTORY = MEND + FAMILIES, LINE = FACTORY + SERIES,
-    SHEET_WRITE = LINE + SERIES, SHEET_LOAD = SHEET_WRITE + SERIES, FUNCTIONS = SHEET_LOAD + SERIES
+    SHEET_WRITE = LINE + SERIES, SHEET_LOAD = SHEET_WRITE + SERIES, SHEET_WRITE_2 = SHEET_LOAD + SERIES,
+    SHEET_MOVE = SHEET_WRITE_2 + SERIES, SHEET_BACK = SHEET_MOVE + SERIES, FUNCTIONS = SHEET_BACK + SERIES
 };
 static const char *const names[FUNCTIONS] = {
     "read", "read_level", "write", "write_level", "mend", "mend_level", "factory", "factory_300", "line", "TPS300 line", "sheet_write",
-    "TPS300 sheet_write", "sheet_load", "TPS300 sheet_load"};
+    "TPS300 sheet_write", "sheet_load", "TPS300 sheet_load", "sheet_write_2", "TPS300 sheet_write_2", "sheet_move", "TPS300 sheet_move",
+    "sheet_back", "TPS300 sheet_back"};
 
-static uint64_t wanted, cases, seed, seen[FUNCTIONS][41], with_nought[FUNCTIONS], wide_replies;
+/* The numbers of answers are below this one. */
+enum { ANSWERS = 42 };
+static uint64_t wanted, cases, seed, seen[FUNCTIONS][ANSWERS], with_nought[FUNCTIONS], wide_replies;
 
 /* The refusals 5 to 10 by the byte of the word that they tell, in either width; the PUTs that 26 refuses by the rule that they
    break and by the byte of the line. */
@@ -197,6 +222,14 @@ static uint64_t told_at[FAMILIES][2][24], broken_rule[SERIES][11], broken_at[SER
 /* The blocks that were mended by the mixture of edits (bits: a dot, a blank, a CR), the edits by kind, and the most at once. */
 enum { DOT = 1, BLANK = 2, RETURN = 3, KINDS_OF_EDIT = 3, MIXTURES = 1 << KINDS_OF_EDIT };
 static uint64_t mixtures[FAMILIES][MIXTURES], edits_made[FAMILIES][KINDS_OF_EDIT], most_edits[FAMILIES];
+
+/* The sheets loaded by form, and of form 2 by how many entries they have; their entries by what was there before; the lines that 40
+   tells, by the form that the sheet is judged by; the lists that no state has, at loading and on the way back. */
+enum { FORM_1, FORM_2, FORMS };
+enum { PARAMETER, NEVER_PUT, VALUE_PUT, BEFORES };
+static const char *const befores[BEFORES] = {"parameters", "values never put", "values put"};
+static uint64_t loaded_by_form[SERIES][FORMS], lists_loaded[SERIES][ENTRIES + 1], entries_loaded[SERIES][BEFORES];
+static uint64_t told_lines[SERIES][FORMS][MOST_LINES + 1], no_lists[SERIES][2];
 static const char *kind_name;
 static uint64_t *kind_count;
 static int sweeping;
@@ -256,6 +289,12 @@ static void report(uint64_t theirs, uint64_t ours)
     exit(1);
 }
 
+static void unasked(const char *what, uint64_t got)
+{
+    printf("not what is asked: %s\n", what);
+    report(got, got);
+}
+
 /* An input is as before; an output is alike on both sides, with its guards as before. */
 static int alike(const struct lent *l)
 {
@@ -307,10 +346,17 @@ static int has_nought(uint64_t ours)
         return bytes_have_nought(line.before + line.start, line.len) || bytes_have_nought(reply.ours + reply.start, told);
     case SHEET_WRITE + TPS100:
     case SHEET_WRITE + TPS300:
+    case SHEET_WRITE_2 + TPS100:
+    case SHEET_WRITE_2 + TPS300:
         return bytes_have_nought(sheet.ours + sheet.start, told);
     case SHEET_LOAD + TPS100:
     case SHEET_LOAD + TPS300:
         return bytes_have_nought(sheet.before + sheet.start, sheet.len);
+    case SHEET_MOVE + TPS100:
+    case SHEET_MOVE + TPS300:
+    case SHEET_BACK + TPS100:
+    case SHEET_BACK + TPS300:
+        return bytes_have_nought(moved.ours + moved.start, told);
     default:
         return 0;
     }
@@ -347,6 +393,45 @@ static void count_edits(uint64_t ours)
         most_edits[of] = count;
 }
 
+/* Whether a count that a state can have, and the line's end, stand there. */
+static int has_count(const uint8_t *p, const uint8_t *end)
+{
+    const uint8_t *first = p;
+    unsigned v = 0;
+    while (p < end && p - first < 3 && *p >= '0' && *p <= '9')
+        v = v * 10 + (unsigned)(*p++ - '0');
+    return p > first && p < end && *p == LF && v <= ENTRIES && (p - first == 1 || *first != '0');
+}
+
+/* Counts a sheet that was loaded, or the line where 40 refuses one. */
+static void count_sheet(uint64_t ours)
+{
+    int is_load = now.function >= SHEET_LOAD && now.function < SHEET_LOAD + SERIES;
+    const uint8_t *p = sheet.before + sheet.start, *end = p + sheet.len, *told;
+    unsigned of = (now.function - FACTORY) % SERIES, number = (unsigned)(ours >> 32), judged, at = 0;
+    if (!is_load && now.function < SHEET_MOVE)
+        return;
+    judged = sheet.len >= 7 && memcmp(p, "form=2\n", 7) == 0 ? FORM_2 : FORM_1;
+    if (!is_load)
+        judged = now.function < SHEET_BACK ? FORM_1 : FORM_2;
+    if (is_load && number == 0) {
+        const uint8_t *image = now.lent[0]->ours + now.lent[0]->start, *e = image + shapes[of].entries;
+        unsigned entries = image[shapes[of].count + 1];
+        loaded_by_form[of][judged]++;
+        lists_loaded[of][entries] += judged == FORM_2;
+        for (unsigned i = 0; i < entries; i++, e += ENTRY)
+            entries_loaded[of][e[0] == 1 ? PARAMETER : e[3] ? VALUE_PUT : NEVER_PUT]++;
+    }
+    if (number != 40)
+        return;
+    for (told = p; told < p + (ours & 0xFFFFFFFF); told++)
+        at += *told == LF;
+    told_lines[of][judged][at < MOST_LINES ? at : MOST_LINES]++;
+    /* A right line `undo=` is told for the list's sake alone. */
+    if (judged == FORM_2 && end - told > 5 && memcmp(told, "undo=", 5) == 0)
+        no_lists[of][!is_load] += (uint64_t)has_count(told + 5, end);
+}
+
 static void compare(uint64_t theirs, uint64_t ours)
 {
     cases += !sweeping;
@@ -356,7 +441,7 @@ static void compare(uint64_t theirs, uint64_t ours)
     for (int i = 0; i < 3 && now.lent[i]; i++)
         if (!alike(now.lent[i]))
             report(theirs, ours);
-    if (ours >> 32 <= 40)
+    if (ours >> 32 < ANSWERS)
         seen[now.function][ours >> 32] += !sweeping;
     if (!sweeping)
         with_nought[now.function] += (uint64_t)has_nought(ours);
@@ -364,6 +449,8 @@ static void compare(uint64_t theirs, uint64_t ours)
         count_place(ours);
     if (!sweeping)
         count_edits(ours);
+    if (!sweeping)
+        count_sheet(ours);
     if (!sweeping && now.function == LINE + TPS300 && ours >> 32 == 0)
         wide_replies += reply.ours[reply.start] == '*';
     if (cases == wanted)
@@ -505,17 +592,31 @@ static uint64_t check_line(struct lent *image, size_t m, size_t room)
     return ours;
 }
 
-static uint64_t check_sheet_write(struct lent *image, size_t room)
+/* 106: "Both forms load; the caller says which is written." */
+static uint64_t (*const sheet_write_by[FORMS][2])(const uint8_t *image, size_t n, uint8_t *sheet, size_t room) = {
+    {gsi_sheet_write, ref_sheet_write}, {gsi_sheet_write_2, ref_sheet_write_2}};
+
+static uint64_t write_sheet(unsigned form, struct lent *image, size_t room)
 {
     uint64_t theirs, ours;
-    begin(SHEET_WRITE + series, image, &sheet);
+    begin((form == FORM_2 ? SHEET_WRITE_2 : SHEET_WRITE) + series, image, &sheet);
     renew(image);
     image->input = 1;
     lend(&sheet, 0, room, 0);
-    theirs = gsi_sheet_write(image->theirs + image->start, image->len, sheet.theirs + sheet.start, room);
-    ours = ref_sheet_write(image->ours + image->start, image->len, sheet.ours + sheet.start, room);
+    theirs = sheet_write_by[form][THEIRS](image->theirs + image->start, image->len, sheet.theirs + sheet.start, room);
+    ours = sheet_write_by[form][OURS](image->ours + image->start, image->len, sheet.ours + sheet.start, room);
     compare(theirs, ours);
     return ours;
+}
+
+static uint64_t check_sheet_write(struct lent *image, size_t room)
+{
+    return write_sheet(FORM_1, image, room);
+}
+
+static uint64_t check_sheet_write_2(struct lent *image, size_t room)
+{
+    return write_sheet(FORM_2, image, room);
 }
 
 /* Loads the sheet in src. */
@@ -529,6 +630,33 @@ static uint64_t check_sheet_load(struct lent *image, size_t m)
     ours = ref_sheet_load(image->ours + image->start, image->len, sheet.ours + sheet.start, m);
     compare(theirs, ours);
     return ours;
+}
+
+/* By the form that a sheet is moved from. */
+static uint64_t (*const sheet_move_by[FORMS][2])(const uint8_t *sheet, size_t m, uint8_t *moved, size_t room) = {
+    {gsi_sheet_move, ref_sheet_move}, {gsi_sheet_back, ref_sheet_back}};
+
+static uint64_t move_sheet(unsigned from, size_t m, size_t room)
+{
+    uint64_t theirs, ours;
+    begin((from == FORM_2 ? SHEET_BACK : SHEET_MOVE) + series, &sheet, &moved);
+    lend(&sheet, src, m, IN);
+    lend(&moved, 0, room, 0);
+    theirs = sheet_move_by[from][THEIRS](sheet.theirs + sheet.start, m, moved.theirs + moved.start, room);
+    ours = sheet_move_by[from][OURS](sheet.ours + sheet.start, m, moved.ours + moved.start, room);
+    compare(theirs, ours);
+    return ours;
+}
+
+/* Moves the sheet in src to form 2, and back to form 1. */
+static uint64_t check_sheet_move(size_t m, size_t room)
+{
+    return move_sheet(FORM_1, m, room);
+}
+
+static uint64_t check_sheet_back(size_t m, size_t room)
+{
+    return move_sheet(FORM_2, m, room);
 }
 
 /* Words */
@@ -1565,6 +1693,21 @@ static unsigned blame_put(unsigned place, const uint8_t *w, size_t *byte)
     return blame_rest(stored_kind(place), w, 8, byte);
 }
 
+/* The word that a PUT names, or that GET answers and the sheet has. */
+static const uint8_t *value_word(unsigned place, int put, char unit, char sign, const char *data)
+{
+    static uint8_t w[16];
+    memset(w, '.', 6);
+    digits(w, 2, stored[place]);
+    if (!put && place >= 2)
+        w[4] = '1';
+    w[5] = (uint8_t)unit;
+    w[6] = (uint8_t)sign;
+    memcpy(w + 7, data, 8);
+    w[15] = ' ';
+    return w;
+}
+
 /* The 11 bytes of a value that was put. */
 static void value_of(uint8_t *v, unsigned place, int edge)
 {
@@ -1620,7 +1763,7 @@ static void make_state(uint8_t *s)
         if (put[i])
             value_of(s + shape->values + VALUE * i, i, 0);
     }
-    switch (below(6)) {
+    switch (below(8)) {
     case 0:
         entries = 0;
         break;
@@ -1631,6 +1774,7 @@ static void make_state(uint8_t *s)
         entries = 62 + below(3);
         break;
     case 3:
+    case 4:
         entries = below(65);
         break;
     default:
@@ -2147,8 +2291,9 @@ static void line_put(void)
 static void line_put_places(void)
 {
     struct lent *image = some_image();
+    unsigned place = below(VALUES);
     len = 0;
-    say_put(below(VALUES), one_in(2));
+    say_put(place, one_in(2));
     for (unsigned i = 1 + below(3); i > 0; i--)
         switch (below(6)) {
         case 0:
@@ -2300,12 +2445,17 @@ static void use(struct lent *image)
 {
     switch (below(8)) {
     case 0:
-        check_sheet_write(image, one_in(4) ? below(shape->sheet + 8) : shape->sheet + 8);
+        if (one_in(2))
+            check_sheet_write(image, one_in(4) ? below(shape->sheet + 8) : shape->sheet + 8);
+        else
+            check_sheet_write_2(image, one_in(4) ? below(shape->sheet_2 + 8) : shape->sheet_2 + 8);
         break;
     case 1:
-        len = (size_t)(ref_sheet_write(run->theirs + run->start, shape->image, src, MOST) & 0xFFFFFFFF);
+        len = (size_t)(sheet_write_by[below(FORMS)][OURS](run->theirs + run->start, shape->image, src, MOST) & 0xFFFFFFFF);
         if (one_in(4))
             src[below(len)]++;
+        if (one_in(8))
+            len = one_in(2) ? 0 : below(len);
         check_sheet_load(image, len);
         break;
     case 2:
@@ -2559,13 +2709,12 @@ static void image_settings(void)
 
 /* Cases of sheets */
 
-/* The sheet of some state, in src, how many lines it has, and their starts. */
+/* The sheet of some state, in src, its form, how many lines it has, and their starts. */
 static size_t starts[MOST_LINES + 1];
-static unsigned lines;
+static unsigned lines, form;
 
-static void lay_sheet(const uint8_t *s)
+static void find_lines(void)
 {
-    len = (size_t)(ref_sheet_write(s, shape->image, src, MOST) & 0xFFFFFFFF);
     lines = 0;
     starts[0] = 0;
     for (size_t i = 0; i < len && lines < MOST_LINES; i++)
@@ -2573,25 +2722,86 @@ static void lay_sheet(const uint8_t *s)
             starts[++lines] = i + 1;
 }
 
-static void make_sheet(void)
+static void lay_sheet(const uint8_t *s)
+{
+    len = (size_t)(ref_sheet_write(s, shape->image, src, MOST) & 0xFFFFFFFF);
+    form = FORM_1;
+    find_lines();
+}
+
+/* 106: "the `s` or `v` key, a colon, and what was there before" */
+static void say_entry(const uint8_t *e)
+{
+    say(e[0] == 1 ? "u=s" : "u=v");
+    say_number(e[0] == 1 ? shape->setting[e[1]].number : stored[e[1]]);
+    say(":");
+    if (e[0] == 1) {
+        say_number(e[2]);
+    } else if (e[3]) {
+        memcpy(src + len, value_word(e[1], 0, (char)e[4], e[5] ? '-' : '+', (const char *)e + 6), 15);
+        len += 15;
+    }
+    say("\n");
+}
+
+/* 106: "A second sheet form starts `form=2`, then the first form's lines, then `undo=` and the count, then one `u=` line for each
+   entry, oldest first". The list may be one that no state has. */
+static void lay_sheet_2(const uint8_t *s)
+{
+    static uint8_t listless[MOST_IMAGE];
+    unsigned entries = s[shape->count + 1];
+    memset(listless, 0, sizeof listless);
+    memcpy(listless, s, shape->count);
+    len = 0;
+    say("form=2\n");
+    len += (size_t)(ref_sheet_write(listless, shape->image, src + len, MOST - len) & 0xFFFFFFFF);
+    say("undo=");
+    say_number(entries);
+    say("\n");
+    for (unsigned i = 0; i < entries; i++)
+        say_entry(s + shape->entries + ENTRY * i);
+    form = FORM_2;
+    find_lines();
+}
+
+/* The run's state, or any. */
+static void make_sheet_of(unsigned of)
 {
     uint8_t s[MOST_IMAGE];
     if (one_in(4))
         memcpy(s, standing(), shape->image);
     else
         make_state(s);
-    lay_sheet(s);
+    if (of == FORM_2)
+        lay_sheet_2(s);
+    else
+        lay_sheet(s);
 }
 
-/* The line of the setting at a place, and of the value. */
+static void make_sheet(void)
+{
+    make_sheet_of(below(FORMS));
+}
+
+/* The line of the setting at a place, of the value, of the count, and of an entry. */
 static unsigned setting_line(unsigned place)
 {
-    return 1 + place;
+    return form + 1 + place;
 }
 
 static unsigned value_line(unsigned place)
 {
-    return 1 + shape->settings + place;
+    return form + 1 + shape->settings + place;
+}
+
+static unsigned undo_line(void)
+{
+    return value_line(VALUES);
+}
+
+static unsigned entry_line(unsigned entry)
+{
+    return undo_line() + 1 + entry;
 }
 
 /* Where the line's value begins: just past its key. */
@@ -2603,13 +2813,30 @@ static size_t value_at(unsigned i)
     return at + 1;
 }
 
-/* The image a sheet is loaded into: seldom the run's, whose undo list a load empties. */
+/* The image a sheet is loaded into: seldom the run's, whose undo list a load empties or exchanges. */
 static struct lent *some_target(void)
 {
     if (one_in(300))
         return run;
     take_state();
     return lend_state(shape->image);
+}
+
+/* Moves the sheet in src, or moves it back, with a room about what that takes, or an ample one. */
+static uint64_t move_about(unsigned from)
+{
+    size_t need = from == FORM_1 ? len + 14 : len > 14 ? len - 14 : 0;
+    return move_sheet(from, len, one_in(4) ? shape->sheet_2 : some_length(need));
+}
+
+/* Loads the sheet in src, or gives it to one of the two moves, most often its form's. */
+static void offer(void)
+{
+    unsigned which = below(8);
+    if (which < 3)
+        move_about(which < 2 ? form : !form);
+    else
+        check_sheet_load(some_target(), len);
 }
 
 static void sheet_rooms(void)
@@ -2619,34 +2846,48 @@ static void sheet_rooms(void)
         check_sheet_write(lend_state(shape->image), room);
 }
 
+/* Every room about the length of form 2's sheet and of its last lines, and some shorter ones. */
+static void sheet_rooms_2(void)
+{
+    take_state();
+    lay_sheet_2(state);
+    for (size_t room = 0; room <= len + 3; room += room + 70 < len ? 1 + below(32) : 1)
+        check_sheet_write_2(lend_state(shape->image), room);
+}
+
 static void sheet_written(void)
 {
     size_t need;
-    static uint8_t room[MOST_SHEET];
+    static uint8_t room[MOST_SHEET_2];
     take_state();
     need = (size_t)(ref_sheet_write(state, shape->image, room, sizeof room) & 0xFFFFFFFF);
     need += below(4);
     check_sheet_write(lend_state(shape->image), need - 1);
+    need = (size_t)(ref_sheet_write_2(state, shape->image, room, sizeof room) & 0xFFFFFFFF);
+    need += below(4);
+    check_sheet_write_2(lend_state(shape->image), need - 1);
     need = shape->least_sheet + 15 * below(12);
     if (series == TPS300) /* as many as the parameters' second and third digits are */
         need += below(14);
     if (one_in(3))
         check_sheet_write(run, need);
+    if (one_in(3))
+        check_sheet_write_2(run, one_in(2) ? shape->sheet_2 : shape->least_sheet_2 + below(1600));
 }
 
 static void sheet_whole(void)
 {
     make_sheet();
-    check_sheet_load(some_target(), len);
+    offer();
 }
 
 static void sheet_cut(void)
 {
+    size_t whole_length;
     make_sheet();
-    for (size_t n = 0; n <= len; n++) {
-        struct lent *image = some_target();
-        check_sheet_load(image, n);
-    }
+    whole_length = len;
+    for (len = 0; len <= whole_length; len++)
+        offer();
 }
 
 static void sheet_one_wrong(void)
@@ -2655,7 +2896,7 @@ static void sheet_one_wrong(void)
     damage(0, len);
     if (one_in(8))
         damage(0, len);
-    check_sheet_load(some_target(), len);
+    offer();
 }
 
 static void sheet_each_value(void)
@@ -2668,7 +2909,7 @@ static void sheet_each_value(void)
         at = len - 1;
     for (unsigned b = 0; b < 256; b++) {
         src[at] = (uint8_t)b;
-        check_sheet_load(some_target(), len);
+        offer();
     }
 }
 
@@ -2724,7 +2965,7 @@ static void sheet_lines(void)
             exchange(i < j ? i : j, i < j ? j : i);
         break;
     }
-    check_sheet_load(some_target(), len);
+    offer();
 }
 
 /* A sheet of the other series, at times with this one's first line, and with a byte or two changed. */
@@ -2733,13 +2974,13 @@ static void sheet_other(void)
     turn_to(!series);
     make_sheet();
     if (one_in(2))
-        memcpy(src + 7, shapes[!series].name, 6);
+        memcpy(src + starts[form] + 7, shapes[!series].name, 6);
     if (one_in(4))
         damage(0, len);
     if (one_in(4))
         damage(starts[1], len);
     turn_to(!series);
-    check_sheet_load(some_target(), len);
+    offer();
 }
 
 static void sheet_odd(void)
@@ -2806,15 +3047,441 @@ static void sheet_odd(void)
         break;
     }
     }
-    check_sheet_load(some_target(), len);
+    offer();
 }
 
 static void sheet_random(void)
 {
-    len = below(shape->sheet + 50);
-    for (size_t i = 0; i < len; i++)
-        src[i] = (uint8_t)(one_in(3) ? below(256) : (unsigned)one_of("sv0123456789=\n.+"));
+    size_t most = one_in(4) ? shape->sheet_2 : shape->sheet;
+    len = 0;
+    form = below(FORMS);
+    if (form == FORM_2 && !one_in(4))
+        say("form=2\n");
+    most = below(most + 50);
+    while (len < most)
+        say_byte((uint8_t)(one_in(3) ? below(256) : (unsigned)one_of("suv0123456789=:\n.+")));
+    offer();
+}
+
+/* What stands in the place of line i is said between the two. */
+static uint8_t lines_after[MOST];
+static size_t bytes_after;
+
+static void open_line(unsigned i)
+{
+    bytes_after = len - starts[i + 1];
+    memcpy(lines_after, src + starts[i + 1], bytes_after);
+    len = starts[i];
+}
+
+static void close_line(void)
+{
+    memcpy(src + len, lines_after, bytes_after);
+    len += bytes_after;
+}
+
+/* The line `undo=` with another count, as it is or after zeros. */
+static void lay_count(const char *zeros, unsigned count)
+{
+    open_line(undo_line());
+    say("undo=");
+    say(zeros);
+    say_number(count);
+    say("\n");
+    close_line();
+}
+
+/* How many entries the sheet of form 2 has. */
+static unsigned sheet_entries(void)
+{
+    return lines - undo_line() - 1;
+}
+
+/* The count against the entries' lines. */
+static void sheet_counts(void)
+{
+    static const char *const odd[] = {"undo=", "undo=00", "undo=065", "undo=65", "undo=66", "undo=99", "undo=100", "undo=128",
+                                      "undo=255", "undo=256", "undo=064", "undo=64 ", "undo= 1", "undo=+1", "undo=-0", "undo=1\r",
+                                      "undo=0.", "undo=a", "undo=9999", "undo=00000", "undo=10000", "undo=65536", "undo=65600",
+                                      "undo=4294967296", "undo=4294967360", "undo=18446744073709551616", "undo", "undo:0",
+                                      "undo==0", "Undo=0", "u=0", "undos=0", " undo=0", "undo =0", "undo=0\n", "form=2", "v88=", ""};
+    unsigned entries, i;
+    make_sheet_of(FORM_2);
+    entries = sheet_entries();
+    switch (below(8)) {
+    case 0:
+    case 1:
+        open_line(undo_line());
+        say(PICK(odd));
+        say("\n");
+        close_line();
+        break;
+    case 2:
+        lay_count(one_in(2) ? "0" : "00", entries);
+        break;
+    case 3:
+        lay_count("", entries + 1);
+        break;
+    case 4:
+        lay_count("", entries ? entries - 1 : below(70));
+        break;
+    case 5:
+        lay_count("", one_in(2) ? below(130) : entries + 256 * (1 + below(300)));
+        break;
+    case 6: /* a line more, at times counted: 65 is too many though they are there */
+        i = entry_line(below(entries + 1));
+        if (entries)
+            put_in(i, entry_line(below(entries)));
+        else
+            splice(starts[i], 0, "u=s73:1\n", 8);
+        if (!one_in(3))
+            lay_count("", entries + 1);
+        break;
+    default: /* a line less, at times counted */
+        if (entries)
+            leave_out(entry_line(below(entries)));
+        if (entries && !one_in(3))
+            lay_count("", entries - 1);
+        break;
+    }
+    offer();
+}
+
+/* A value's characters with data at the edges, and at times other information, another index, another length. */
+static void say_odd_value(unsigned place)
+{
+    uint8_t w[16];
+    put_word(w, place, 1);
+    if (place >= 2)
+        w[4] = '1';
+    if (one_in(5))
+        change_to(w + 2, 4, "0123456789.");
+    if (one_in(8))
+        digits(w, 2, PICK(stored));
+    memcpy(src + len, w, 16);
+    len += one_in(8) ? 14 + below(3) : 15;
+}
+
+/* An entry's line that is wrong, most often, without its LF. */
+static void say_odd_entry(void)
+{
+    static const char *const odd[] = {"", "u", "u=", "u=s", "u=v", "u=s73", "u=v88", "u=s73:", "u=v88::", "u=v88: ", "s73=1",
+                                      "v88=", "undo=0", "u=s:0", "u=v:", "u=:", "U=s73:0", "u:s73:1", "u=s73=1", "u=v88=", "u=73:1",
+                                      "u=88:", " u=v88:", "u=v88:\r", "u=s73:1\r", "u=s73:1 ", "u=s73:+1", "u=v088:", "u=v8:",
+                                      "u=s073:1", "u=u=s73:1", "form=2", "series=TPS100", "u=S73:1", "u=V88:", "u=s73:1:1",
+                                      "u=v88:0", "u=s73:00", "u=s73:01", "u=v73:1", "u=s88:", "u=s73;1", "u=v88:88..10+00001550 ",
+                                      "u=v88:88...0+00001550", "u=v11:11....+PNC0058A"};
+    unsigned place = odd_setting(), number = shape->setting[place].number, parameter = some_parameter(place), of_value = below(VALUES);
+    unsigned odds = odd_parameter(place);
+    switch (below(12)) {
+    case 0:
+        say("u=s");
+        say_odd_number(number);
+        say(":");
+        say_number(parameter);
+        break;
+    case 1:
+        say("u=s");
+        say_number(number);
+        say(":");
+        say_odd_number(parameter);
+        break;
+    case 2: /* about the ends of the range, of read-only settings too */
+    case 3:
+        say("u=s");
+        say_number(number);
+        say(":");
+        say_number(one_in(3) ? parameter : odds);
+        break;
+    case 4: /* of the other series, or of neither */
+        turn_to(!series);
+        place = below(shape->settings);
+        number = one_in(2) ? shape->setting[place].number : below(200);
+        parameter = some_parameter(place);
+        turn_to(!series);
+        say("u=s");
+        say_number(number);
+        say(":");
+        say_number(parameter);
+        break;
+    case 5: /* what a byte would take for another number */
+        say("u=s");
+        say_number(number + 256 * below(3));
+        say(":");
+        say_number(parameter + 256 * below(3));
+        break;
+    case 6:
+    case 7:
+        say("u=v");
+        say_number(stored[of_value]);
+        say(":");
+        say_odd_value(of_value);
+        break;
+    case 8: /* an index that may not be stored */
+        number = below(100);
+        say("u=v");
+        digits(src + len, 2, number);
+        len += 2;
+        say(":");
+        if (one_in(2)) {
+            say_odd_value(of_value);
+            if (one_in(2))
+                digits(src + len - 15, 2, number);
+        }
+        break;
+    default:
+        say(PICK(odd));
+        break;
+    }
+}
+
+/* One of the entries' lines, or two, the later first, so that the earlier's start stands. */
+static void sheet_of_odd_entry(void)
+{
+    unsigned times = one_in(8) ? 2 : 1, entry;
+    do {
+        make_sheet_of(FORM_2);
+        entry = sheet_entries();
+    } while (entry == 0);
+    for (; times > 0 && entry > 0; times--) {
+        unsigned i;
+        entry = one_in(4) ? entry - 1 : below(entry);
+        i = entry_line(entry);
+        if (one_in(10)) {
+            damage(starts[i], starts[i + 1]);
+            continue;
+        }
+        open_line(i);
+        say_odd_entry();
+        if (!one_in(30))
+            say("\n");
+        close_line();
+    }
+    offer();
+}
+
+/* Takes the newest entry of the state's list back. */
+static void take_back(uint8_t *s)
+{
+    uint8_t *e = s + shape->entries + ENTRY * --s[shape->count + 1];
+    if (e[0] == 1)
+        s[1 + e[1]] = e[2];
+    else
+        memcpy(s + shape->values + VALUE * e[1], e + 3, VALUE);
+    memset(e, 0, ENTRY);
+}
+
+/* Entries of values at any place of the list, values never put, entries exchanged: most of these lists no state has. At times a
+   wrong or surplus line besides. */
+static void sheet_lists(void)
+{
+    unsigned entries, changes = below(4);
+    do {
+        make_state(state);
+        entries = state[shape->count + 1];
+    } while (entries == 0);
+    while (changes-- > 0) {
+        uint8_t *e = state + shape->entries + ENTRY * below(entries);
+        memset(e, 0, ENTRY);
+        e[0] = 2;
+        e[1] = (uint8_t)below(VALUES);
+        if (one_in(2))
+            value_of(e + 3, e[1], 0);
+    }
+    if (one_in(3))
+        memset(state + shape->values + VALUE * below(VALUES), 0, VALUE);
+    if (one_in(3)) {
+        uint8_t *e = state + shape->entries + ENTRY * below(entries), *other = state + shape->entries + ENTRY * below(entries);
+        swap(e, other, e == other ? 0 : ENTRY);
+    }
+    lay_sheet_2(state);
+    switch (below(8)) {
+    case 0:
+        damage(0, len);
+        break;
+    case 1:
+        say(one_in(2) ? "\n" : "u=s73:1\n");
+        break;
+    case 2:
+        lay_count("", entries + 1 - 2 * below(2));
+        break;
+    default:
+        break;
+    }
+    offer();
+}
+
+/* The one form's sheet with the other's first or last line, and each sheet given to every function. */
+static void sheet_forms(void)
+{
+    static const char *const firsts[] = {"form=1\n", "form=3\n", "form=\n", "form=02\n", "form=2 \n", " form=2\n", "Form=2\n",
+                                         "form=2\r\n", "form:2\n", "form=2", "form=20\n", "form=22\n", "form 2\n", "\n",
+                                         "form=2\n\n", "undo=0\n"};
+    const char *first = PICK(firsts);
+    int other = one_in(6);
+    if (other)
+        turn_to(!series);
+    make_sheet();
+    switch (below(8)) {
+    case 0:
+        if (form == FORM_1)
+            splice(0, 0, "form=2\n", 7);
+        else
+            splice(0, 7, "", 0);
+        break;
+    case 1:
+        say(one_in(2) ? "undo=0\n" : "undo=1\nu=s73:1\n");
+        break;
+    case 2: /* doubled, or where the second line starts */
+        splice(starts[below(2)], 0, "form=2\n", 7);
+        break;
+    case 3: /* in the first line's place, or before it */
+        splice(0, one_in(2) ? starts[form] : 0, first, strlen(first));
+        break;
+    case 4: /* all of form 1's lines, and those alone */
+        if (form == FORM_2)
+            len = starts[undo_line()];
+        break;
+    case 5: { /* one sheet after another */
+        size_t n = len;
+        uint8_t s[MOST_IMAGE];
+        make_state(s);
+        len += (size_t)(ref_sheet_write(s, shape->image, src + n, MOST_SHEET) & 0xFFFFFFFF);
+        break;
+    }
+    default:
+        break;
+    }
+    if (other)
+        turn_to(!series);
+    move_about(FORM_1);
+    move_about(FORM_2);
     check_sheet_load(some_target(), len);
+}
+
+/* 106: "Old sheets move to the new form with `undo=0`. The way back gives the old bytes exactly when the count is 0." */
+static void sheet_moved(void)
+{
+    static uint8_t old[MOST];
+    size_t n;
+    uint64_t got;
+    if (one_in(8)) { /* of either series */
+        turn_to(!series);
+        make_sheet_of(FORM_1);
+        turn_to(!series);
+    } else {
+        make_sheet_of(FORM_1);
+    }
+    if (one_in(6))
+        damage(0, len);
+    n = len;
+    memcpy(old, src, n);
+    got = move_about(FORM_1);
+    if (got >> 32)
+        return;
+    memcpy(src, moved.theirs + moved.start, len = n + 14);
+    if (got != len || memcmp(src, "form=2\n", 7) != 0 || memcmp(src + 7, old, n) != 0 || memcmp(src + 7 + n, "undo=0\n", 7) != 0)
+        unasked("the sheet is moved otherwise", got);
+    check_sheet_load(some_target(), len);
+    got = move_about(FORM_2);
+    if (got >> 32)
+        return;
+    if (got != n || memcmp(moved.theirs + moved.start, old, n) != 0)
+        unasked("the way back gives other bytes", got);
+}
+
+/* A line on the spare image; answers its number. */
+static unsigned play_spare(size_t room)
+{
+    unsigned number;
+    say_end();
+    number = (unsigned)(check_line(&spare, len, room) >> 32);
+    len = 0;
+    return number;
+}
+
+static void ask_spare(const uint8_t *s)
+{
+    if (memcmp(spare.theirs + spare.start, s, shape->image) != 0)
+        unasked("the state is another", 0);
+}
+
+/* The list taken back to its start, and played again from there. 106: "A loaded list counts as lines accepted since the last KEEP,
+   each a SET or PUT that stored what stands just before its entry is taken back, newest first". */
+static void play_list(uint8_t *s)
+{
+    static uint8_t before[MOST_IMAGE], said[ENTRIES][20];
+    uint8_t lengths[ENTRIES];
+    unsigned entries = s[shape->count + 1];
+    memcpy(before, s, shape->image);
+    for (unsigned i = entries; i-- > 0;) {
+        const uint8_t *e = s + shape->entries + ENTRY * i, *v = s + shape->values + VALUE * e[1];
+        len = 0;
+        if (e[0] == 1) {
+            say_set(e[1], s[1 + e[1]]);
+        } else {
+            say("PUT/");
+            memcpy(src + len, value_word(e[1], 1, (char)v[1], v[2] ? '-' : '+', (const char *)v + 3), 16);
+            len += 16;
+        }
+        memcpy(said[i], src, lengths[i] = (uint8_t)len);
+        len = 0;
+        say("UNDO");
+        if (play_spare(shape->reply) != 0)
+            unasked("a loaded entry isn't taken back", i);
+        take_back(s);
+        ask_spare(s);
+    }
+    len = 0;
+    say("UNDO");
+    if (play_spare(shape->reply) != 29)
+        unasked("an entry stands that wasn't loaded", 0);
+    for (unsigned i = 0; i < entries; i++) {
+        memcpy(src, said[i], len = lengths[i]);
+        if (play_spare(shape->reply) != 0)
+            unasked("the line of a loaded entry is refused", i);
+    }
+    ask_spare(before);
+}
+
+/* A sheet of form 2 is written, loaded into an image with another list, and the trial goes on from there; then it is written
+   again. */
+static void sheet_trial(void)
+{
+    static uint8_t loaded[MOST_IMAGE];
+    unsigned steps = 4 + below(24);
+    uint64_t wrote;
+    take_state();
+    memcpy(loaded, state, shape->image);
+    wrote = check_sheet_write_2(lend_state(shape->image), shape->sheet_2);
+    if (wrote > shape->sheet_2)
+        unasked("a state's sheet isn't written", wrote);
+    memcpy(src, sheet.theirs + sheet.start, len = (size_t)wrote);
+    take_state();
+    check_sheet_load(lend_state(shape->image), len);
+    ask_spare(loaded);
+    len = 0;
+    if (one_in(3))
+        play_list(loaded);
+    for (unsigned i = 0; i < steps; i++) {
+        if (one_in(3))
+            say("UNDO");
+        else
+            say_some(spare.theirs + spare.start);
+        play_spare(one_in(8) ? below(8) : shape->reply);
+        if (one_in(8))
+            check_sheet_write_2(&spare, shape->sheet_2);
+        if (one_in(16))
+            check_sheet_write(&spare, shape->sheet);
+    }
+    memcpy(state, spare.theirs + spare.start, shape->image);
+    lay_sheet_2(state);
+    if (check_sheet_write_2(&spare, len) != len || memcmp(sheet.theirs + sheet.start, src, len) != 0)
+        unasked("the sheet is another", len);
+    if (one_in(2))
+        check_sheet_load(some_target(), len);
+    else
+        move_about(FORM_2);
 }
 
 /* Sweeps of minus nought. #102: "Accept minus before zero in angles, lengths, constants and both halves of a pair, in blocks,
@@ -2822,12 +3489,6 @@ static void sheet_random(void)
    a sign which both sides lose is seen too. */
 
 static uint64_t swept_noughts[FAMILIES + SERIES]; /* blocks and records by family, then lines, images and sheets by series */
-
-static void unasked(const char *what, uint64_t got)
-{
-    printf("not what is asked: %s\n", what);
-    report(got, got);
-}
 
 /* Numbers by index and information: every one of the family, or those with dots at positions 4 and 5. */
 static struct number { char kind; uint8_t first; uint16_t index; uint8_t info[4]; } numbers[1400];
@@ -3191,21 +3852,6 @@ static void ask_plain(struct lent *image, const char *said, unsigned number)
     len = 0;
     say(said);
     ask_said(image, number);
-}
-
-/* The word that a PUT names, or that GET answers and the sheet has. */
-static const uint8_t *value_word(unsigned place, int put, char unit, char sign, const char *data)
-{
-    static uint8_t w[16];
-    memset(w, '.', 6);
-    digits(w, 2, stored[place]);
-    if (!put && place >= 2)
-        w[4] = '1';
-    w[5] = (uint8_t)unit;
-    w[6] = (uint8_t)sign;
-    memcpy(w + 7, data, 8);
-    w[15] = ' ';
-    return w;
 }
 
 static void ask_put(struct lent *image, unsigned number, unsigned place, char unit, char sign, const char *data)
@@ -3828,22 +4474,6 @@ static unsigned some_listing(void)
     return one_in(40) ? 0 : some_words();
 }
 
-/* A room and a list about what the block in src needs: ample, just enough, one too short, or any. */
-static size_t some_length(size_t need)
-{
-    switch (below(8)) {
-    case 0:
-        return need - (need > 0);
-    case 1:
-        return below(need + 4);
-    case 2:
-    case 3:
-        return need;
-    default:
-        return need + below(6);
-    }
-}
-
 static uint64_t needed(size_t n)
 {
     static uint8_t to[MOST_MENDED];
@@ -3852,6 +4482,7 @@ static uint64_t needed(size_t n)
     return got >> 32 ? 40 | 3 << 16 : got;
 }
 
+/* A room and a list about what the block in src needs. */
 static void mend_about(size_t n)
 {
     uint64_t need = needed(n);
@@ -4437,11 +5068,11 @@ static void sweep_lines(void)
     len = 0;
 }
 
-/* Sweeps of the series: every number and parameter, every count of a GET, every line of a sheet, every byte of an image. What a
-   case is to give is said here too, where the settings' rows say it. */
+/* Sweeps of the series: every number and parameter, every count of a GET, every line of a sheet in either form, every entry's line,
+   every short list, every byte of an image. What a case is to give is said here too, where the settings' rows say it. */
 
-enum { OF_SETTINGS, OF_REPLIES, OF_SHEETS, OF_IMAGES, PARTS };
-static const char *const part_names[PARTS] = {"settings", "replies", "sheets", "images"};
+enum { OF_SETTINGS, OF_REPLIES, OF_SHEETS, OF_SHEETS_2, OF_ENTRIES, OF_LISTS, OF_IMAGES, PARTS };
+static const char *const part_names[PARTS] = {"settings", "replies", "sheets", "sheets of form 2", "entries", "lists", "images"};
 static uint64_t swept_parts[SERIES][PARTS];
 
 /* The place of the number among the series' settings, their count when it has none. */
@@ -4614,11 +5245,34 @@ static void make_high_state(uint8_t *s)
             value_of(s + shape->values + VALUE * i, i, 0);
 }
 
-/* Loads the sheet in src into the state at hand, and into an image of the other series, which refuses it at its first line. */
+/* Moves the sheet in src, or moves it back: refused so, or, with the number 0, moved. */
+static void ask_move(unsigned number, size_t told)
+{
+    uint64_t got = check_sheet_move(len, MOST_SHEET_2);
+    const uint8_t *to = moved.theirs + moved.start;
+    if (got != (number ? (uint64_t)number << 32 | told : len + 14))
+        unasked("the sheet is moved otherwise", got);
+    if (number == 0 && (memcmp(to, "form=2\n", 7) != 0 || memcmp(to + 7, src, len) != 0 || memcmp(to + 7 + len, "undo=0\n", 7) != 0))
+        unasked("the moved sheet is another", got);
+}
+
+static void ask_back(unsigned number, size_t told)
+{
+    uint64_t got = check_sheet_back(len, MOST_SHEET_2);
+    if (got != (number ? (uint64_t)number << 32 | told : len - 14))
+        unasked("the sheet is moved back otherwise", got);
+    if (number == 0 && memcmp(moved.theirs + moved.start, src + 7, len - 14) != 0)
+        unasked("the way back gives other bytes", got);
+}
+
+/* Gives the sheet of form 1 in src to each function: it is loaded into the state at hand, an image of the other series refuses it at
+   its first line, it is moved, and it has no way back. */
 static void ask_loads(unsigned number, size_t told)
 {
     ask_load(lend_state(shape->image), number, told);
     ask_load(&runs[!series], 40, 0);
+    ask_move(number, told);
+    ask_back(40, 0);
 }
 
 /* Right sheets, each with each line left out, doubled, exchanged with each later one and changed, and with each byte changed. */
@@ -4654,9 +5308,15 @@ static void sweep_sheets(void)
         for (size_t room = n - 3; room < n + 3; room++)
             if (check_sheet_write(&spare, room) != (room < n ? UINT64_C(30) << 32 : n))
                 unasked("the sheet's room is another", room);
+        for (size_t room = n - 3; room < n + 18; room++)
+            if (check_sheet_move(n, room) != (room < n + 14 ? UINT64_C(30) << 32 : n + 14))
+                unasked("the moved sheet's room is another", room);
         memcpy(src + 7, shapes[!series].name, 6); /* the other's first line, and this one's others */
         ask_load(lend_state(shape->image), 40, 0);
         ask_load(&runs[!series], 40, starts[1]);
+        ask_move(40, starts[1]);
+        memcpy(src + 7, "TPS700", 6);
+        ask_loads(40, 0);
         for (unsigned i = 0; i < lines; i++) {
             memcpy(src, right, len = n);
             leave_out(i);
@@ -4707,6 +5367,489 @@ static void sweep_sheets(void)
     len = 0;
 }
 
+/* An entry added to the state's list: of the setting at a place, or of the value, with what it was before (null: never put). */
+static uint8_t *add_entry(uint8_t *s, unsigned kind, unsigned place)
+{
+    uint8_t *e = s + shape->entries + ENTRY * s[shape->count + 1]++;
+    memset(e, 0, ENTRY);
+    e[0] = (uint8_t)kind;
+    e[1] = (uint8_t)place;
+    return e;
+}
+
+static void add_set(uint8_t *s, unsigned place, unsigned parameter)
+{
+    add_entry(s, 1, place)[2] = (uint8_t)parameter;
+}
+
+static void add_put(uint8_t *s, unsigned place, const char *data)
+{
+    uint8_t *e = add_entry(s, 2, place);
+    if (!data)
+        return;
+    e[3] = 1;
+    e[4] = (uint8_t)unit_for(place, 1);
+    memcpy(e + 6, data, 8);
+}
+
+/* "taken back newest first, none names a value then never put" */
+static int list_stands(const uint8_t *s)
+{
+    for (unsigned i = s[shape->count + 1]; i-- > 0;) {
+        const uint8_t *e = s + shape->entries + ENTRY * i, *newer = 0;
+        if (e[0] != 2)
+            continue;
+        for (unsigned k = i + 1; k < s[shape->count + 1] && !newer; k++)
+            if (e[ENTRY * (k - i)] == 2 && e[ENTRY * (k - i) + 1] == e[1])
+                newer = e + ENTRY * (k - i) + 3;
+        if (!newer)
+            newer = s + shape->values + VALUE * e[1];
+        if (!newer[0])
+            return 0;
+    }
+    return 1;
+}
+
+/* Gives the sheet of form 2 in src to each function. The other series refuses it at the second line, unless the first is wrong; the
+   way back by 41 where it is right and has entries. */
+static void ask_sheet_2(unsigned number, size_t told)
+{
+    ask_load(lend_state(shape->image), number, told);
+    ask_load(&runs[!series], 40, number && told == 0 ? 0 : 7);
+    ask_move(40, 0);
+    if (number == 0 && sheet_entries())
+        ask_back(41, starts[undo_line()]);
+    else
+        ask_back(number, told);
+}
+
+/* The same for a sheet that the form's line doesn't begin: it is judged by form 1, and has no way back. */
+static void ask_formless(size_t told)
+{
+    ask_load(lend_state(shape->image), 40, told);
+    ask_load(&runs[!series], 40, 0);
+    ask_move(40, told);
+    ask_back(40, 0);
+}
+
+/* A state with a few entries of each kind, one with the longest sheet, and one with 64 entries of any kind. */
+static void make_few_entries(uint8_t *s)
+{
+    make_high_state(s);
+    memset(s + shape->count, 0, shape->image - shape->count);
+    add_set(s, shape->of_73, 0);
+    add_set(s, shape->settings - 1, 1);
+    add_put(s, 10, 0);
+    add_put(s, 10, "00001550");
+    add_put(s, 0, 0);
+    add_set(s, shape->of_73, 0);
+    add_put(s, 2, "35959599");
+    add_put(s, 10, "00001550");
+    add_put(s, 3, 0);
+}
+
+static void make_long_list(uint8_t *s)
+{
+    make_high_state(s);
+    memset(s + shape->count, 0, shape->image - shape->count);
+    for (unsigned i = 0; i < ENTRIES; i++)
+        add_put(s, i % VALUES, i % 2 ? "00000000" : "35959599");
+}
+
+static void make_full_list(uint8_t *s)
+{
+    do {
+        make_state(s);
+    } while (s[shape->count + 1] != ENTRIES);
+}
+
+/* The right sheet, which the sweeps below change. */
+static uint8_t right_sheet[MOST_SHEET_2];
+static size_t right_length;
+
+static void keep_right(void)
+{
+    memcpy(right_sheet, src, right_length = len);
+}
+
+static void lay_right(void)
+{
+    memcpy(src, right_sheet, len = right_length);
+}
+
+/* Each line of the sheet left out, doubled and exchanged with later ones. The entries' lines are right in any order, and then the
+   list decides. */
+static void sweep_lines_2(const uint8_t *loaded)
+{
+    static uint8_t exchanged[MOST_IMAGE];
+    unsigned undo = undo_line();
+    for (unsigned i = 0; i < lines; i++) {
+        lay_right();
+        leave_out(i);
+        if (i == 0)
+            ask_formless(starts[undo] - 7);
+        else
+            ask_sheet_2(40, i <= undo ? starts[i] : len);
+        lay_right();
+        put_in(i, i);
+        ask_sheet_2(40, i <= undo ? starts[i + 1] : len - (right_length - starts[lines - 1]));
+        for (unsigned later = i + 1; later < lines; later += lines < 64 ? 1 : 1 + (i + later) % 9) {
+            lay_right();
+            exchange(i, later);
+            if (i == 0) {
+                ask_formless(later == 1 ? 14 : 0);
+            } else if (i <= undo) {
+                ask_sheet_2(40, starts[i]);
+            } else {
+                uint8_t *e = exchanged + shape->entries;
+                memcpy(exchanged, loaded, shape->image);
+                swap(e + ENTRY * (i - undo - 1), e + ENTRY * (later - undo - 1), ENTRY);
+                if (list_stands(exchanged)) {
+                    ask_sheet_2(0, 0);
+                    ask_same(&spare, exchanged, shape->image);
+                } else {
+                    ask_sheet_2(40, starts[undo]);
+                }
+            }
+        }
+    }
+}
+
+/* Every count to 130, with and without zeros before it, and those that a byte or two would take for the right one. */
+static void sweep_counts(void)
+{
+    unsigned entries = sheet_entries(), undo = undo_line();
+    size_t figures_of_right = entries < 10 ? 1 : 2;
+    for (unsigned count = 0; count <= 130; count++)
+        for (unsigned zeros = 0; zeros < 3; zeros++) {
+            size_t more = (count < 10 ? 1 : count < 100 ? 2 : 3) - figures_of_right;
+            lay_right();
+            lay_count(&"00"[2 - zeros], count);
+            if (zeros || count > ENTRIES)
+                ask_sheet_2(40, starts[undo]);
+            else if (count == entries)
+                ask_sheet_2(0, 0);
+            else
+                ask_sheet_2(40, count > entries ? len : starts[undo + 1 + count] + more);
+        }
+    for (unsigned count = entries + 256; count < entries + 70000; count += 256) {
+        lay_right();
+        lay_count("", count);
+        ask_sheet_2(40, starts[undo]);
+    }
+}
+
+/* Sheets of form 2, of no entry, of a few, of the longest and of any: written, loaded, moved back; with lines left out, doubled and
+   exchanged, cut at each byte, with every count, and those of no entry and of a few with each byte changed. */
+static void sweep_sheets_2(void)
+{
+    static const uint8_t others[] = {0, LF, CR, ' ', '+', '-', '.', '/', '0', '1', '2', '9', ':', '=', 's', 'u', 'v', 127, 255};
+    static uint8_t loaded[MOST_IMAGE];
+
+    kind_name = "sweep of sheets of form 2";
+    kind_count = &swept_parts[series][OF_SHEETS_2];
+    for (unsigned which = 0; which < 4; which++) {
+        size_t n, at = 0;
+        if (which == 0)
+            memcpy(loaded, factory_state, shape->image);
+        else
+            (which == 1 ? make_few_entries : which == 2 ? make_long_list : make_full_list)(loaded);
+        make_high_state(state);
+        lay_sheet_2(loaded);
+        keep_right();
+        n = len;
+        if ((which == 0 && n != shape->least_sheet_2) || (which == 2 && n != shape->sheet_2))
+            unasked("the sheet has another length", n);
+        ask_sheet_2(0, 0);
+        ask_same(&spare, loaded, shape->image);
+        for (size_t room = n - 30; room < n + 3; room++) {
+            uint64_t wrote = check_sheet_write_2(&spare, room);
+            if (wrote != (room < n ? UINT64_C(30) << 32 : n) || (room >= n && memcmp(sheet.theirs + sheet.start, right_sheet, n) != 0))
+                unasked("the sheet of form 2 is another", wrote);
+        }
+        for (size_t room = n - 20; which == 0 && room < n; room++)
+            if (check_sheet_back(n, room) != (room < n - 14 ? UINT64_C(30) << 32 : n - 14))
+                unasked("the room of the way back is another", room);
+        if (which && check_sheet_back(n, 0) != (UINT64_C(41) << 32 | starts[undo_line()]))
+            unasked("41 comes before 30", 0);
+        memcpy(src + 14, shapes[!series].name, 6); /* the other's second line, and this one's others */
+        ask_load(lend_state(shape->image), 40, 7);
+        ask_load(&runs[!series], 40, starts[2]);
+        ask_back(40, starts[2]);
+        memcpy(src + 14, "TPS700", 6);
+        ask_sheet_2(40, 7);
+        sweep_lines_2(loaded);
+        sweep_counts();
+        for (size_t cut = 0; cut < n; cut++) {
+            lay_right();
+            at = cut && src[cut - 1] == LF ? cut : at;
+            len = cut;
+            ask_sheet_2(40, at);
+        }
+        for (size_t i = 0; which < 2 && i < n; i++) {
+            lay_right();
+            for (size_t k = 0; k < COUNT_OF(others); k++) {
+                src[i] = others[k];
+                check_sheet_load(lend_state(shape->image), len);
+                check_sheet_back(len, MOST_SHEET);
+            }
+            src[i] = right_sheet[i];
+            splice(i, 0, src + i, 1);
+            check_sheet_load(lend_state(shape->image), len);
+            lay_right();
+            splice(i, 1, "", 0);
+            check_sheet_load(lend_state(shape->image), len);
+            check_sheet_back(len, MOST_SHEET);
+        }
+    }
+    /* Lists of every length, each of them the one before with its newest entry taken back. */
+    make_full_list(loaded);
+    for (unsigned entries = ENTRIES + 1; entries-- > 0;) {
+        lay_sheet_2(loaded);
+        ask_sheet_2(0, 0);
+        ask_same(&spare, loaded, shape->image);
+        if (check_sheet_write_2(&spare, len) != len || memcmp(sheet.theirs + sheet.start, src, len) != 0)
+            unasked("the sheet of form 2 is another", len);
+        if (entries)
+            take_back(loaded);
+    }
+    len = 0;
+}
+
+/* The line of the one entry in src: said in its place, and loaded or refused there. */
+static void ask_entry(const char *said, const uint8_t *e)
+{
+    len = starts[entry_line(0)];
+    say(said);
+    say("\n");
+    ask_load(lend_state(shape->image), e ? 0 : 40, e ? 0 : starts[entry_line(0)]);
+    if (e && memcmp(spare.theirs + spare.start + shape->entries, e, ENTRY) != 0)
+        unasked("the entry is another", 0);
+    ask_back(e ? 41 : 40, e ? starts[undo_line()] : starts[entry_line(0)]);
+}
+
+/* A number after another character, with zeros before it. */
+static char *write_number(char *to, char before, unsigned zeros, unsigned v)
+{
+    unsigned n = 1;
+    while (power_of_ten(n) <= v)
+        n++;
+    *to++ = before;
+    digits((uint8_t *)to, zeros + n, v);
+    to += zeros + n;
+    *to = 0;
+    return to;
+}
+
+static void ask_entry_of_set(unsigned number, unsigned zeros, unsigned parameter, unsigned more_zeros)
+{
+    char said[32] = "u=";
+    uint8_t e[ENTRY] = {1};
+    unsigned place = place_of(number);
+    write_number(write_number(said + 2, 's', zeros, number), ':', more_zeros, parameter);
+    e[1] = (uint8_t)place;
+    e[2] = (uint8_t)parameter;
+    if (zeros || more_zeros || place == shape->settings || shape->setting[place].read_only || !takes(&shape->setting[place], parameter))
+        ask_entry(said, 0);
+    else
+        ask_entry(said, e);
+}
+
+/* `u=v` and the two digits, the colon, and the word or nothing. */
+static void ask_entry_of_put(unsigned key, const uint8_t *w)
+{
+    char said[32] = "u=v..:";
+    uint8_t e[ENTRY] = {2}, put[16];
+    unsigned place = 0;
+    size_t byte;
+    digits((uint8_t *)said + 3, 2, key);
+    while (place < VALUES && stored[place] != key)
+        place++;
+    e[1] = (uint8_t)place;
+    if (w) {
+        memcpy(said + 6, w, 15);
+        memcpy(put, w, 15);
+        put[15] = ' ';
+        e[3] = 1;
+        e[4] = w[5];
+        e[5] = w[6] == '-';
+        memcpy(e + 6, w + 7, 8);
+        /* "GET/I answers text words with four dots, others as dot, dot, `1`, the unit; sign and data as put" */
+        if (place < VALUES && put[4] == (place < 2 ? '.' : '1'))
+            put[4] = '.';
+        else
+            place = VALUES;
+        if (place < VALUES && (memcmp(put, said + 3, 2) != 0 || blame_put(place, put, &byte) != 0))
+            place = VALUES;
+    }
+    ask_entry(said, place < VALUES ? e : 0);
+}
+
+/* The line of an entry: every number to 200 with every parameter to 130; every two digits; each stored value with any unit and sign,
+   and data at the edges; each value of each byte of a line of each kind. Every value is put, so that any one entry stands. */
+static void sweep_entries(void)
+{
+    static const char *const data[] = {"00000000", "00000001", "99999999", "39999999", "40000000", "35999999", "36000000", "35959599", "00060000",
+                                       "00000600", "PNC0058A", "!~!~!~!~", "0000000 ", "        ", "+0000000", "000.0000"};
+    static const char *const samples_of_2[] = {"u=s73:1", "u=v88:", "u=v88:88..10+00001550", "u=v11:11....+PNC0058A", "u=v24:24..14-35959599"};
+
+    kind_name = "sweep of entries";
+    kind_count = &swept_parts[series][OF_ENTRIES];
+    make_high_state(state);
+    empty_undo();
+    state[shape->count + 1] = 1;
+    state[shape->entries] = 1;
+    state[shape->entries + 1] = (uint8_t)shape->of_73;
+    lay_sheet_2(state);
+    for (unsigned number = 0; number <= 200; number++) {
+        unsigned place = place_of(number), most = place < shape->settings ? 130 : 2;
+        for (unsigned parameter = 0; parameter <= most; parameter++) {
+            ask_entry_of_set(number, 0, parameter, 0);
+            if (parameter < 12)
+                ask_entry_of_set(number, 0, parameter, 1 + parameter % 3);
+        }
+        if (place == shape->settings)
+            continue;
+        ask_entry_of_set(number, 1 + number % 3, shape->setting[place].lowest, 0);
+        for (unsigned more = 256; more < 10000; more += 256) {
+            ask_entry_of_set(number, 0, shape->setting[place].lowest + more, 0);
+            ask_entry_of_set(number + more, 0, shape->setting[place].lowest, 0);
+        }
+        ask_entry_of_set(number, 0, 65536, 0);
+        ask_entry_of_set(number + 65536, 0, shape->setting[place].lowest, 0);
+    }
+    for (unsigned key = 0; key < 100; key++) {
+        ask_entry_of_put(key, 0);
+        for (unsigned place = 0; place < VALUES; place++) {
+            uint8_t w[16];
+            memcpy(w, value_word(place, 0, unit_for(place, key), '+', data[0]), 16);
+            ask_entry_of_put(key, w);
+            digits(w, 2, key);
+            ask_entry_of_put(key, w);
+        }
+    }
+    for (unsigned place = 0; place < VALUES; place++)
+        for (const char *unit = "./0123456789:"; *unit; unit++)
+            for (const char *sign = "+-*"; *sign; sign++)
+                for (size_t i = 0; i < COUNT_OF(data); i++) {
+                    ask_entry_of_put(stored[place], value_word(place, 0, *unit, *sign, data[i]));
+                    if (i < 2) /* as a PUT has it */
+                        ask_entry_of_put(stored[place], value_word(place, 1, *unit, *sign, data[i]));
+                }
+    for (size_t i = 0; i < COUNT_OF(samples_of_2); i++) {
+        size_t from = starts[entry_line(0)];
+        len = from;
+        say(samples_of_2[i]);
+        say("\n");
+        for (size_t at = from; at < len; at++) {
+            uint8_t old = src[at];
+            for (unsigned b = 0; b < 256; b++) {
+                src[at] = (uint8_t)b;
+                check_sheet_load(lend_state(shape->image), len);
+            }
+            src[at] = old;
+            check_sheet_back(at, MOST_SHEET);
+        }
+    }
+    len = 0;
+}
+
+/* Every list of up to five entries of one setting and two values, never put before or put before, over either value put or never
+   put. */
+static void sweep_lists(void)
+{
+    static uint8_t s[MOST_IMAGE], standing_list[MOST_IMAGE];
+    enum { SORTS_OF_ENTRY = 5 };
+
+    kind_name = "sweep of lists";
+    kind_count = &swept_parts[series][OF_LISTS];
+    make_high_state(state);
+    for (unsigned put = 0; put < 4; put++)
+        for (unsigned count = 0, lists = 1; count <= 5; count++, lists *= SORTS_OF_ENTRY)
+            for (unsigned list_of = 0; list_of < lists; list_of++) {
+                memcpy(s, factory_state, shape->image);
+                if (put & 1)
+                    value_of(s + shape->values, 0, 0);
+                if (put & 2)
+                    value_of(s + shape->values + VALUE * 10, 10, 0);
+                for (unsigned i = 0, rest = list_of; i < count; i++, rest /= SORTS_OF_ENTRY) {
+                    unsigned sort = rest % SORTS_OF_ENTRY;
+                    if (sort == 0)
+                        add_set(s, shape->of_73, i % 2);
+                    else
+                        add_put(s, sort < 3 ? 0 : 10, sort % 2 ? 0 : "00001550");
+                }
+                lay_sheet_2(s);
+                if (!list_stands(s)) {
+                    ask_load(lend_state(shape->image), 40, starts[undo_line()]);
+                    ask_back(40, starts[undo_line()]);
+                    continue;
+                }
+                ask_load(lend_state(shape->image), 0, 0);
+                ask_same(&spare, s, shape->image);
+                ask_back(count ? 41 : 0, count ? starts[undo_line()] : 0);
+                memcpy(standing_list, s, shape->image);
+                if (count < 4)
+                    play_list(standing_list);
+            }
+
+    /* "a wrong or surplus line anywhere comes before a list that no state has" */
+    memcpy(s, factory_state, shape->image);
+    add_set(s, shape->of_73, 0);
+    add_put(s, 10, "00001550");
+    add_put(s, 10, 0);
+    add_set(s, shape->of_73, 1);
+    lay_sheet_2(s);
+    keep_right();
+    ask_load(lend_state(shape->image), 40, starts[undo_line()]);
+    ask_back(40, starts[undo_line()]);
+    for (unsigned i = 2; i < lines; i++) {
+        lay_right();
+        src[starts[i] + 1] = '~';
+        ask_sheet_2(40, starts[i]);
+        lay_right();
+        src[starts[i + 1] - 1] = CR;
+        ask_sheet_2(40, starts[i]);
+    }
+    lay_right();
+    len--;
+    ask_sheet_2(40, starts[lines - 1]);
+    lay_right();
+    say("\n");
+    ask_sheet_2(40, right_length);
+    lay_right();
+    say("u=s73:1\n");
+    ask_sheet_2(40, right_length);
+    lay_right();
+    lay_count("", 5);
+    ask_sheet_2(40, right_length);
+    lay_right();
+    lay_count("", 3);
+    ask_sheet_2(40, starts[lines - 1]);
+    lay_right();
+    lay_count("", 0);
+    ask_sheet_2(40, starts[entry_line(0)]);
+    lay_right();
+    lay_count("0", 4);
+    ask_sheet_2(40, starts[undo_line()]);
+    /* The oldest entry's value never put, with 62 others between. */
+    memcpy(s, factory_state, shape->image);
+    add_put(s, 10, "00001550");
+    for (unsigned i = 0; i < ENTRIES - 2; i++)
+        add_set(s, shape->of_73, i % 2);
+    add_put(s, 10, 0);
+    value_of(s + shape->values + VALUE * 10, 10, 0);
+    lay_sheet_2(s);
+    ask_sheet_2(40, starts[undo_line()]);
+    /* And right, with the entries the other way round. */
+    swap(s + shape->entries, s + shape->entries + ENTRY * (ENTRIES - 1), ENTRY);
+    lay_sheet_2(s);
+    ask_sheet_2(0, 0);
+    ask_same(&spare, s, shape->image);
+    play_list(s);
+    len = 0;
+}
+
 /* The image in state, of that many bytes, is a state or isn't: one of the functions in turn says so. */
 static void ask_image(size_t n, int is_state)
 {
@@ -4714,12 +5857,18 @@ static void ask_image(size_t n, int is_state)
     uint64_t got, asked_number = is_state ? 0 : 31;
     lend_state(n);
     len = 0;
-    switch (turn++ % 4) {
+    switch (turn++ % 5) {
     case 0:
         got = check_sheet_write(&spare, MOST_SHEET) >> 32;
         break;
     case 1:
-        lay_sheet(factory_state);
+        got = check_sheet_write_2(&spare, MOST_SHEET_2) >> 32;
+        break;
+    case 2:
+        if (turn % 2)
+            lay_sheet(factory_state);
+        else
+            lay_sheet_2(factory_state);
         got = check_sheet_load(&spare, len) >> 32;
         break;
     default:
@@ -4815,6 +5964,9 @@ static void sweep(void)
         sweep_settings();
         sweep_replies();
         sweep_sheets();
+        sweep_sheets_2();
+        sweep_entries();
+        sweep_lists();
         sweep_images();
     }
     sweep_wide = 1;
@@ -4883,14 +6035,21 @@ static struct { const char *name; void (*make)(void); unsigned weight, by; uint6
     {"line keywords", line_keywords, 4, BY_SERIES, {0}},
     {"line random", line_random, 1, BY_SERIES, {0}},
     {"sheet rooms", sheet_rooms, 1, BY_SERIES, {0}},
-    {"sheet written", sheet_written, 2, BY_SERIES, {0}},
-    {"sheet whole", sheet_whole, 2, BY_SERIES, {0}},
-    {"sheet cut", sheet_cut, 3, BY_SERIES, {0}},
-    {"sheet with one byte wrong", sheet_one_wrong, 3, BY_SERIES, {0}},
-    {"sheet with each value of a byte", sheet_each_value, 3, BY_SERIES, {0}},
-    {"sheet lines", sheet_lines, 2, BY_SERIES, {0}},
-    {"sheet of the other series", sheet_other, 1, BY_SERIES, {0}},
-    {"sheet odd", sheet_odd, 4, BY_SERIES, {0}},
+    {"sheet rooms of form 2", sheet_rooms_2, 1, BY_SERIES, {0}},
+    {"sheet written", sheet_written, 3, BY_SERIES, {0}},
+    {"sheet whole", sheet_whole, 3, BY_SERIES, {0}},
+    {"sheet cut", sheet_cut, 5, BY_SERIES, {0}},
+    {"sheet with one byte wrong", sheet_one_wrong, 5, BY_SERIES, {0}},
+    {"sheet with each value of a byte", sheet_each_value, 4, BY_SERIES, {0}},
+    {"sheet lines", sheet_lines, 4, BY_SERIES, {0}},
+    {"sheet of the other series", sheet_other, 2, BY_SERIES, {0}},
+    {"sheet odd", sheet_odd, 5, BY_SERIES, {0}},
+    {"sheet counts", sheet_counts, 3, BY_SERIES, {0}},
+    {"sheet with an odd entry", sheet_of_odd_entry, 5, BY_SERIES, {0}},
+    {"sheet lists", sheet_lists, 4, BY_SERIES, {0}},
+    {"sheet of either form", sheet_forms, 2, BY_SERIES, {0}},
+    {"sheet moved", sheet_moved, 3, BY_SERIES, {0}},
+    {"sheet in mid-trial", sheet_trial, 8, BY_SERIES, {0}},
     {"sheet random", sheet_random, 1, BY_SERIES, {0}},
 };
 
@@ -4899,7 +6058,8 @@ static struct { const char *name; void (*make)(void); unsigned weight, by; uint6
 static const uint64_t possible[FUNCTIONS] = {
     BITS(0, 11) | BITS(15, 15), BITS(0, 9) | BITS(11, 11) | BITS(15, 15), 1 | BITS(12, 14), 1 | BITS(12, 14),
     BITS(0, 11) | BITS(14, 15), BITS(0, 9) | BITS(11, 11) | BITS(14, 15), 1 | BITS(31, 31), 1 | BITS(31, 31), 1 | BITS(20, 31) | BITS(39, 39), 1 | BITS(20, 31) | BITS(38, 39), 1 | BITS(30, 31), 1 | BITS(30, 31),
-    1 | BITS(31, 31) | BITS(40, 40), 1 | BITS(31, 31) | BITS(40, 40)};
+    1 | BITS(31, 31) | BITS(40, 40), 1 | BITS(31, 31) | BITS(40, 40), 1 | BITS(30, 31), 1 | BITS(30, 31), 1 | BITS(30, 30) | BITS(40, 40),
+    1 | BITS(30, 30) | BITS(40, 40), 1 | BITS(30, 30) | BITS(40, 41), 1 | BITS(30, 30) | BITS(40, 41)};
 
 /* Whether a minus nought may stand in what the function is lent or gives. */
 static int may_have_nought(unsigned function)
@@ -4911,7 +6071,7 @@ static int may_have_nought(unsigned function)
 static uint64_t seen_of(unsigned of)
 {
     uint64_t sum = 0;
-    for (unsigned number = 0; number <= 40; number++)
+    for (unsigned number = 0; number < ANSWERS; number++)
         sum += seen[READ + of][number] + seen[WRITE + of][number] + seen[MEND + of][number];
     return sum;
 }
@@ -4920,7 +6080,7 @@ static uint64_t seen_of_series(unsigned of)
 {
     uint64_t sum = 0;
     for (unsigned f = FACTORY + of; f < FUNCTIONS; f += SERIES)
-        for (unsigned number = 0; number <= 40; number++)
+        for (unsigned number = 0; number < ANSWERS; number++)
             sum += seen[f][number];
     return sum;
 }
@@ -4936,6 +6096,13 @@ static void print_counts(const char *name, const uint64_t *counts, unsigned n, u
             least = counts[i] < least ? counts[i] : least;
         }
     printf("%s %u of %u (the least %llu)", name, some, of, (unsigned long long)(some ? least : 0));
+}
+
+/* How many places of a sheet 40 can tell: each line's start, those of 64 entries among them, and the end. */
+static unsigned sheet_places(unsigned of, unsigned judged)
+{
+    unsigned lines_of_1 = 1 + shapes[of].settings + VALUES;
+    return (judged == FORM_2 ? lines_of_1 + 2 + ENTRIES : lines_of_1) + 1;
 }
 
 static void finish(void)
@@ -4988,8 +6155,30 @@ static void finish(void)
     for (unsigned of = 0; of < SERIES; of++)
         for (unsigned rule = 6; rule <= 10; rule++)
             printf("%s %s%u %llu", of || rule > 6 ? "," : "", sorts[BY_SERIES][of], rule, (unsigned long long)broken_rule[of][rule]);
+    printf("\nsheets loaded:");
+    for (unsigned of = 0; of < SERIES; of++) {
+        printf("%s form 1 %llu, form 2 %llu", of ? "; TPS300" : " TPS100", (unsigned long long)loaded_by_form[of][FORM_1],
+               (unsigned long long)loaded_by_form[of][FORM_2]);
+        print_counts(", entries", lists_loaded[of], ENTRIES + 1, ENTRIES + 1);
+    }
+    printf("\nentries loaded:");
+    for (unsigned of = 0; of < SERIES; of++)
+        for (unsigned before = 0; before < BEFORES; before++)
+            printf("%s %s%s %llu", of || before ? "," : "", sorts[BY_SERIES][of], befores[before],
+                   (unsigned long long)entries_loaded[of][before]);
+    printf("\nlines of a sheet told:");
+    for (unsigned of = 0; of < SERIES; of++)
+        for (unsigned judged = 0; judged < FORMS; judged++) {
+            unsigned most = sheet_places(of, judged);
+            print_counts(of ? judged ? ", TPS300 form 2" : ", TPS300 form 1" : judged ? ", TPS100 form 2" : " TPS100 form 1",
+                         told_lines[of][judged], most, most);
+        }
+    printf("\nlists that no state has:");
+    for (unsigned of = 0; of < SERIES; of++)
+        printf("%s loaded %llu, moved back %llu", of ? "; TPS300" : " TPS100", (unsigned long long)no_lists[of][0],
+               (unsigned long long)no_lists[of][1]);
     printf("\nby number:");
-    for (unsigned number = 0; number <= 40; number++) {
+    for (unsigned number = 0; number < ANSWERS; number++) {
         uint64_t sum = 0;
         for (unsigned f = 0; f < FUNCTIONS; f++)
             sum += seen[f][number];
@@ -4998,7 +6187,7 @@ static void finish(void)
     }
     printf("\n");
     for (unsigned f = 0; f < FUNCTIONS; f++)
-        for (unsigned number = 0; number <= 40; number++)
+        for (unsigned number = 0; number < ANSWERS; number++)
             if (possible[f] >> number & 1 && seen[f][number] == 0) {
                 printf("%s never answered %u\n", names[f], number);
                 missing = 1;
@@ -5036,6 +6225,37 @@ static void finish(void)
     if (wide_replies == 0) {
         printf("no reply was wide\n");
         missing = 1;
+    }
+    for (unsigned of = 0; of < SERIES; of++) {
+        uint64_t between = loaded_by_form[of][FORM_2] - lists_loaded[of][0] - lists_loaded[of][ENTRIES];
+        if (lists_loaded[of][0] == 0 || between == 0 || lists_loaded[of][ENTRIES] == 0) {
+            printf("%s never loaded a list of no entry, of some, or of 64\n", names[SHEET_LOAD + of]);
+            missing = 1;
+        }
+        for (unsigned before = 0; before < BEFORES; before++)
+            if (entries_loaded[of][before] == 0) {
+                printf("%s never loaded an entry of %s\n", names[SHEET_LOAD + of], befores[before]);
+                missing = 1;
+            }
+        for (unsigned judged = 0; judged < FORMS; judged++) {
+            unsigned most = sheet_places(of, judged), each = judged == FORM_2 ? most - ENTRIES : most;
+            uint64_t entries = judged == FORM_1;
+            for (unsigned i = each; i < most; i++)
+                entries += told_lines[of][judged][i];
+            for (unsigned i = 0; i < each; i++)
+                if (told_lines[of][judged][i] == 0) {
+                    printf("%s: line %u of form %u was never told\n", shapes[of].name, i, judged + 1);
+                    missing = 1;
+                }
+            if (entries == 0) {
+                printf("%s: no entry's line was told\n", shapes[of].name);
+                missing = 1;
+            }
+        }
+        if (loaded_by_form[of][FORM_1] == 0 || no_lists[of][0] == 0 || no_lists[of][1] == 0) {
+            printf("%s never loaded form 1, or never refused a list that no state has\n", names[SHEET_LOAD + of]);
+            missing = 1;
+        }
     }
     exit(missing);
 }

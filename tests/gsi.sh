@@ -81,7 +81,7 @@ status=0
 [ "$status" -eq 2 ] && [ ! -s "$work/out" ] && grep -q '^usage: ' "$work/err" || fail "gsi alone doesn't give its usage"
 "$copy/gsi" --help >"$work/out" 2>"$work/none" || fail "--help fails"
 [ ! -s "$work/none" ] && cmp -s "$work/err" "$work/out" || fail "--help doesn't give the usage"
-for program in 'reading [level]' 'mend [level]' sheet 'standin [--why] [TPS100 | TPS300 | SHEET]'; do
+for program in 'reading [level]' 'mend [level]' sheet 'standin [--why] [--keep FILE] [TPS100 | TPS300 | SHEET]' move back; do
     sed 's/^  //; s/   .*//' "$work/out" | grep -Fqx "$program" || fail "the usage doesn't name $program"
 done
 ! grep -q benchreadings "$work/out" || fail "the usage names a program of the gate's"

@@ -1,6 +1,6 @@
-/* reference.c: a second implementation of document 01 and document 02's requests 101 to 105 in plain C: the block of
-   either family and its mending, the line machine and the sheet of either series. What stands in quotes is the documents'
-   own sentence; the image's bytes are those of IMAGE.md. */
+/* reference.c: a second implementation of document 01 and document 02's requests 101 to 106 in plain C: the block of
+   either family and its mending, the line machine and the sheet of either series, in either form. What stands in quotes is
+   the documents' own sentence; the image's bytes are those of IMAGE.md. */
 #include "reference.h"
 
 enum { CR = 13, LF = 10, MOST_WORDS = 32 };
@@ -1235,25 +1235,27 @@ static uint8_t *lay_number(uint8_t *to, unsigned number)
     return to + n;
 }
 
-uint64_t ref_sheet_write(const uint8_t *image, size_t n, uint8_t *sheet, size_t room)
-{
-    const struct series *of = series_of(image, n);
-    size_t length;
+/* 106: "A second sheet form starts `form=2`, then the first form's lines". */
+enum { FORM_1 = 1, FORM_2 = 2 };
+static const char form_line[] = "form=2\n", undo_key[] = "undo=";
+enum { FORM_LINE = sizeof form_line - 1, UNDO_KEY = sizeof undo_key - 1 };
 
-    /* "for writing, 31, then 30" */
-    if (!of)
-        return answer(31, 0);
-    length = length_of(of->first_line);
+/* How many bytes the sheet's form 1 has. */
+static size_t form_1_length(const struct series *of, const uint8_t *image)
+{
+    size_t length = length_of(of->first_line);
     for (size_t i = 0; i < of->settings; i++)
         length += 3 + digits_of(of->setting[i].number) + digits_of(image[AT_SETTINGS + i]);
     /* "the 15 characters GET/I gives, or nothing when never put"; 103: "the sheet keeps eight characters" */
     for (unsigned i = 0; i < VALUES; i++)
         length += image[at_value(of, i)] ? 20 : 5;
-    if (length > room)
-        return answer(30, 0);
+    return length;
+}
 
-    /* "key=value lines ended by LF: `series=TPS100`, then `s` and each setting in the order above, then `v` and each
-       index"; 103: "numbers have no leading zeros" */
+/* Writes the sheet's form 1 and answers the place after it. "key=value lines ended by LF: `series=TPS100`, then `s` and each
+   setting in the order above, then `v` and each index"; 103: "numbers have no leading zeros" */
+static uint8_t *lay_form_1(const struct series *of, const uint8_t *image, uint8_t *sheet)
+{
     sheet = lay(sheet, of->first_line, length_of(of->first_line));
     for (size_t i = 0; i < of->settings; i++) {
         *sheet++ = 's';
@@ -1271,7 +1273,103 @@ uint64_t ref_sheet_write(const uint8_t *image, size_t n, uint8_t *sheet, size_t 
             sheet = lay_value(sheet, i, v, 0);
         *sheet++ = LF;
     }
+    return sheet;
+}
+
+uint64_t ref_sheet_write(const uint8_t *image, size_t n, uint8_t *sheet, size_t room)
+{
+    const struct series *of = series_of(image, n);
+    size_t length;
+
+    /* "for writing, 31, then 30" */
+    if (!of)
+        return answer(31, 0);
+    length = form_1_length(of, image);
+    if (length > room)
+        return answer(30, 0);
+    lay_form_1(of, image, sheet);
     return answer(0, length);
+}
+
+/* How many bytes an entry's `u=` line has. */
+static size_t entry_length(const struct series *of, const uint8_t *e)
+{
+    if (e[0] == ENTRY_OF_SET)
+        return 5 + digits_of(of->setting[e[1]].number) + digits_of(e[2]);
+    return e[3] ? 22 : 7;
+}
+
+/* Writes an entry's line and answers the place after it. 106: "one `u=` line for each entry ...: the `s` or `v` key, a colon,
+   and what was there before"; "`u=s40:2` or `u=v88:` or `u=v88:88..10+00001550`, each ended by LF" */
+static uint8_t *lay_entry(const struct series *of, const uint8_t *e, uint8_t *to)
+{
+    to = lay(to, "u=", 2);
+    if (e[0] == ENTRY_OF_SET) {
+        *to++ = 's';
+        to = lay_number(to, of->setting[e[1]].number);
+        *to++ = ':';
+        to = lay_number(to, e[2]);
+    } else {
+        *to++ = 'v';
+        to = lay(to, values[e[1]].index, 2);
+        *to++ = ':';
+        if (e[3])
+            to = lay_value(to, e[1], e + 3, 0);
+    }
+    *to++ = LF;
+    return to;
+}
+
+uint64_t ref_sheet_write_2(const uint8_t *image, size_t n, uint8_t *sheet, size_t room)
+{
+    const struct series *of = series_of(image, n);
+    unsigned entries;
+    size_t length;
+
+    if (!of)
+        return answer(31, 0);
+    entries = image[at_count(of) + 1];
+    length = FORM_LINE + form_1_length(of, image) + UNDO_KEY + digits_of(entries) + 1;
+    for (unsigned i = 0; i < entries; i++)
+        length += entry_length(of, image + at_entry(of, i));
+    if (length > room)
+        return answer(30, 0);
+
+    /* 106: "then `undo=` and the count, then one `u=` line for each entry, oldest first" */
+    sheet = lay(sheet, form_line, FORM_LINE);
+    sheet = lay_form_1(of, image, sheet);
+    sheet = lay(sheet, undo_key, UNDO_KEY);
+    sheet = lay_number(sheet, entries);
+    *sheet++ = LF;
+    for (unsigned i = 0; i < entries; i++)
+        sheet = lay_entry(of, image + at_entry(of, i), sheet);
+    return answer(0, length);
+}
+
+/* Takes the n bytes at p for a number and the line's end. Answers their length, 0 when wrong. */
+static size_t take_number_line(const uint8_t *p, size_t n, unsigned *number)
+{
+    size_t taken = take_number(p, n, number);
+    return taken == 0 || taken == n || p[taken] != LF ? 0 : taken + 1;
+}
+
+/* Takes the n bytes at p for a value's 15 characters, or nothing when never put, and the line's end, into its 11 bytes.
+   Answers their length, 0 when wrong. */
+static size_t take_value_rest(const uint8_t *p, size_t n, unsigned place, uint8_t *v)
+{
+    if (n > 0 && p[0] == LF) {
+        clear(v, VALUE_BYTES);
+        return 1;
+    }
+    if (n < 16 || !same(p, values[place].index, 2) || p[2] != '.' || p[3] != '.' || p[15] != LF)
+        return 0;
+    if (p[4] != (values[place].kind == TEXT ? '.' : '1') || (p[6] != '+' && p[6] != '-'))
+        return 0;
+    v[0] = 1;
+    v[1] = p[5];
+    v[2] = p[6] == '-';
+    copy(v + 3, p + 7, 8);
+    return value_right(place, v) ? 16 : 0;
 }
 
 /* Takes the n bytes at p for a line `sNN=` of the setting, into its parameter. Answers the line's length, 0 when wrong. 103:
@@ -1284,65 +1382,203 @@ static size_t take_setting_line(const uint8_t *p, size_t n, const struct setting
     if (n < key + 2 || p[0] != 's' || take_number(p + 1, key, &number) != key || number != setting->number || p[key + 1] != '=')
         return 0;
     key += 2;
-    taken = take_number(p + key, n - key, &number);
-    if (taken == 0 || !in_range(setting, number) || key + taken == n || p[key + taken] != LF)
+    taken = take_number_line(p + key, n - key, &number);
+    if (taken == 0 || !in_range(setting, number))
         return 0;
     *to = (uint8_t)number;
-    return key + taken + 1;
+    return key + taken;
 }
 
 /* Takes the n bytes at p for a line `vNN=` of the value, into its 11 bytes. Answers the line's length, 0 when wrong. */
 static size_t take_value_line(const uint8_t *p, size_t n, unsigned place, uint8_t *v)
 {
-    if (n < 5 || p[0] != 'v' || !same(p + 1, values[place].index, 2) || p[3] != '=')
+    size_t taken;
+
+    if (n < 4 || p[0] != 'v' || !same(p + 1, values[place].index, 2) || p[3] != '=')
         return 0;
-    if (p[4] == LF) {
-        clear(v, VALUE_BYTES);
-        return 5;
-    }
-    if (n < 20 || !same(p + 4, values[place].index, 2) || p[6] != '.' || p[7] != '.' || p[19] != LF)
-        return 0;
-    if (p[8] != (values[place].kind == TEXT ? '.' : '1') || (p[10] != '+' && p[10] != '-'))
-        return 0;
-    v[0] = 1;
-    v[1] = p[9];
-    v[2] = p[10] == '-';
-    copy(v + 3, p + 11, 8);
-    return value_right(place, v) ? 20 : 0;
+    taken = take_value_rest(p + 4, n - 4, place, v);
+    return taken == 0 ? 0 : 4 + taken;
 }
 
-uint64_t ref_sheet_load(uint8_t *image, size_t n, const uint8_t *sheet, size_t m)
+/* Takes the n bytes at p for the line `undo=`. Answers its length, 0 when wrong. 106: "a count above the list's size is wrong
+   at its line" */
+static size_t take_undo_line(const uint8_t *p, size_t n, unsigned *count)
 {
-    /* The image up to the undo list's number; it waits here since 40 "leaves the state as it was". */
-    uint8_t fresh[AT_SETTINGS + MOST_SETTINGS + VALUES * VALUE_BYTES];
-    const struct series *of = series_of(image, n);
-    size_t at, taken;
+    size_t taken;
 
-    /* "Order: 31 (telling 0), then 40" */
-    if (!of)
-        return answer(31, 0);
+    if (n < UNDO_KEY || !same(p, undo_key, UNDO_KEY))
+        return 0;
+    taken = take_number_line(p + UNDO_KEY, n - UNDO_KEY, count);
+    return taken == 0 || *count > MOST_ENTRIES ? 0 : UNDO_KEY + taken;
+}
 
-    /* "Loading takes exactly the bytes some sheet has"; "otherwise refusal 40 tells the start of the first wrong,
-       missing or surplus line"; 103: "a sheet of the other series is 40 at that line" */
-    at = length_of(of->first_line);
-    if (m < at || !same(sheet, of->first_line, at))
-        return answer(40, 0);
-    fresh[0] = of->mark;
+/* Takes the n bytes at p for an entry's line, into its 14 bytes. Answers the line's length, 0 when wrong. */
+static size_t take_entry_line(const struct series *of, const uint8_t *p, size_t n, uint8_t *e)
+{
+    unsigned number;
+    size_t place, key, taken;
+
+    clear(e, ENTRY_BYTES);
+    if (n < 3 || p[0] != 'u' || p[1] != '=')
+        return 0;
+    if (p[2] == 's') {
+        taken = take_number(p + 3, n - 3, &number);
+        key = 3 + taken;
+        if (taken == 0 || key == n || p[key] != ':')
+            return 0;
+        key++;
+        /* 106: "so is a `u=` line of a read-only setting" */
+        place = place_of_setting(of, number);
+        if (place == of->settings || of->setting[place].read_only)
+            return 0;
+        taken = take_number_line(p + key, n - key, &number);
+        if (taken == 0 || !in_range(&of->setting[place], number))
+            return 0;
+        e[0] = ENTRY_OF_SET;
+        e[1] = (uint8_t)place;
+        e[2] = (uint8_t)number;
+        return key + taken;
+    }
+    if (n < 6 || p[2] != 'v' || p[5] != ':')
+        return 0;
+    place = place_of_value(p + 3);
+    if (place == VALUES)
+        return 0;
+    e[0] = ENTRY_OF_PUT;
+    e[1] = (uint8_t)place;
+    taken = take_value_rest(p + 6, n - 6, (unsigned)place, e + 3);
+    return taken == 0 ? 0 : 6 + taken;
+}
+
+/* A sheet that was taken: its series, where its line `undo=` starts (its end in form 1), how many entries it has, and the
+   image of what it says. It waits here since 40 "leaves the state as it was". */
+struct taken {
+    const struct series *of;
+    size_t undo_at;
+    unsigned entries;
+    uint8_t image[AT_SETTINGS + MOST_SETTINGS + VALUES * VALUE_BYTES + 2 + MOST_ENTRIES * ENTRY_BYTES];
+};
+
+/* The series whose first line of form 1 stands at p, or null. */
+static const struct series *series_at(const uint8_t *p, size_t n)
+{
+    for (unsigned i = 0; i < SERIES; i++) {
+        size_t length = length_of(all_series[i].first_line);
+        if (n >= length && same(p, all_series[i].first_line, length))
+            return &all_series[i];
+    }
+    return NULL;
+}
+
+static int is_form_2(const uint8_t *sheet, size_t m)
+{
+    return m >= FORM_LINE && same(sheet, form_line, FORM_LINE);
+}
+
+/* Judges the m bytes as a sheet of the form, of the series or, where none is given, of the one that it names. "Loading takes
+   exactly the bytes some sheet has"; "otherwise refusal 40 tells the start of the first wrong, missing or surplus line". */
+static uint64_t take_sheet(unsigned form, const struct series *of, const uint8_t *sheet, size_t m, struct taken *t)
+{
+    size_t at = 0, taken;
+
+    if (form == FORM_2) {
+        if (!is_form_2(sheet, m))
+            return answer(40, 0);
+        at = FORM_LINE;
+    }
+    /* 103: "a sheet of the other series is 40 at that line" */
+    t->of = series_at(sheet + at, m - at);
+    if (!t->of || (of && t->of != of))
+        return answer(40, at);
+    of = t->of;
+    at += length_of(of->first_line);
+    clear(t->image, image_bytes(of));
+    t->image[0] = of->mark;
     for (size_t i = 0; i < of->settings; i++, at += taken) {
-        taken = take_setting_line(sheet + at, m - at, &of->setting[i], fresh + AT_SETTINGS + i);
+        taken = take_setting_line(sheet + at, m - at, &of->setting[i], t->image + AT_SETTINGS + i);
         if (taken == 0)
             return answer(40, at);
     }
     for (unsigned i = 0; i < VALUES; i++, at += taken) {
-        taken = take_value_line(sheet + at, m - at, i, fresh + at_value(of, i));
+        taken = take_value_line(sheet + at, m - at, i, t->image + at_value(of, i));
         if (taken == 0)
             return answer(40, at);
     }
+    t->undo_at = at;
+    t->entries = 0;
+    if (form == FORM_2) {
+        taken = take_undo_line(sheet + at, m - at, &t->entries);
+        if (taken == 0)
+            return answer(40, at);
+        at += taken;
+        t->image[at_count(of) + 1] = (uint8_t)t->entries;
+        for (unsigned i = 0; i < t->entries; i++, at += taken) {
+            taken = take_entry_line(of, sheet + at, m - at, t->image + at_entry(of, i));
+            if (taken == 0)
+                return answer(40, at);
+        }
+    }
     if (at != m)
         return answer(40, at);
-
-    /* "makes the settings and stored values those it names and empties the undo list" */
-    copy(image, fresh, at_count(of));
-    clear(image + at_count(of), n - at_count(of));
+    /* 106: "or at `undo=` where each line is right but no state has that list": "taken back newest first, none names a value
+       then never put" */
+    if (!is_state_of(of, t->image, image_bytes(of)))
+        return answer(40, t->undo_at);
     return answer(0, 0);
+}
+
+uint64_t ref_sheet_load(uint8_t *image, size_t n, const uint8_t *sheet, size_t m)
+{
+    const struct series *of = series_of(image, n);
+    struct taken t;
+    uint64_t got;
+
+    /* "Order: 31 (telling 0), then 40" */
+    if (!of)
+        return answer(31, 0);
+    /* 106: "Both forms load". */
+    got = take_sheet(is_form_2(sheet, m) ? FORM_2 : FORM_1, of, sheet, m, &t);
+    /* "makes the settings and stored values those it names and empties the undo list", or, 106, makes it that of form 2 */
+    if (got == 0)
+        copy(image, t.image, n);
+    return got;
+}
+
+uint64_t ref_sheet_move(const uint8_t *sheet, size_t m, uint8_t *moved, size_t room)
+{
+    static const char no_entry[] = "undo=0\n";
+    enum { NO_ENTRY = sizeof no_entry - 1 };
+    struct taken t;
+    uint64_t got = take_sheet(FORM_1, NULL, sheet, m, &t);
+    size_t length = FORM_LINE + m + NO_ENTRY;
+
+    if (got != 0)
+        return got;
+    if (length > room)
+        return answer(30, 0);
+    /* 106: "Old sheets move to the new form with `undo=0`." */
+    moved = lay(moved, form_line, FORM_LINE);
+    copy(moved, sheet, m);
+    lay(moved + m, no_entry, NO_ENTRY);
+    return answer(0, length);
+}
+
+uint64_t ref_sheet_back(const uint8_t *sheet, size_t m, uint8_t *moved, size_t room)
+{
+    struct taken t;
+    uint64_t got = take_sheet(FORM_2, NULL, sheet, m, &t);
+    size_t length;
+
+    /* 106: "40 at the first wrong line, ...; then 41 for the way back with a count above 0, then 30"; "41 tells the start of
+       the `undo=` line, 30 tells 0" */
+    if (got != 0)
+        return got;
+    if (t.entries > 0)
+        return answer(41, t.undo_at);
+    length = t.undo_at - FORM_LINE;
+    if (length > room)
+        return answer(30, 0);
+    /* 106: "The way back gives the old bytes exactly when the count is 0." */
+    copy(moved, sheet + FORM_LINE, length);
+    return answer(0, length);
 }

@@ -1,4 +1,4 @@
-/* reference.h: a second implementation of document 01 and requests 101 to 105 in plain C, which the library is compared with.
+/* reference.h: a second implementation of document 01 and requests 101 to 106 in plain C, which the library is compared with.
    The functions, the record and the edit are those of the C interface, under the prefix ref_. */
 #ifndef REFERENCE_H
 #define REFERENCE_H
@@ -34,5 +34,8 @@ uint64_t ref_factory_300(uint8_t *image, size_t n);
 uint64_t ref_line(uint8_t *image, size_t n, const uint8_t *line, size_t m, uint8_t *reply, size_t room);
 uint64_t ref_sheet_write(const uint8_t *image, size_t n, uint8_t *sheet, size_t room);
 uint64_t ref_sheet_load(uint8_t *image, size_t n, const uint8_t *sheet, size_t m);
+uint64_t ref_sheet_write_2(const uint8_t *image, size_t n, uint8_t *sheet, size_t room);
+uint64_t ref_sheet_move(const uint8_t *sheet, size_t m, uint8_t *moved, size_t room);
+uint64_t ref_sheet_back(const uint8_t *sheet, size_t m, uint8_t *moved, size_t room);
 
 #endif

@@ -1,6 +1,6 @@
 /* selftest.c: checks the second implementation alone against the worked readings of document 01, the level's listing of
-   003, request 102's minus nought, request 103's TPS300, request 104's places, request 105's mending and what is easy to slip
-   on. Prints `ok`, or the lines of this file whose reading failed. */
+   003, request 102's minus nought, request 103's TPS300, request 104's places, request 105's mending, request 106's sheets that
+   remember and what is easy to slip on. Prints `ok`, or the lines of this file whose reading failed. */
 #include "reference.h"
 
 int printf(const char *, ...);
@@ -1524,9 +1524,10 @@ static void check_states(void)
 
 /* Sheets */
 
-static const char example[] =
-    "series=TPS100\ns30=1\ns32=0\ns34=0\ns40=0\ns41=0\ns44=0\ns49=0\ns50=0\ns70=5\ns71=0\ns73=1\ns76=0\ns80=0\ns81=0\n"
-    "s95=0\ns102=0\ns103=1\ns135=0\ns136=0\nv11=\nv16=\nv21=\nv24=\nv34=\nv83=\nv84=\nv85=\nv86=\nv87=\nv88=88..10+00001550\n";
+#define EXAMPLE \
+    "series=TPS100\ns30=1\ns32=0\ns34=0\ns40=0\ns41=0\ns44=0\ns49=0\ns50=0\ns70=5\ns71=0\ns73=1\ns76=0\ns80=0\ns81=0\n" \
+    "s95=0\ns102=0\ns103=1\ns135=0\ns136=0\nv11=\nv16=\nv21=\nv24=\nv34=\nv83=\nv84=\nv85=\nv86=\nv87=\nv88=88..10+00001550\n"
+static const char example[] = EXAMPLE;
 
 /* The right sheet that the checks below change. */
 static const char *given = example;
@@ -1546,7 +1547,7 @@ static uint64_t load(const char *sheet, size_t n)
 /* Loads the given sheet with the part from `at` of that many bytes replaced. */
 static uint64_t load_with(size_t at, size_t gone, const char *instead)
 {
-    char sheet[600];
+    char sheet[2500];
     size_t n = strlen(given), added = strlen(instead);
     memcpy(sheet, given, at);
     memcpy(sheet + at, instead, added);
@@ -2145,6 +2146,526 @@ static void check_sheets_300(void)
     given = example;
 }
 
+/* Sheets that remember */
+
+enum { SHEET_ROOM = 1900 };
+static uint8_t written[SHEET_ROOM];
+static size_t written_bytes;
+
+/* Whether the image's form 2 is this sheet: written into just its room and into an ample one, and not into a shorter one. */
+static int remembers(const char *sheet)
+{
+    size_t n = strlen(sheet);
+    for (size_t short_room = 0; short_room < n; short_room += short_room + 30 < n ? 7 : 1) {
+        memset(written, 0x5A, sizeof written);
+        if (ref_sheet_write_2(image, bytes, written, short_room) != ANSWER(30, 0) || !only(written, 0x5A, sizeof written))
+            return 0;
+    }
+    for (size_t more = 0; more < 3; more++) {
+        memset(written, 0x5A, sizeof written);
+        if (ref_sheet_write_2(image, bytes, written, n + more) != ANSWER(0, n) || memcmp(written, sheet, n) != 0)
+            return 0;
+        if (!only(written + n, 0x5A, sizeof written - n))
+            return 0;
+    }
+    return 1;
+}
+
+/* The image's form 2 in written, with a 0 after it; answers its length. */
+static size_t remember(void)
+{
+    uint64_t got;
+    memset(written, 0, sizeof written);
+    got = ref_sheet_write_2(image, bytes, written, sizeof written - 1);
+    CHECK(got < sizeof written - 1);
+    written_bytes = (size_t)got;
+    return written_bytes;
+}
+
+/* The two moves; checks that a refused one writes nothing, and that room beyond what is told is untouched. */
+static uint8_t moved[SHEET_ROOM];
+
+static uint64_t checked(uint64_t got, size_t room)
+{
+    size_t told = got >> 32 ? 0 : (size_t)got;
+    CHECK(told <= room);
+    CHECK(only(moved + told, 0x5A, sizeof moved - told));
+    return got;
+}
+
+static uint64_t move_in(const char *sheet, size_t n, size_t room)
+{
+    memset(moved, 0x5A, sizeof moved);
+    return checked(ref_sheet_move((const uint8_t *)sheet, n, moved, room), room);
+}
+
+static uint64_t back_in(const char *sheet, size_t n, size_t room)
+{
+    memset(moved, 0x5A, sizeof moved);
+    return checked(ref_sheet_back((const uint8_t *)sheet, n, moved, room), room);
+}
+
+static uint64_t moving(const char *sheet)
+{
+    return move_in(sheet, strlen(sheet), SHEET_ROOM);
+}
+
+static uint64_t going_back(const char *sheet)
+{
+    return back_in(sheet, strlen(sheet), SHEET_ROOM);
+}
+
+/* Whether the given sheet of form 2, with the part from `at` of that many bytes replaced, is refused by 40 at the place, loaded and
+   moved back, and at 0 when moved. */
+static int wrong_with(size_t at, size_t gone, const char *instead, size_t place)
+{
+    char sheet[2500];
+    size_t n = strlen(given), added = strlen(instead);
+    memcpy(sheet, given, at);
+    memcpy(sheet + at, instead, added);
+    memcpy(sheet + at + added, given + at + gone, n - at - gone);
+    n = n - gone + added;
+    return load(sheet, n) == ANSWER(40, place) && back_in(sheet, n, SHEET_ROOM) == ANSWER(40, place) &&
+           back_in(sheet, n, 0) == ANSWER(40, place) && move_in(sheet, n, SHEET_ROOM) == ANSWER(40, 0);
+}
+
+/* The same for the line that starts with the key; it is wrong at its own start. */
+static int wrong_line(const char *key, const char *instead)
+{
+    size_t at = line_of(given, key), end = at;
+    while (given[end] != '\n')
+        end++;
+    return wrong_with(at, end - at, instead, at);
+}
+
+#define SETTINGS_OF_FACTORY \
+    "s30=0\ns32=0\ns34=0\ns40=0\ns41=0\ns44=0\ns49=0\ns50=0\ns70=5\ns71=0\ns73=1\ns76=0\ns80=0\ns81=0\ns95=0\ns102=0\ns103=1\n" \
+    "s135=0\ns136=0\n"
+#define NEVER_PUT "v11=\nv16=\nv21=\nv24=\nv34=\nv83=\nv84=\nv85=\nv86=\nv87=\nv88=\n"
+
+/* The example of program sheet in form 2: of its four lines the third was taken back, and two entries stand. */
+static const char example_2[] = "form=2\n" EXAMPLE "undo=2\nu=s30:0\nu=v88:\n";
+static const char least_2[] = "form=2\nseries=TPS100\n" SETTINGS_OF_FACTORY NEVER_PUT "undo=0\n";
+
+/* Entries of each kind: SET/40/2, SET/40/1, a PUT of 88 three times, of 11 twice and of 24, and SET/40/1 again. */
+static const char trial_2[] =
+    "form=2\nseries=TPS100\ns30=0\ns32=0\ns34=0\ns40=1\ns41=0\ns44=0\ns49=0\ns50=0\ns70=5\ns71=0\ns73=1\ns76=0\ns80=0\ns81=0\ns95=0\n"
+    "s102=0\ns103=1\ns135=0\ns136=0\nv11=11....+!~!~!~!~\nv16=\nv21=\nv24=24..14-35959599\nv34=\nv83=\nv84=\nv85=\nv86=\nv87=\n"
+    "v88=88..11-00000000\nundo=9\nu=s40:0\nu=s40:2\nu=v88:\nu=v88:88..10+00001550\nu=v88:88..10-00000000\nu=v11:\n"
+    "u=v11:11....+PNC0058A\nu=v24:\nu=s40:1\n";
+
+static void play_trial(void)
+{
+    fresh();
+    CHECK(play("SET/40/2") == 0 && play("SET/40/1") == 0 && play("PUT/88...0+00001550 ") == 0 && play("PUT/88...0-00000000 ") == 0);
+    CHECK(play("PUT/88...1-00000000 ") == 0 && play("PUT/11....+PNC0058A ") == 0 && play("PUT/11....+!~!~!~!~ ") == 0);
+    CHECK(play("PUT/24...4-35959599 ") == 0 && play("SET/40/1") == 0);
+}
+
+/* 106: "then `undo=` and the count, then one `u=` line for each entry, oldest first" */
+static void check_written_2(void)
+{
+    uint8_t whole[1039];
+
+    fresh();
+    CHECK(sizeof least_2 - 1 == 201 && remembers(least_2));
+    run("SET/30/1\r\nPUT/88...0+00001550 \r\nSET/40/2\r\nUNDO\r\n");
+    CHECK(remembers(example_2) && sizeof example_2 - 1 == 7 + 202 + 7 + 8 + 7);
+    /* The caller says which form is written: form 1 has the same bytes as ever. */
+    CHECK(ref_sheet_write(image, bytes, written, sizeof written) == ANSWER(0, 202) && memcmp(written, example, 202) == 0);
+    /* KEEP empties the list. */
+    CHECK(play("KEEP") == 0 && remembers("form=2\n" EXAMPLE "undo=0\n"));
+    /* An entry holds what stands already where nothing altered. */
+    fresh();
+    CHECK(play("SET/70/5") == 0 && play("SET/135/0") == 0);
+    CHECK(remembers("form=2\nseries=TPS100\n" SETTINGS_OF_FACTORY NEVER_PUT "undo=2\nu=s70:5\nu=s135:0\n"));
+    play_trial();
+    CHECK(remembers(trial_2));
+    /* "31, then 30", and 31 tells 0 */
+    memcpy(whole, image, sizeof whole);
+    image[142] = 10;
+    CHECK(ref_sheet_write_2(image, bytes, written, 0) == ANSWER(31, 0));
+    CHECK(ref_sheet_write_2(image, bytes, written, 1900) == ANSWER(31, 0));
+    memcpy(image, whole, sizeof whole);
+    CHECK(ref_sheet_write_2(image, bytes - 1, written, 1900) == ANSWER(31, 0));
+    CHECK(ref_sheet_write_2(image, bytes, written, 0) == ANSWER(30, 0));
+}
+
+/* "Both forms load": the image is the one that was written, whatever stood in the other. */
+static void check_loaded_2(void)
+{
+    uint8_t whole[1039];
+    size_t n = sizeof trial_2 - 1;
+
+    play_trial();
+    memcpy(whole, image, sizeof whole);
+    fresh();
+    CHECK(load(trial_2, n) == 0 && memcmp(image, whole, sizeof whole) == 0 && remembers(trial_2));
+    /* Over a longer list, which goes. */
+    fresh();
+    for (int i = 0; i < 64; i++)
+        CHECK(play("PUT/16....+PNC0058A ") == 0);
+    CHECK(load(trial_2, n) == 0 && memcmp(image, whole, sizeof whole) == 0);
+    /* Form 1 loads as before, with no entry. */
+    CHECK(load(example, sizeof example - 1) == 0 && play("UNDO") == 29);
+    CHECK(remembers("form=2\n" EXAMPLE "undo=0\n"));
+    /* The image's own bytes: the list in its order, and 0 past it. */
+    CHECK(load(example_2, sizeof example_2 - 1) == 0 && image[141] == 0 && image[142] == 2);
+    CHECK(memcmp(image + 143, "\1\0\0\0\0\0\0\0\0\0\0\0\0\0\2\12\0\0\0\0\0\0\0\0\0\0\0\0", 28) == 0);
+    CHECK(only(image + 171, 0, 1039 - 171));
+
+    /* The trial goes on: each entry taken back, newest first, "restoring "never put" too". */
+    CHECK(load(trial_2, n) == 0 && play("CONF/40") == 0 && replied("0040/0001\r\n"));
+    CHECK(play("UNDO") == 0 && play("CONF/40") == 0 && replied("0040/0001\r\n") && play("GET/I/WI24") == 0);
+    CHECK(replied("24..14-35959599 \r\n") && play("UNDO") == 0 && play("GET/I/WI24") == 27);
+    CHECK(play("GET/I/WI11") == 0 && replied("11....+!~!~!~!~ \r\n") && play("UNDO") == 0);
+    CHECK(play("GET/I/WI11") == 0 && replied("11....+PNC0058A \r\n") && play("UNDO") == 0 && play("GET/I/WI11") == 27);
+    CHECK(play("GET/I/WI88") == 0 && replied("88..11-00000000 \r\n") && play("UNDO") == 0);
+    CHECK(play("GET/I/WI88") == 0 && replied("88..10-00000000 \r\n") && play("UNDO") == 0);
+    CHECK(play("GET/I/WI88") == 0 && replied("88..10+00001550 \r\n") && play("UNDO") == 0 && play("GET/I/WI88") == 27);
+    CHECK(play("CONF/40") == 0 && replied("0040/0001\r\n") && play("UNDO") == 0);
+    CHECK(play("CONF/40") == 0 && replied("0040/0002\r\n") && play("UNDO") == 0);
+    CHECK(play("CONF/40") == 0 && replied("0040/0000\r\n") && play("UNDO") == 29 && remembers(least_2));
+    /* "A loaded list counts as lines accepted since the last KEEP": lines after it add to it, and go before it. */
+    CHECK(load(example_2, sizeof example_2 - 1) == 0 && play("SET/73/0") == 0 && replied("?\r\n"));
+    CHECK(remember() == sizeof example_2 - 1 + 8);
+    CHECK(memcmp(written + written_bytes - 30, "undo=3\nu=s30:0\nu=v88:\nu=s73:1\n", 30) == 0);
+    CHECK(play("UNDO") == 0 && replied("?\r") && play("UNDO") == 0 && replied("?\r\n") && play("GET/I/WI88") == 27);
+    CHECK(play("PUT/88...1+00000001 ") == 0 && play("UNDO") == 0 && play("UNDO") == 0 && play("UNDO") == 29 && remembers(least_2));
+    CHECK(load(example_2, sizeof example_2 - 1) == 0 && play("KEEP") == 0 && play("UNDO") == 29 && play("GET/I/WI88") == 0);
+    /* 64 from the factory on, the oldest of a value never put. */
+    fresh();
+    for (int i = 0; i < 64; i++)
+        CHECK(play(i % 2 ? "PUT/88...0+00000000 " : "PUT/87...1-00000000 ") == 0);
+    remember();
+    fresh();
+    CHECK(load((const char *)written, written_bytes) == 0 && image[142] == 64 && play("SET/30/1") == 28 && play("UNDO") == 0);
+    CHECK(play("SET/30/1") == 0 && play("SET/30/1") == 28 && play("UNDO") == 0);
+    for (int i = 0; i < 63; i++)
+        CHECK(play("UNDO") == 0);
+    CHECK(play("UNDO") == 29 && remembers(least_2));
+    /* 63 loaded, one more, and 28. */
+    fresh();
+    for (int i = 0; i < 63; i++)
+        CHECK(play(i % 2 ? "SET/30/0" : "SET/30/1") == 0);
+    remember();
+    fresh();
+    CHECK(load((const char *)written, written_bytes) == 0 && play("SET/32/3") == 0);
+    CHECK(play("SET/32/2") == 28 && play("PUT/11....+00000000 ") == 28);
+    CHECK(play("UNDO") == 0 && play("PUT/11....+00000000 ") == 0 && play("PUT/11....+00000000 ") == 28);
+    for (int i = 0; i < 64; i++)
+        CHECK(play("UNDO") == 0);
+    CHECK(play("UNDO") == 29 && remembers(least_2));
+}
+
+static const char *const wrong_counts[] = {
+    "undo=", "undo=00", "undo=02", "undo=002", "undo=65", "undo=065", "undo=064", "undo=66", "undo=100", "undo=258", "undo=65538",
+    "undo=4294967298", "undo=18446744073709551618", "undo=2 ", "undo=2x", "undo= 2", "undo=+2", "undo=-0", "undo=2.", "undo=2\r",
+    "undo=two", "undo", "undo:2", "undo==2", "Undo=2", "UNDO=2", "undo =2", " undo=2", "u=2", "undos=2", "", "u=s30:0",
+};
+
+static const char *const wrong_entries[] = {
+    /* the key */
+    "", "u", "u=", "u=s", "u=v", "u=s30", "u=v88", "u=:", "u=s:0", "u=v:", "u=30:0", "u=88:", "s30=0", "v88=", "s30:0", "v88:",
+    "us30:0", "U=s30:0", "u=S30:0", "u=V88:", "u:s30:0", "u=s30=0", "u=v88=", "u=s30;0", "u=s30 0", "u=u=s30:0", "u==s30:0",
+    "undo=2", "form=2", " u=s30:0", "u= s30:0", "u=s 30:0", "u=s30 :0", "u=x30:0",
+    /* a number that the series doesn't have, or that isn't in fewest digits */
+    "u=s0:0", "u=s1:0", "u=s31:0", "u=s33:0", "u=s42:0", "u=s90:0", "u=s137:0", "u=s161:0", "u=s030:0", "u=s0030:0", "u=s286:0",
+    "u=s65566:0", "u=s+30:0", "u=s-30:0", "u=s3:0", "u=s300:0", "u=s3a:0",
+    /* a parameter that it doesn't take, or that isn't in fewest digits */
+    "u=s30:", "u=s30:2", "u=s30:00", "u=s30:01", "u=s30:001", "u=s40:3", "u=s70:6", "u=s30:256", "u=s30:257", "u=s30:65536",
+    "u=s30:+0", "u=s30:-0", "u=s30: 0", "u=s30:0 ", "u=s30:0\r", "u=s30:0:0", "u=s30:a", "u=s30:0a", "u=s30:.",
+    /* an index that is no stored value */
+    "u=v12:", "u=v22:", "u=v31:", "u=v51:", "u=v58:", "u=v81:", "u=v82:", "u=v89:", "u=v00:", "u=v8:", "u=v888:", "u=v088:",
+    "u=v8a:", "u=v30:0", "u=s88:", "u=s88:0", "u=v88:0", "u=v 88:", "u=v88 :",
+    /* what isn't the 15 characters that GET/I gives of what a PUT can leave */
+    "u=v88: ", "u=v88:\r", "u=v88::", "u=v88:88...0+00001550", "u=v88:88..10+00001550 ", "u=v88:88..10+0000155",
+    "u=v88:88..10+000015500", "u=v88:87..10+00001550", "u=v87:88..10+00001550", "u=v88:88..12+00001550", "u=v88:88..16+00001550",
+    "u=v88:88..1.+00001550", "u=v88:88..00+00001550", "u=v88:88.110+00001550", "u=v88:881.10+00001550", "u=v88:88..10 00001550",
+    "u=v88:88..10*00001550", "u=v88:88..10+0000155a", "u=v88:88..10+0000155 ", "u=v88:88..10+0000000000001550",
+    "u=v88:*88..10+00001550", "u=v88:.", "u=v11:11....-PNC0058A", "u=v11:11....+PNC0058 ", "u=v11:11....+PNC0058\177",
+    "u=v11:11..1.+PNC0058A", "u=v11:110001+PNC0058A", "u=v11:16....+PNC0058A", "u=v21:21..12+40000000", "u=v21:21..13+36000000",
+    "u=v21:21..14+36000000", "u=v21:21..14+00060000", "u=v21:21..14-00000600", "u=v21:21..15+00000000", "u=v21:21..10+00000000",
+    "u=v21:21.112+00000000", "u=v34:34..12+00000000",
+};
+
+/* Each refusal of a sheet of form 2 with its place. */
+static void check_refused_2(void)
+{
+    size_t n = sizeof example_2 - 1, undo = line_of(example_2, "undo="), oldest = line_of(example_2, "u=s30"), at = 0;
+    size_t newest = line_of(example_2, "u=v88");
+
+    fresh();
+    CHECK(play("PUT/24...2+00000001 ") == 0 && play("SET/30/1") == 0);
+    given = example_2;
+    CHECK(undo == 209 && oldest == 216 && newest == 224 && n == 231);
+    /* Cut at each byte, loaded and moved back. */
+    for (size_t cut = 0; cut < n; cut++) {
+        CHECK(load(example_2, cut) == ANSWER(40, at) && back_in(example_2, cut, SHEET_ROOM) == ANSWER(40, at));
+        if (example_2[cut] == '\n')
+            at = cut + 1;
+    }
+    /* The form's line: any other is a form 1 that is wrong at 0, and the way back takes exactly form 2. */
+    CHECK(wrong_with(0, 6, "form=1", 0) && wrong_with(0, 6, "form=3", 0));
+    CHECK(wrong_with(0, 6, "form=02", 0) && wrong_with(0, 6, "form=", 0));
+    CHECK(wrong_with(0, 6, "Form=2", 0) && wrong_with(0, 6, "form=2 ", 0));
+    CHECK(wrong_with(0, 6, "form=2\r", 0) && wrong_with(0, 6, "form:2", 0));
+    CHECK(wrong_with(0, 7, "form=2", 0) && wrong_with(0, 7, "form=2 series=TPS100\n", 0));
+    CHECK(wrong_with(0, 6, "", 0) && wrong_with(0, 6, "form=20", 0));
+    CHECK(wrong_with(0, 0, "\n", 0) && wrong_with(0, 0, "form=2\n", 7) && wrong_with(0, 0, "undo=0\n", 0));
+    /* Without its line, the rest is a form 1 with surplus lines. */
+    CHECK(load(example_2 + 7, n - 7) == ANSWER(40, undo - 7));
+    CHECK(moving(example_2 + 7) == ANSWER(40, undo - 7) && going_back(example_2 + 7) == ANSWER(40, 0));
+    /* 106: "A sheet of the other series is 40 at its `series=` line." A move takes either; what names neither is wrong there. */
+    CHECK(load("form=2\n", 7) == ANSWER(40, 7) && going_back("form=2\n") == ANSWER(40, 7));
+    CHECK(load_with(14, 6, "TPS300") == ANSWER(40, 7) && wrong_with(14, 6, "TPS700", 7));
+    CHECK(wrong_with(14, 6, "TPS10", 7) && wrong_with(7, 0, "\n", 7));
+    CHECK(wrong_with(14, 6, "TPS101", 7) && wrong_with(14, 6, "TPS1000", 7));
+    CHECK(wrong_with(14, 6, "tps100", 7) && wrong_with(14, 6, "", 7));
+    CHECK(wrong_with(7, 14, "", 7) && wrong_with(7, 0, "series=TPS100\n", 21));
+    CHECK(wrong_with(20, 0, "\r", 7) && wrong_with(7, 0, "form=2\n", 7));
+    /* Form 1's lines, as in form 1. */
+    CHECK(wrong_line("s30=", "s30=2") && wrong_line("s30=", "s30=01") && wrong_line("s136=", "s136=") && wrong_line("v11=", "v11=0"));
+    CHECK(wrong_line("v88=", "v88=88...0+00001550") && wrong_line("v88=", "v87=") && wrong_line("v88=", "v88=88..10+0000155"));
+    CHECK(wrong_with(undo - 20, 20, "", undo - 20) && wrong_with(undo, 0, "v88=\n", undo));
+    /* The count. "no leading zero"; "a count above the list's size is wrong at its line" */
+    for (size_t i = 0; i < sizeof wrong_counts / sizeof *wrong_counts; i++)
+        CHECK(wrong_line("undo=", wrong_counts[i]));
+    CHECK(wrong_with(undo, 7, "", undo) && wrong_with(undo, 0, "undo=2\n", oldest));
+    /* Too high: where the next line should start. Too low: the surplus line. */
+    CHECK(wrong_with(undo + 5, 1, "3", n) && wrong_with(undo + 5, 1, "64", n + 1));
+    CHECK(wrong_with(undo + 5, 1, "1", newest) && wrong_with(undo + 5, 1, "0", oldest));
+    CHECK(wrong_with(n, 0, "u=v88:\n", n) && wrong_with(n, 0, "\n", n) && wrong_with(n, 0, "x", n) && wrong_with(n, 0, "undo=0\n", n));
+    CHECK(wrong_with(oldest, 8, "", n - 8) && wrong_with(newest, 7, "", newest) && wrong_with(oldest, 0, "u=s30:0\n", newest + 8));
+    CHECK(wrong_with(n - 1, 1, "", newest) && wrong_with(n, 0, example, n));
+    /* The entries' lines, wrong at their own place, whichever of the two it is. */
+    for (size_t i = 0; i < sizeof wrong_entries / sizeof *wrong_entries; i++)
+        CHECK(wrong_line("u=s30:", wrong_entries[i]) && wrong_line("u=v88:", wrong_entries[i]));
+    /* A refused load changes nothing, however late its fault, which load sees to: the image's settings and values are others. */
+    given = trial_2;
+    CHECK(wrong_line("u=v24:", "u=v24") && wrong_line("u=s40:1", "u=s40:3") && wrong_line("v88=", "v88=0"));
+    CHECK(wrong_with(line_of(trial_2, "u=s40:0"), 7, "u=v16:", line_of(trial_2, "undo=")));
+    CHECK(wrong_with(strlen(trial_2), 0, "\n", strlen(trial_2)));
+    given = example_2;
+    /* Right ones: each a list that a state has, since 88 is put. */
+    CHECK(load_with(newest, 6, "u=v88:88..11-99999999") == 0 && play("UNDO") == 0);
+    CHECK(play("GET/I/WI88") == 0 && replied("88..11-99999999 \r\n"));
+    CHECK(load_with(newest, 6, "u=s136:1") == 0 && load_with(oldest, 7, "u=s70:0") == 0 && load_with(oldest, 7, "u=s32:3") == 0);
+    CHECK(load_with(undo, n - undo, "undo=1\nu=v88:\n") == 0 && load_with(undo, n - undo, "undo=0\n") == 0 && play("UNDO") == 29);
+    /* "Order: 31 (telling 0), then 40" */
+    CHECK(ref_sheet_load(image, bytes - 1, (const uint8_t *)example_2, n) == ANSWER(31, 0));
+    CHECK(ref_sheet_load(image, bytes - 1, (const uint8_t *)example_2, 0) == ANSWER(31, 0));
+    image[142] = 1;
+    CHECK(load(example_2, n) == ANSWER(31, 0) && load(example_2, n - 1) == ANSWER(31, 0) && load(example_2, 0) == ANSWER(31, 0));
+    given = example;
+}
+
+/* "taken back newest first, none names a value then never put": else 40 "at `undo=` where each line is right but no state has that
+   list". 40 comes before 41 on the way back. */
+static void check_lists(void)
+{
+    static const struct { const char *list; int stands; } lists_of_88[] = {
+        /* 88 is put and the others aren't */
+        {"undo=0\n", 1},
+        {"undo=1\nu=v88:\n", 1},
+        {"undo=1\nu=v88:88..10+00001550\n", 1},
+        {"undo=1\nu=v87:\n", 0},
+        {"undo=1\nu=v87:87..10+00001550\n", 0},
+        {"undo=1\nu=v11:11....+PNC0058A\n", 0},
+        {"undo=2\nu=v88:\nu=v88:\n", 0},
+        {"undo=2\nu=v88:88..10+00000000\nu=v88:\n", 0},
+        {"undo=2\nu=v88:\nu=v88:88..10+00000000\n", 1},
+        {"undo=3\nu=v88:\nu=s30:0\nu=v88:\n", 0},
+        {"undo=3\nu=v88:\nu=v88:88..10+00000000\nu=v88:88..10+00000000\n", 1},
+        {"undo=3\nu=v88:\nu=v88:\nu=v88:88..10+00000000\n", 0},
+        {"undo=3\nu=v88:88..10+00000000\nu=v88:\nu=v88:88..10+00000000\n", 0},
+        {"undo=2\nu=v88:88..10+00001550\nu=v87:\n", 0},
+        {"undo=2\nu=v87:\nu=v88:88..10+00001550\n", 0},
+        {"undo=2\nu=s30:1\nu=s30:1\n", 1},
+        {"undo=4\nu=s30:1\nu=v88:\nu=s136:0\nu=s30:0\n", 1},
+    };
+    char sheet[2500];
+    size_t undo = line_of(example_2, "undo="), n;
+
+    fresh();
+    CHECK(play("SET/30/1") == 0);
+    for (size_t i = 0; i < sizeof lists_of_88 / sizeof *lists_of_88; i++) {
+        const char *list_of = lists_of_88[i].list;
+        memcpy(sheet, example_2, undo);
+        memcpy(sheet + undo, list_of, strlen(list_of) + 1);
+        n = strlen(sheet);
+        CHECK(load(sheet, n) == (lists_of_88[i].stands ? 0 : ANSWER(40, undo)));
+        if (!lists_of_88[i].stands)
+            CHECK(back_in(sheet, n, SHEET_ROOM) == ANSWER(40, undo) && back_in(sheet, n, 0) == ANSWER(40, undo));
+        else if (list_of[5] != '0')
+            CHECK(back_in(sheet, n, SHEET_ROOM) == ANSWER(41, undo) && back_in(sheet, n, 0) == ANSWER(41, undo) && remembers(sheet));
+        else
+            CHECK(back_in(sheet, n, SHEET_ROOM) == ANSWER(0, undo - 7) && back_in(sheet, n, 0) == ANSWER(30, 0));
+        CHECK(move_in(sheet, n, SHEET_ROOM) == ANSWER(40, 0));
+        if (lists_of_88[i].stands || list_of[5] != '2')
+            continue;
+        /* "a wrong or surplus line anywhere comes before a list that no state has" */
+        given = sheet;
+        CHECK(wrong_with(7 + 14 + 4, 1, "2", 21) && wrong_with(n, 0, "\n", n));
+        CHECK(wrong_with(n, 0, "u=s30:0\n", n) && wrong_with(n, 0, "x", n));
+        CHECK(wrong_with(undo + 5, 1, "3", n) && wrong_with(undo + 5, 1, "02", undo) && wrong_with(undo + 7, 0, "u=s90:0\n", undo + 7));
+        CHECK(wrong_with(n, 0, "u=s90:0\n", n));
+    }
+    given = example;
+    /* The value put in the sheet's own line decides for its newest entry. */
+    memcpy(sheet, least_2, 194);
+    memcpy(sheet + 194, "undo=1\nu=v88:\n", 15);
+    CHECK(load(sheet, 208) == ANSWER(40, 194) && going_back(sheet) == ANSWER(40, 194));
+    /* An image with such a list is no state either. */
+    fresh();
+    image[142] = 1;
+    image[143] = 2;
+    image[144] = 10;
+    CHECK(ref_sheet_write_2(image, bytes, written, sizeof written) == ANSWER(31, 0));
+}
+
+/* 106: "Old sheets move to the new form with `undo=0`. The way back gives the old bytes exactly when the count is 0." */
+static void check_moves(void)
+{
+    static const char *const old[] = {example, least_300, greatest_300};
+    size_t n;
+
+    for (size_t i = 0; i < 3; i++) {
+        char both[2500];
+        n = strlen(old[i]);
+        for (size_t short_room = 0; short_room < n + 14; short_room++)
+            CHECK(move_in(old[i], n, short_room) == ANSWER(30, 0));
+        CHECK(move_in(old[i], n, n + 14) == ANSWER(0, n + 14) && move_in(old[i], n, n + 15) == ANSWER(0, n + 14));
+        CHECK(memcmp(moved, "form=2\n", 7) == 0 && memcmp(moved + 7, old[i], n) == 0 && memcmp(moved + 7 + n, "undo=0\n", 7) == 0);
+        memcpy(both, moved, n + 14);
+        both[n + 14] = 0;
+        /* Loaded, the two say the same. */
+        if (i == 0)
+            fresh();
+        else
+            fresh_300();
+        CHECK(load(old[i], n) == 0 && remembers(both) && load(both, n + 14) == 0 && remembers(both) && play("UNDO") == 29);
+        for (size_t short_room = 0; short_room < n; short_room++)
+            CHECK(back_in(both, n + 14, short_room) == ANSWER(30, 0));
+        CHECK(back_in(both, n + 14, n) == ANSWER(0, n));
+        CHECK(back_in(both, n + 14, n + 1) == ANSWER(0, n) && memcmp(moved, old[i], n) == 0);
+        /* Each takes exactly its form. */
+        CHECK(move_in(both, n + 14, SHEET_ROOM) == ANSWER(40, 0) && move_in(both, n + 14, 0) == ANSWER(40, 0));
+        CHECK(back_in(old[i], n, SHEET_ROOM) == ANSWER(40, 0) && back_in(old[i], n, 0) == ANSWER(40, 0));
+        CHECK(move_in(both, 7, SHEET_ROOM) == ANSWER(40, 0));
+        CHECK(move_in(old[i], 0, 0) == ANSWER(40, 0) && back_in(old[i], 0, 0) == ANSWER(40, 0));
+        /* Form 1 cut, and with surplus bytes. */
+        for (size_t cut = 0, at = 0; cut < n; cut++) {
+            CHECK(move_in(old[i], cut, SHEET_ROOM) == ANSWER(40, at));
+            if (old[i][cut] == '\n')
+                at = cut + 1;
+        }
+        memcpy(both, old[i], n);
+        memcpy(both + n, "undo=0\n", 8);
+        CHECK(moving(both) == ANSWER(40, n) && load(both, n + 7) == ANSWER(40, n) && going_back(both) == ANSWER(40, 0));
+        /* "takes exactly form 1 (of either series)": the other's line before this one's lines, and a line of neither. */
+        memcpy(both + 7, i ? "TPS100" : "TPS300", 6);
+        CHECK(move_in(both, n, SHEET_ROOM) == ANSWER(40, 14) && back_in(both, n, SHEET_ROOM) == ANSWER(40, 0));
+        memcpy(both + 7, "TPS700", 6);
+        CHECK(move_in(both, n, SHEET_ROOM) == ANSWER(40, 0));
+    }
+    /* 41 tells the start of the `undo=` line, whatever the room: "then 41 for the way back with a count above 0, then 30". */
+    n = sizeof example_2 - 1;
+    for (size_t some_room = 0; some_room < n + 2; some_room++)
+        CHECK(back_in(example_2, n, some_room) == ANSWER(41, 209));
+    CHECK(going_back(trial_2) == ANSWER(41, line_of(trial_2, "undo=")));
+}
+
+/* 106: "Either series." Read-only settings "have no undo entries"; "the sheet keeps eight characters". */
+static void check_sheets_2_of_300(void)
+{
+    static const char list_300[] = "undo=5\nu=s161:0\nu=v88:\nu=s137:0\nu=v88:88..10+00001550\nu=s55:1\n";
+    char sheet[2500], line[40];
+    size_t undo, n;
+
+    fresh_300();
+    CHECK(play("SET/161/9") == 0 && play("PUT/88...0+00001550 ") == 0 && play("SET/137/1") == 0 && play("PUT/88...1-00000000 ") == 0);
+    CHECK(play("SET/55/10") == 0);
+    n = remember();
+    undo = n - strlen(list_300);
+    CHECK(memcmp(written, "form=2\nseries=TPS300\ns41=0\n", 27) == 0 && memcmp(written + undo, list_300, n - undo) == 0);
+    CHECK(memcmp(written + undo - 20, "v88=88..11-00000000\n", 20) == 0 && n == 7 + 263 + 15 + 1 + strlen(list_300));
+    memcpy(sheet, written, n + 1);
+    fresh_300();
+    CHECK(load(sheet, n) == 0 && remembers(sheet) && play("GET/I/WI88") == 0 && replied("*88..11-0000000000000000 \r"));
+    CHECK(play("UNDO") == 0 && play("CONF/55") == 0 && replied("0055/0001\r") && play("UNDO") == 0 && play("GET/I/WI88") == 0);
+    CHECK(replied("*88..10+0000000000001550 \r") && play("UNDO") == 0 && play("GET/I/WI88") == 0 && replied("88..10+00001550 \r"));
+    CHECK(play("UNDO") == 0 && play("GET/I/WI88") == 27 && play("UNDO") == 0 && play("CONF/161") == 0 && replied("0161/0000\r"));
+    CHECK(play("UNDO") == 29);
+    /* The other series' image refuses it at its `series=` line, and it another's. */
+    CHECK(load(example_2, sizeof example_2 - 1) == ANSWER(40, 7) && load(least_2, sizeof least_2 - 1) == ANSWER(40, 7));
+    fresh();
+    CHECK(load(sheet, n) == ANSWER(40, 7) && going_back(sheet) == ANSWER(41, undo) && moving(sheet) == ANSWER(40, 0));
+    given = example_2;
+    fresh_300();
+    CHECK(load_with(14, 6, "TPS300") == ANSWER(40, 21));
+    given = sheet;
+    CHECK(wrong_with(undo + 7, 0, "u=s30:0\n", undo + 7) && load_with(14, 6, "TPS100") == ANSWER(40, 7));
+    /* Each setting's entry with each parameter; of a read-only setting none is right. */
+    for (size_t i = 0; i < ROWS; i++)
+        for (unsigned parameter = 0; parameter <= 260; parameter++) {
+            snprintf(line, sizeof line, "u=s%u:%u", conf_list[i].number, parameter);
+            if (is_asked_only(conf_list[i].number) || !lists(conf_list[i].parameters, parameter)) {
+                CHECK(wrong_line("u=s161:", line) && wrong_line("u=s55:", line));
+            } else {
+                CHECK(load_with(undo + 7, 8, line) == 0 && image[154] == 1 && image[155] == i && image[156] == parameter);
+            }
+        }
+    given = example;
+}
+
+/* Form 2 of a TPS100 has 201 to 1,775 bytes, of a TPS300 277 to 1,864: to form 1's bytes come `form=2`, the count and, at the most, 64
+   entries of values that were put. */
+static void check_sizes_2(void)
+{
+    static const char *const words[] = {"11....+PNC0058A", "16....+!~!~!~!~", "21...2-39999999", "24...4+35959599", "34...0-00000000",
+                                        "83...1+99999999", "84...0+00100000", "85...1-00100000", "86...0+00045000", "87...0+00001700",
+                                        "88...0+00001500"};
+    char line[40];
+
+    for (unsigned of = 0; of < 2; of++) {
+        size_t least = of ? 277 : 201, greatest = of ? 1864 : 1775;
+        if (of)
+            fresh_300();
+        else
+            fresh();
+        CHECK(remember() == least);
+        CHECK(ref_sheet_write_2(image, bytes, written, least - 1) == ANSWER(30, 0));
+        if (of)
+            CHECK(load(greatest_300, 441) == 0);
+        for (int i = 0; i < 11; i++) {
+            snprintf(line, sizeof line, "PUT/%s ", words[i]);
+            CHECK(play(line) == 0);
+        }
+        /* The 11 entries of values never put are the shortest of the values'. */
+        CHECK(remember() == greatest - 64 * 22 + 11 * (of ? 22 : 7));
+        CHECK(play("KEEP") == 0 && remember() == greatest - 64 * 22 - 1);
+        for (int i = 0; i < 64; i++) {
+            snprintf(line, sizeof line, "PUT/%s ", words[i % 11]);
+            CHECK(play(line) == 0);
+        }
+        CHECK(play("SET/73/1") == 28 && remember() == greatest);
+        CHECK(ref_sheet_write_2(image, bytes, moved, greatest - 1) == ANSWER(30, 0));
+        CHECK(ref_sheet_write_2(image, bytes, moved, greatest) == ANSWER(0, greatest));
+        if (of)
+            fresh_300();
+        else
+            fresh();
+        CHECK(load((const char *)written, greatest) == 0 && remember() == greatest && memcmp(written, moved, greatest) == 0);
+        CHECK(play("SET/73/1") == 28);
+        /* A 65th line, counted or not. */
+        given = (const char *)written;
+        CHECK(wrong_with(greatest, 0, "u=s73:1\n", greatest) && wrong_line("undo=", "undo=65") && wrong_line("undo=", "undo=064"));
+        CHECK(wrong_with(line_of(given, "undo=") + 5, 2, "63", greatest - 22));
+        given = example;
+    }
+}
+
 /* Places in a PUT, and keywords */
 
 /* 26 with the rule that is broken and the byte of the line; at TPS100's factory the reply is 7 bytes, at TPS300's 6. */
@@ -2438,6 +2959,13 @@ int main(void)
     check_lines_300();
     check_states_300();
     check_sheets_300();
+    check_written_2();
+    check_loaded_2();
+    check_refused_2();
+    check_lists();
+    check_moves();
+    check_sheets_2_of_300();
+    check_sizes_2();
     check_put_places();
     check_keywords();
     if (failures == 0)

@@ -14,18 +14,7 @@ int memcmp(const void *, const void *, size_t);
 size_t strlen(const char *);
 size_t strcspn(const char *, const char *);
 
-/* Until gsi.h has them. */
-#ifndef GSI_EDITS_MOST
-#define GSI_EDITS_MOST 34
-typedef struct {
-    uint32_t place;
-    uint32_t kind;
-} gsi_edit;
-uint64_t gsi_mend(const uint8_t *block, size_t n, uint8_t *mended, size_t room, gsi_edit *edits, size_t places);
-uint64_t gsi_mend_level(const uint8_t *block, size_t n, uint8_t *mended, size_t room, gsi_edit *edits, size_t places);
-#endif
-
-enum { LINE, SHEET_LOAD, SHEET_WRITE, FACTORY, FACTORY_300, READ, WRITE, READ_LEVEL, WRITE_LEVEL, MEND, MEND_LEVEL, FUNCTIONS };
+enum { LINE, SHEET_LOAD, SHEET_WRITE, SHEET_WRITE_2, SHEET_MOVE, SHEET_BACK, FACTORY, FACTORY_300, READ, WRITE, READ_LEVEL, WRITE_LEVEL, MEND, MEND_LEVEL, FUNCTIONS };
 
 #define AS_ANY(function) (void (*)(void))function
 
@@ -38,6 +27,9 @@ static const struct {
     {"gsi_line", AS_ANY(gsi_line), 6144},
     {"gsi_sheet_load", AS_ANY(gsi_sheet_load), 6144},
     {"gsi_sheet_write", AS_ANY(gsi_sheet_write), 6144},
+    {"gsi_sheet_write_2", AS_ANY(gsi_sheet_write_2), 6144},
+    {"gsi_sheet_move", AS_ANY(gsi_sheet_move), 8192},
+    {"gsi_sheet_back", AS_ANY(gsi_sheet_back), 8192},
     {"gsi_factory", AS_ANY(gsi_factory), 6144},
     {"gsi_factory_300", AS_ANY(gsi_factory_300), 6144},
     {"gsi_read", AS_ANY(gsi_read), 8192},
@@ -150,9 +142,10 @@ static struct {
     uint8_t image[MOST_IMAGE];
 } state;
 
-/* What a call alters, and the sheet of each series' factory state. */
-static uint8_t image[MOST_IMAGE], reply[GSI_REPLY_MOST], factory_sheet[SERIES][GSI_SHEET_MOST];
-static size_t factory_bytes[SERIES];
+/* What a call alters, and the sheet of each series' factory state, by its form. */
+enum { FORM_1, FORM_2, FORMS };
+static uint8_t image[MOST_IMAGE], reply[GSI_REPLY_MOST], factory_sheet[FORMS][SERIES][GSI_SHEET_MOST];
+static size_t factory_bytes[FORMS][SERIES];
 
 /* Names the case at hand by the state and what is tried in it, of a line what stands before its end. */
 static void name_case(const char *what)
@@ -277,36 +270,57 @@ static uint64_t load(const uint8_t *sheet, size_t length)
     return CALL(SHEET_LOAD, PLACE(image), state.bytes, PLACE(sheet), length);
 }
 
-static void try_sheets(void)
+/* The state's sheet in a form is written, loaded and moved; then it is refused with a line too many, with each line wrong and cut in each. */
+static void try_sheet(unsigned form)
 {
-    static uint8_t sheet[GSI_SHEET_MOST + 1], again[GSI_SHEET_MOST];
+    static uint8_t sheet[GSI_SHEET_MOST + 1], again[GSI_SHEET_MOST], moved[GSI_SHEET_MOST];
     size_t length;
     uint64_t answer;
 
-    name_case("its sheet");
-    answer = CALL(SHEET_WRITE, PLACE(state.image), state.bytes, PLACE(sheet), GSI_SHEET_MOST);
+    name_case(form == FORM_1 ? "its sheet" : "its sheet of form 2");
+    answer = CALL(SHEET_WRITE + form, PLACE(state.image), state.bytes, PLACE(sheet), GSI_SHEET_MOST);
     expect(answer, 0);
     length = GSI_TOLD(answer);
-    expect(CALL(SHEET_WRITE, PLACE(state.image), state.bytes, PLACE(again), length - 1), 30);
+    expect(CALL(SHEET_WRITE + form, PLACE(state.image), state.bytes, PLACE(again), length - 1), 30);
     expect(load(sheet, length), 0);
-    if (CALL(SHEET_WRITE, PLACE(image), state.bytes, PLACE(again), GSI_SHEET_MOST) != length || memcmp(sheet, again, length) != 0)
+    if (form == FORM_2 && memcmp(image, state.image, state.bytes) != 0)
+        stop("it loads to another state");
+    if (CALL(SHEET_WRITE + form, PLACE(image), state.bytes, PLACE(again), GSI_SHEET_MOST) != length || memcmp(sheet, again, length) != 0)
         stop("it loads to another");
 
+    answer = CALL(SHEET_MOVE + form, PLACE(sheet), length, PLACE(moved), GSI_SHEET_MOST);
+    expect(answer, form == FORM_2 && state.entries > 0 ? 41 : 0);
+    if (GSI_NUMBER(answer) == 0) {
+        size_t bytes = GSI_TOLD(answer);
+        if (CALL(SHEET_BACK - form, PLACE(moved), bytes, PLACE(again), GSI_SHEET_MOST) != length || memcmp(sheet, again, length) != 0)
+            stop("it is moved back to another");
+        expect(CALL(SHEET_MOVE + form, PLACE(sheet), length, PLACE(moved), bytes - 1), 30);
+    }
+    expect(CALL(SHEET_BACK - form, PLACE(sheet), length, PLACE(moved), GSI_SHEET_MOST), 40);
+
     name_case("another series' sheet");
-    expect(load(factory_sheet[1 - state.series], factory_bytes[1 - state.series]), 40);
+    expect(load(factory_sheet[form][1 - state.series], factory_bytes[form][1 - state.series]), 40);
     name_case("its sheet with a line too many");
     sheet[length] = '\n';
     expect(load(sheet, length + 1), 40);
+    expect(CALL(SHEET_MOVE + form, PLACE(sheet), length + 1, PLACE(moved), GSI_SHEET_MOST), 40);
     for (size_t at = 0; at < length; at++)
         if (sheet[at] == '\n') {
             uint8_t was = sheet[at - 1];
             name_case("its sheet with a wrong line");
             sheet[at - 1] = WRONG;
             expect(load(sheet, length), 40);
+            expect(CALL(SHEET_MOVE + form, PLACE(sheet), length, PLACE(moved), GSI_SHEET_MOST), 40);
             sheet[at - 1] = was;
             name_case("its sheet cut in a line");
             expect(load(sheet, at), 40);
         }
+}
+
+static void try_sheets(void)
+{
+    for (unsigned form = FORM_1; form < FORMS; form++)
+        try_sheet(form);
 }
 
 /* What isn't an image, first and last byte wrong and one too few, as every function that takes one sees it. */
@@ -322,8 +336,10 @@ static void try_no_image(void)
             image[i ? n - 1 : 0] = 255;
         name_case("no image");
         expect(CALL(LINE, PLACE(image), n, PLACE("CONF/73\r"), 8, PLACE(reply), sizeof reply), 31);
-        expect(CALL(SHEET_WRITE, PLACE(image), n, PLACE(sheet), sizeof sheet), 31);
-        expect(CALL(SHEET_LOAD, PLACE(image), n, PLACE(factory_sheet[state.series]), factory_bytes[state.series]), 31);
+        for (unsigned form = FORM_1; form < FORMS; form++) {
+            expect(CALL(SHEET_WRITE + form, PLACE(image), n, PLACE(sheet), sizeof sheet), 31);
+            expect(CALL(SHEET_LOAD, PLACE(image), n, PLACE(factory_sheet[form][state.series]), factory_bytes[form][state.series]), 31);
+        }
     }
 }
 
@@ -331,13 +347,14 @@ static void try_states(void)
 {
     static const unsigned counts[] = {0, 1, ENTRIES - 1, ENTRIES};
 
-    for (unsigned of = 0; of < SERIES; of++) {
+    for (unsigned i = 0; i < FORMS * SERIES; i++) {
+        unsigned form = i / SERIES, of = i % SERIES;
         uint64_t answer;
         make_state(of, 0, 0, 0, BY_SET);
         name_case("the factory's sheet");
-        answer = CALL(SHEET_WRITE, PLACE(state.image), state.bytes, PLACE(factory_sheet[of]), GSI_SHEET_MOST);
+        answer = CALL(SHEET_WRITE + form, PLACE(state.image), state.bytes, PLACE(factory_sheet[form][of]), GSI_SHEET_MOST);
         expect(answer, 0);
-        factory_bytes[of] = GSI_TOLD(answer);
+        factory_bytes[form][of] = GSI_TOLD(answer);
     }
     for (unsigned of = 0; of < SERIES; of++)
         for (int wide = 0; wide < (of == TPS300 ? 2 : 1); wide++)

@@ -16,7 +16,7 @@ CR = b"\r"
 CRLF = b"\r\n"
 WRONG = b"@W127\r\n"
 DONE = b"?\r\n"
-USAGE = b"usage: standin [--why] [TPS100 | TPS300 | SHEET]\ndocs/REFUSALS.md says what the number of each refusal means.\n"
+USAGE = b"usage: standin [--why] [--keep FILE] [TPS100 | TPS300 | SHEET]\ndocs/REFUSALS.md says what the number of each refusal means.\n"
 
 checks = 0
 

@@ -14,6 +14,7 @@ use Rattle.commands.specs.Shapes.{groupsRight, indexesIn}
 use Rattle.lines.specs.Sessions.{session}
 use Rattle.sheets.specs.Sheet.{saidBy, sheetOf}
 use Rattle.sheets.specs.Lines.{linesBy, partBy}
+use Rattle.sheets.specs.Loading.{undoFrom, firstLines}
 use Rattle.units.specs.declared.kinds.Family.the-variants.{Station, Level}
 use Rattle.bench.specs.Readings.{All}
 use Rattle.bench.specs.Noughts.{stationNoughts, levelNoughts, beside, StoredNoughts}
@@ -43,5 +44,5 @@ unfolding among every numberFrom digitsOf blockFrom unlessWrong wordsBytes
 beside-noughts = ((refl, refl, refl), ((refl, refl), ((refl, refl), ((refl, refl), tt))))
 
 pub stored-noughts : StoredNoughts
-unfolding among every startsWith numberFrom digitsOf digitsNBy seek rows100 stored runOf groupsRight indexesIn flatMap session sheetOf linesBy partBy saidBy
+unfolding among every startsWith numberFrom digitsOf digitsNBy seek rows100 stored runOf groupsRight indexesIn flatMap session sheetOf linesBy partBy undoFrom firstLines saidBy
 stored-noughts = record { done = refl; got = refl; undone = refl; undone-first = refl; held = refl; loads = refl }

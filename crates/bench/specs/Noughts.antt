@@ -98,4 +98,4 @@ pub record StoredNoughts : Type 0 where
   pub undone : replies ("PUT/83...0+00000000 " ∷ put ∷ "UNDO" ∷ []) "GET/I/WI83" ≡ codes "83..10+00000000 \r\n"
   pub undone-first : replies (put ∷ "UNDO" ∷ []) "GET/I/WI83" ≡ codes "@W127\r\n"
   pub held : sheetOf (sent (put ∷ [])) ≡ sheet
-  pub loads : loadingOf Tps100 sheet ≡ right (own.held Tps100 (sent (put ∷ []) .settings)) (sent (put ∷ []) .values)
+  pub loads : loadingOf Tps100 sheet ≡ right (own.held Tps100 (sent (put ∷ []) .settings)) (sent (put ∷ []) .values) []

@@ -15,12 +15,15 @@ use Rattle.lines.specs.declared.verdicts.Verdict.the-variants.{Room}
 use Rattle.lines.proofs.Longest.{reply-most}
 use Rattle.lines.proofs.Telling.{call-tells, tells-small}
 use Rattle.sheets.specs.Answers.{sheetNumber, sheetTells}
-use Rattle.sheets.specs.Sheet.{writtenSheet}
+use Rattle.sheets.specs.Writing.{writtenSheet, movedSheet}
 use Rattle.sheets.specs.Loading.{loaded}
 use Rattle.sheets.specs.Keeping.{sheetMost}
+use Rattle.sheets.specs.declared.forms.Form.{Form}
+use Rattle.sheets.specs.declared.forms.Form.the-variants.{Two}
 use Rattle.sheets.specs.declared.answers.Sheeted.{Sheeted}
-use Rattle.sheets.proofs.Told.{written-most, loaded-most}
-use Rattle.host.specs.Machine.{lineWhole, toldSheet, sheetWhole, CallsC, WritesSheetC, LoadsC}
+use Rattle.sheets.proofs.Sizes.{most-two}
+use Rattle.sheets.proofs.Told.{written-most, loaded-most, moved-most}
+use Rattle.host.specs.Machine.{lineWhole, toldSheet, sheetWhole, CallsC, WritesSheetC, LoadsC, MovesC}
 use Rattle.host.proofs.Whole.{packed-whole, cond-when}
 
 -- a line that was run: no reply is longer than 459 bytes
@@ -43,11 +46,15 @@ gsi-line-whole image line room h =
     let byte : verdictByte (a .verdict) < 256 = omega (arith, small .1) in
     h .0 ∙ rw (mod-eq-of-lt count, mod-eq-of-lt which, mod-eq-of-lt byte)
 
-sheet-whole : (a : Sheeted) → sheetTells a ≤ sheetMost → toldSheet a ≡ sheetWhole a
+sheet-whole : (a : Sheeted) → sheetTells a ≤ sheetMost Two → toldSheet a ≡ sheetWhole a
 sheet-whole a h = packed-whole (sheetNumber a) (sheetTells a) (omega arith)
 
-pub gsi-sheet-write-whole : (image room : List ℕ) {r : ℕ} {room′ : List ℕ} → WritesSheetC image room r room′ → r ≡ sheetWhole (writtenSheet image room .answer)
-gsi-sheet-write-whole image room h = h .0 ∙ sheet-whole (writtenSheet image room .answer) (written-most image room)
+pub gsi-sheet-write-whole : (f : Form) (image room : List ℕ) {r : ℕ} {room′ : List ℕ} → WritesSheetC f image room r room′
+    → r ≡ sheetWhole (writtenSheet f image room .answer)
+gsi-sheet-write-whole f image room h = h .0 ∙ sheet-whole (writtenSheet f image room .answer) (omega (arith, written-most f image room, most-two f))
 
 pub gsi-sheet-load-whole : (image sheet : List ℕ) {r : ℕ} {image′ : List ℕ} → LoadsC image sheet r image′ → r ≡ sheetWhole (loaded image sheet .answer)
 gsi-sheet-load-whole image sheet h = h .0 ∙ sheet-whole (loaded image sheet .answer) (loaded-most image sheet)
+
+pub gsi-sheet-move-whole : (f : Form) (sheet room : List ℕ) {r : ℕ} {room′ : List ℕ} → MovesC f sheet room r room′ → r ≡ sheetWhole (movedSheet f sheet room .answer)
+gsi-sheet-move-whole f sheet room h = h .0 ∙ sheet-whole (movedSheet f sheet room .answer) (moved-most f sheet room)

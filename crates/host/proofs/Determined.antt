@@ -22,11 +22,12 @@ use Rattle.state.specs.Entries.{factoryState}
 use Rattle.state.specs.Image.{imageN, imageOf}
 use Rattle.lines.specs.Machine.{call}
 use Rattle.lines.specs.declared.machine.Told.{Told}
-use Rattle.sheets.specs.Sheet.{writtenSheet}
+use Rattle.sheets.specs.Writing.{writtenSheet, movedSheet}
 use Rattle.sheets.specs.Loading.{loaded}
+use Rattle.sheets.specs.declared.forms.Form.{Form}
 use Rattle.sheets.specs.declared.answers.Sheeted.{Sheeted}
 use Rattle.host.specs.Answers.{readTold, wroteTold, mendedTold, isYes, ReadsC, WritesC, MendsC}
-use Rattle.host.specs.Machine.{toldLine, toldSheet, LaysFactory, CallsC, WritesSheetC, LoadsC}
+use Rattle.host.specs.Machine.{toldLine, toldSheet, LaysFactory, CallsC, WritesSheetC, LoadsC, MovesC}
 
 pub told-read-determined : Determined Answer ℕ (λ i r. r ≡ readTold i)
 told-read-determined = by-equation Answer ℕ readTold
@@ -77,9 +78,15 @@ gsi-line-determined =
     by-three (List ℕ × List ℕ × List ℕ) ℕ (List ℕ) (List ℕ) (λ i. toldLine (call (i .0) (i .1) (i .2) .answer)) (λ i. call (i .0) (i .1) (i .2) .image)
     (λ i. call (i .0) (i .1) (i .2) .room)
 
-pub gsi-sheet-write-determined : Determined (List ℕ × List ℕ) (ℕ × List ℕ) (λ i o. WritesSheetC (i .0) (i .1) (o .0) (o .1))
-gsi-sheet-write-determined =
-    by-two (List ℕ × List ℕ) ℕ (List ℕ) (λ i. toldSheet (writtenSheet (i .0) (i .1) .answer)) (λ i. writtenSheet (i .0) (i .1) .room)
+-- of each form
+pub gsi-sheet-write-determined : (f : Form) → Determined (List ℕ × List ℕ) (ℕ × List ℕ) (λ i o. WritesSheetC f (i .0) (i .1) (o .0) (o .1))
+gsi-sheet-write-determined f =
+    by-two (List ℕ × List ℕ) ℕ (List ℕ) (λ i. toldSheet (writtenSheet f (i .0) (i .1) .answer)) (λ i. writtenSheet f (i .0) (i .1) .room)
+
+-- from each form
+pub gsi-sheet-move-determined : (f : Form) → Determined (List ℕ × List ℕ) (ℕ × List ℕ) (λ i o. MovesC f (i .0) (i .1) (o .0) (o .1))
+gsi-sheet-move-determined f =
+    by-two (List ℕ × List ℕ) ℕ (List ℕ) (λ i. toldSheet (movedSheet f (i .0) (i .1) .answer)) (λ i. movedSheet f (i .0) (i .1) .room)
 
 pub gsi-sheet-load-determined : Determined (List ℕ × List ℕ) (ℕ × List ℕ) (λ i o. LoadsC (i .0) (i .1) (o .0) (o .1))
 gsi-sheet-load-determined =

@@ -18,13 +18,14 @@ use Rattle.lines.specs.declared.verdicts.Verdict.{Verdict}
 use Rattle.lines.proofs.Leaves.{refused-leaves}
 use Rattle.lines.proofs.Telling.{call-other, call-unanswered}
 use Rattle.sheets.specs.Answers.{sheetNumber}
-use Rattle.sheets.specs.Sheet.{writtenSheet}
+use Rattle.sheets.specs.Writing.{writtenSheet, movedSheet}
 use Rattle.sheets.specs.Loading.{loaded}
+use Rattle.sheets.specs.declared.forms.Form.{Form}
 use Rattle.sheets.specs.declared.answers.Sheeted.{Sheeted}
 use Rattle.sheets.proofs.Starts.{refused-image}
-use Rattle.sheets.proofs.Told.{written-refused}
+use Rattle.sheets.proofs.Told.{written-refused, moved-refused}
 use Rattle.host.specs.Answers.{packed, answerNumberIn}
-use Rattle.host.specs.Machine.{toldLine, toldSheet, LaysFactory, CallsC, WritesSheetC, LoadsC}
+use Rattle.host.specs.Machine.{toldLine, toldSheet, LaysFactory, CallsC, WritesSheetC, LoadsC, MovesC}
 use Rattle.host.proofs.Told.{tells-below}
 use Rattle.host.proofs.Answered.{gsi-line-whole}
 
@@ -56,10 +57,15 @@ module _ (image line room : List ℕ) {r : ℕ} {image′ room′ : List ℕ} (h
       let other = call-other image line room (λ e. omega arith) in
       (omega (arith, gsi-line-whole image line room h, none .0, other .0, other .1), (h .1 .0 ∙ none .1 .0, h .1 .1 ∙ none .1 .1))
 
-pub gsi-sheet-write-refused : (image room : List ℕ) {r : ℕ} {room′ : List ℕ} → WritesSheetC image room r room′ → 4294967296 ≤ r → room′ ≡ room
-gsi-sheet-write-refused image room h high =
-    let number = ap answerNumberIn (h .0) ∙ sheet-number (writtenSheet image room .answer) in
-    h .1 ∙ written-refused image room (omega arith)
+pub gsi-sheet-write-refused : (f : Form) (image room : List ℕ) {r : ℕ} {room′ : List ℕ} → WritesSheetC f image room r room′ → 4294967296 ≤ r → room′ ≡ room
+gsi-sheet-write-refused f image room h high =
+    let number = ap answerNumberIn (h .0) ∙ sheet-number (writtenSheet f image room .answer) in
+    h .1 ∙ written-refused f image room (omega arith)
+
+pub gsi-sheet-move-refused : (f : Form) (sheet room : List ℕ) {r : ℕ} {room′ : List ℕ} → MovesC f sheet room r room′ → 4294967296 ≤ r → room′ ≡ room
+gsi-sheet-move-refused f sheet room h high =
+    let number = ap answerNumberIn (h .0) ∙ sheet-number (movedSheet f sheet room .answer) in
+    h .1 ∙ moved-refused f sheet room (omega arith)
 
 -- 40 "leaves the state as it was", and 31 the lent bytes
 pub gsi-sheet-load-refused : (image sheet : List ℕ) {r : ℕ} {image′ : List ℕ} → LoadsC image sheet r image′ → 4294967296 ≤ r → image′ ≡ image

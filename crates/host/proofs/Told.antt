@@ -53,5 +53,6 @@ pub sheet-small : (a : Sheeted) → sheetNumber a ≤ 99
 sheet-small sheet.NoState = omega arith
 sheet-small sheet.Room = omega arith
 sheet-small (sheet.Wrong at) = omega arith
+sheet-small (sheet.Standing at) = omega arith
 sheet-small (sheet.Written n) = omega arith
 sheet-small sheet.Loaded = omega arith

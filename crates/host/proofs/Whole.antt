@@ -27,11 +27,11 @@ use Rattle.listings.proofs.Sizes.{mended-most}
 use Rattle.host.specs.Answers.{packed, refusedTold, refusedWhole, readTold, readWhole, wroteTold, wroteWhole, mendedTold, mendedWhole, isYes}
 use Rattle.host.specs.Answers.{ReadsC, WritesC, MendsC}
 
-pub packed-whole : (number told : ℕ) → told ≤ 771 → packed number told ≡ number * 4294967296 + told
+pub packed-whole : (number told : ℕ) → told ≤ 65535 → packed number told ≡ number * 4294967296 + told
 packed-whole number told h = omega arith
 
 refused-whole : (r : Refusal) → refusalTells r ≤ 771 → refusedTold r ≡ refusedWhole r
-refused-whole r h = packed-whole (refusalNumber r) (refusalTells r) h
+refused-whole r h = packed-whole (refusalNumber r) (refusalTells r) (omega arith)
 
 pub cond-when : {A : Type 0} (P : A → Type 0) (t : Bool) (a b : A) → (t ≡ true → P a) → P b → P (cond t a b)
 cond-when P true a b h k = h refl

@@ -12,8 +12,9 @@ use Rattle.lines.specs.Verdicts.{verdictNumber, verdictWhich, verdictByte}
 use Rattle.lines.specs.Machine.{call}
 use Rattle.lines.specs.declared.machine.Told.{Told}
 use Rattle.sheets.specs.Answers.{sheetNumber, sheetTells}
-use Rattle.sheets.specs.Sheet.{writtenSheet}
+use Rattle.sheets.specs.Writing.{writtenSheet, movedSheet}
 use Rattle.sheets.specs.Loading.{loaded}
+use Rattle.sheets.specs.declared.forms.Form.{Form}
 use Rattle.sheets.specs.declared.answers.Sheeted.{Sheeted}
 use Rattle.host.specs.Answers.{packed}
 
@@ -44,8 +45,11 @@ abbrev pub CallsC : List ℕ → List ℕ → List ℕ → ℕ → List ℕ → 
 CallsC image line room r image′ room′ =
     (r ≡ toldLine (call image line room .answer)) × ((image′ ≡ call image line room .image) × (room′ ≡ call image line room .room))
 
-abbrev pub WritesSheetC : List ℕ → List ℕ → ℕ → List ℕ → Type 0
-WritesSheetC image room r room′ = (r ≡ toldSheet (writtenSheet image room .answer)) × (room′ ≡ writtenSheet image room .room)
+abbrev pub WritesSheetC : Form → List ℕ → List ℕ → ℕ → List ℕ → Type 0
+WritesSheetC f image room r room′ = (r ≡ toldSheet (writtenSheet f image room .answer)) × (room′ ≡ writtenSheet f image room .room)
 
 abbrev pub LoadsC : List ℕ → List ℕ → ℕ → List ℕ → Type 0
 LoadsC image sheet r image′ = (r ≡ toldSheet (loaded image sheet .answer)) × (image′ ≡ loaded image sheet .image)
+
+abbrev pub MovesC : Form → List ℕ → List ℕ → ℕ → List ℕ → Type 0
+MovesC f sheet room r room′ = (r ≡ toldSheet (movedSheet f sheet room .answer)) × (room′ ≡ movedSheet f sheet room .room)

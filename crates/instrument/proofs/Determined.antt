@@ -27,6 +27,9 @@ settings-of-determined = by-equation Series ℕ settingsN
 pub setting-at-determined : Determined (Series × ℕ) Found (λ i r. r ≡ settingPlace (i .0) (i .1))
 setting-at-determined = by-equation (Series × ℕ) Found (λ i. settingPlace (i .0) (i .1))
 
+pub seek-determined : Determined (Series × ℕ) Found (λ i r. r ≡ settingPlace (i .0) (i .1))
+seek-determined = setting-at-determined
+
 pub in-range-determined : Determined (Row × ℕ) Bool (λ i r. r ≡ inRange (i .0) (i .1))
 in-range-determined = by-equation (Row × ℕ) Bool (λ i. inRange (i .0) (i .1))
 

@@ -65,7 +65,9 @@ pub fn settings_of(series: Series) -> usize
     }
 }
 
-fn seek(series: Series, number: u16) -> Found
+// Finds the place of the setting of that number, as `setting_at` does. What asks for it seldom asks here: with one more caller `setting_at` is compiled so that
+// each row is a call.
+pub fn seek(series: Series, number: u16) -> Found
     ensures { λ r. ⌜ r ≡ settingPlace series number ⌝ }
 {
     let n = settings_of(series);

@@ -3,12 +3,13 @@
 use Prim.Native.Nat.{ℕ, zero, suc, _+_, _-_, _<_}
 use mathlib.Core.Path.{_≡_, refl, sym, ap, _∙_}
 use mathlib.Core.Bool.{true, false, _&&_}
+use mathlib.Core.List.{List, [], _∷_}
 use native.Mathlib.Nat.{zero-add}
 use native.Mathlib.Numerals.{add-one}
 use native.Mathlib.Omega.{arith}
 use borrow.Author.Tests.{eqb-true, eq-eqb, ne-eqb, lt-ltb}
 use lib.Dec.{eqb}
-use lib.ListN.{length, getD, set, drop, length-set}
+use lib.ListN.{length, getD, set, drop, replicate, length-set}
 use lib.Seq.{getD-set-same, set-set, set-getD, drop-cons}
 use Rattle.figures.proofs.Tests.{both}
 use Rattle.instrument.specs.Settings.{rowAt, heldRows, isAsked, inRange, inRanges, settingsN}
@@ -17,11 +18,12 @@ use Rattle.instrument.specs.declared.settings.Series.{Series}
 use Rattle.instrument.specs.declared.values.Kept.the-variants.{Never}
 use Rattle.instrument.specs.declared.values.Value.{Value}
 use Rattle.instrument.proofs.Ranges.{place-row, ranges-long, held-rows-long, settings-few}
-use Rattle.state.specs.Entries.{entriesN, valueOf, valueHeld, blankEntry, isBlank, allBlank, Contents, contentsOf, valuesRight, contentsRight}
+use Rattle.state.specs.Entries.{entriesN, valueOf, blankEntry, isBlank, allBlank, Contents, contentsOf, valuesRight, contentsRight}
 use Rattle.state.specs.Entries.{contentsBack, mayGoBack, isState}
+use Rattle.state.specs.declared.entries.Entry.{Entry}
 use Rattle.state.specs.declared.entries.State.{State}
 use Rattle.state.proofs.Steps.{all-of, state-parts, parts-state, ranges-set, values-set, back-now, back-newest, back-past, back-more, past-more, past-less, blank-is, none-state}
-use Rattle.lines.specs.Orders.{stateWith, Change, setTo, putTo, stores, entryFor, changedBy, undoOf}
+use Rattle.lines.specs.Orders.{stateWith, Change, setTo, putTo, stores, entryFor, changedBy, undoOf, keepOf}
 use Rattle.lines.specs.Orders.{Deed, asks, changes, undoes, keeps, doneOf}
 
 -- what an accepted line may rely on: a change is one that its rows have, with an entry free; an UNDO has one to take back
@@ -74,13 +76,12 @@ change-may c (putTo i w) r m =
     let held = getD-set-same (c .values) i (valueOf w) (valueOf Never) (omega (arith, r .values-long)) in
     all-of (all-of (lt-ltb i valuesN (m .0)) (ap (λ (v : Value). isPut (v .kept)) held ∙ m .1)) refl
 
+pub set-back : {A : Type 0} (l : List A) (i : ℕ) (a d : A) → set (set l i a) i (getD l i d) ≡ l
+set-back l i a d = set-set l i a (getD l i d) ∙ set-getD l i d
+
 contents-back : (c : Contents) (d : Change) → contentsBack (stores c d) (entryFor c d) ≡ c
-contents-back c (setTo i p) =
-    let back = set-set (c .settings) i p (getD (c .settings) i 0) ∙ set-getD (c .settings) i 0 in
-    λ j. record { series = c .series; settings = back j; values = c .values }
-contents-back c (putTo i w) =
-    let back = set-set (c .values) i (valueOf w) (valueHeld (c .values) i) ∙ set-getD (c .values) i (valueOf Never) in
-    λ j. record { series = c .series; settings = c .settings; values = back j }
+contents-back c (setTo i p) = λ j. record { series = c .series; settings = set-back (c .settings) i p 0 j; values = c .values }
+contents-back c (putTo i w) = λ j. record { series = c .series; settings = c .settings; values = set-back (c .values) i (valueOf w) (valueOf Never) j }
 
 changed-state : (s : State) (d : Change) → isState s ≡ true → May s (changes d) → isState (changedBy s d) ≡ true
 changed-state s d is m =
@@ -114,7 +115,7 @@ undo-changed s d is free =
     let some : eqb (n + 1) 0 ≡ false = ne-eqb (n + 1) 0 (omega arith) in
     let last : getD (set u n e) n blankEntry ≡ e = getD-set-same u n e blankEntry inside in
     let blank = blank-is x (both (isBlank x) (allBlank (drop (suc n) u)) (rw (drop-cons u n blankEntry inside) at (p .past)) .0) in
-    let freed : set (set u n e) n blankEntry ≡ u = set-set u n e blankEntry ∙ ap (set u n) (sym blank) ∙ set-getD u n blankEntry in
+    let freed : set (set u n e) n blankEntry ≡ u = ap (set (set u n e) n) (sym blank) ∙ set-back u n e blankEntry in
     rw (some, q, last) (λ j. stateWith (contents-back c d j) (freed j) n)
 
 undo-state : (s : State) → isState s ≡ true → isState (undoOf s) ≡ true
@@ -145,3 +146,20 @@ done-state s (changes d) is m = changed-state s d is m
 done-state s undoes is m = undo-state s is
 done-state s keeps is m =
     none-state (s .series) (s .settings) (s .values) (back-now (s .count) (contentsOf s) (s .undo) (state-parts entriesN s is .back))
+
+-- a KEEP of no entry leaves the state as it is
+
+blanks-are : (u : List Entry) → allBlank u ≡ true → u ≡ replicate (length u) blankEntry
+unfolding allBlank
+blanks-are [] h = refl
+blanks-are (e ∷ u) h =
+    let (here, later) = both (isBlank e) (allBlank u) h in
+    λ j. blank-is e here j ∷ blanks-are u later j
+
+pub keep-none : (s : State) → isState s ≡ true → s .count ≡ 0 → keepOf s ≡ s
+keep-none s is none =
+    let p = state-parts entriesN s is in
+    let blank : s .undo ≡ replicate entriesN blankEntry =
+    blanks-are (s .undo) (rw none at (p .past)) ∙ ap (λ (n : ℕ). replicate n blankEntry) (p .undo-long)
+    in
+    sym (λ j. stateWith (contentsOf s) (blank j) (none j))

@@ -17,7 +17,7 @@ use Rattle.commands.specs.Shapes.{isEnded, textOf, orderOf}
 use Rattle.lines.specs.Verdicts.{isAccepted}
 use Rattle.lines.specs.Machine.{run, step, Called, played, call}
 use Rattle.lines.specs.Sessions.{session, stepped, after, Lent, inRoom, called, imageAfter}
-use Rattle.lines.specs.Demand.{Start, standing, playAll, stands}
+use Rattle.lines.specs.Demand.{startOf, standing, playAll, stands}
 use Rattle.commands.specs.declared.shapes.Order.the-variants.{Undo}
 use Rattle.lines.proofs.Sessions.{Alike, alike}
 use Rattle.lines.proofs.Leaves.{calledIf}
@@ -48,13 +48,13 @@ call-steps image s c h =
 pub hosted : (s : State) → isState s ≡ true → (cs : List Lent) → Alike ImageOf (session called (imageOf s) cs) (session stepped s (map inRoom cs))
 hosted s e cs = alike called stepped inRoom ImageOf call-steps (imageOf s) s cs (refl, e)
 
-module _ (s : State) (start : Start s) (cs : List Lent) where
+module _ (s : State) (is : isState s ≡ true) (cs : List Lent) where
   hosted-state : stateIn (imageAfter (imageOf s) cs) ≡ after s (map inRoom cs)
   hosted-state =
-      let h = hosted s (start .state) cs .0 in ap stateIn (h .0) ∙ image-back (after s (map inRoom cs)) (h .1)
+      let h = hosted s is cs .0 in ap stateIn (h .0) ∙ image-back (after s (map inRoom cs)) (h .1)
 
-  pub hosted-played : contentsOf (stateIn (imageAfter (imageOf s) cs)) ≡ playAll (contentsOf s) (standing s (map inRoom cs))
-  hosted-played = ap contentsOf hosted-state ∙ demand.played s start (map inRoom cs)
+  pub hosted-played : contentsOf (stateIn (imageAfter (imageOf s) cs)) ≡ playAll (startOf s) (standing s (map inRoom cs))
+  hosted-played = ap contentsOf hosted-state ∙ demand.played s is (map inRoom cs)
 
   -- an UNDO whose reply fits the lent room
   pub hosted-undo : (line room : List ℕ) → isEnded line ≡ true → orderOf (textOf line) ≡ Undo
@@ -62,9 +62,9 @@ module _ (s : State) (start : Start s) (cs : List Lent) where
       → isAccepted (call (imageAfter (imageOf s) cs) line room .answer .verdict) ≡ stands (standing s (map inRoom cs))
   hosted-undo line room ended undo fits =
       let t = after s (map inRoom cs) in
-      let is : call (imageAfter (imageOf s) cs) line room ≡ played (step t line (length room)) room =
-      let h = hosted s (start .state) cs .0 in ap (λ (i : List ℕ). call i line room) (h .0) ∙ call-is t line room (h .1)
+      let same : call (imageAfter (imageOf s) cs) line room ≡ played (step t line (length room)) room =
+      let h = hosted s is cs .0 in ap (λ (i : List ℕ). call i line room) (h .0) ∙ call-is t line room (h .1)
       in
-      ap (λ (o : Called). isAccepted (o .answer .verdict)) is
-      ∙ demand.undo-accepted s start (map inRoom cs) line (length room) ended undo
+      ap (λ (o : Called). isAccepted (o .answer .verdict)) same
+      ∙ demand.undo-accepted s is (map inRoom cs) line (length room) ended undo
       (subst (λ (u : State). length (run u line .reply) ≤ length room) hosted-state fits)

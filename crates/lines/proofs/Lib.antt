@@ -1,10 +1,10 @@
 pub mod Sessions
-pub mod Starts
 pub mod Deeds
 pub mod Runs
 pub mod Leaves
 pub mod States
 pub mod Tracks
+pub mod Begins
 pub mod Demand
 pub mod Asked
 pub mod Hosted

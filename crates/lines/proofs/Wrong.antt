@@ -1,10 +1,11 @@
--- Machines that are shut out, on each series by itself: those that aren't `step`, and those that fail demand 3 on two lines at most.
+-- Machines that are shut out, on each series by itself: those that aren't `step`, and those that fail demand 3 on two lines at most from the factory
+-- or on one from an undo list that was loaded.
 use Prim.Native.Nat.{ℕ, _+_, _≤_}
 use mathlib.Core.Path.{_≡_, refl, sym, ap, subst, _∙_}
 use mathlib.Core.Bool.{Bool, true, false, cond, false≢true}
 use mathlib.Core.List.{List, [], _∷_, _++_}
 use native.Mathlib.Omega.{arith}
-use borrow.Author.Tests.{eqb-false}
+use borrow.Author.Tests.{eqb-false, ne-eqb}
 use lib.Dec.{eqb}
 use lib.ListN.{length}
 use Rattle.figures.specs.Text.{codes}
@@ -19,18 +20,18 @@ use Rattle.state.specs.declared.entries.State.{State}
 use Rattle.state.proofs.Images.{factory-is-state}
 use Rattle.commands.specs.Shapes.{isEnded, textOf, orderOf}
 use Rattle.lines.specs.Verdicts.{isAccepted}
-use Rattle.lines.specs.Orders.{Deed, asks, changes, undoes, keeps, lineDeed}
+use Rattle.lines.specs.Orders.{keepOf, Deed, asks, changes, undoes, keeps, lineDeed}
 use Rattle.lines.specs.Replies.{replyEnd, done}
 use Rattle.lines.specs.Machine.{Outcome, outcome, run, step}
 use Rattle.lines.specs.Sessions.{Exchange, session, Call}
-use Rattle.lines.specs.Demand.{Start, Mark, strike, mark, playAll, stands, Followed, follows}
+use Rattle.lines.specs.Demand.{Mark, strike, mark, marksBack, standsAt, allBack, startOf, Followed, follows, begins, playAll, stands}
 use Rattle.commands.specs.declared.shapes.Order.the-variants.{Undo}
 use Rattle.lines.proofs.Sessions.{alike-calls}
+use Rattle.lines.proofs.Deeds.{keep-none}
 use Rattle.lines.proofs.Calling.{step-series}
 use Rattle.lines.proofs.States.{step-state}
-use Rattle.lines.proofs.Starts.{factory-start}
 use Rattle.lines.proofs.Tracks.{contents}
-use Rattle.lines.proofs.Demand.{fresh, start-follows, undo-by}
+use Rattle.lines.proofs.Demand.{start-follows, undo-by}
 
 -- what it does with a line and a room, where so many calls came before
 abbrev pub Machine : Type 0
@@ -53,55 +54,65 @@ counts m f c =
     record { left = record { calls = f .calls + 1; state = o .next; standing = ms }; reply = o .reply }
 
 abbrev pub leftBy : Machine → State → List Call → Counted
-leftBy m s cs = session (counts m) (record { calls = 0; state = s; standing = [] }) cs .left
+leftBy m s cs = session (counts m) (record { calls = 0; state = s; standing = standsAt s }) cs .left
 
--- demand 3, from every start of a series: settings and stored values are those got by playing the unstruck changes in order, and an UNDO whose reply
--- fits is accepted exactly when one stands after the last KEEP
-pub record Plays (k : Series) (m : Machine) : Type 0 where
-  pub contents : (s : State) → Start s → s .series ≡ k → (cs : List Call) → contentsOf (leftBy m s cs .state) ≡ playAll (contentsOf s) (leftBy m s cs .standing)
-  pub undo : (s : State) → Start s → s .series ≡ k → (cs : List Call) (line : List ℕ) (room : ℕ) → let f = leftBy m s cs in
+-- demand 3, from a state: settings and stored values are those got by playing the unstruck changes in order, and an UNDO whose reply fits is accepted
+-- exactly when one stands after the last KEEP
+pub record PlaysFrom (s : State) (m : Machine) : Type 0 where
+  pub contents : (cs : List Call) → contentsOf (leftBy m s cs .state) ≡ playAll (startOf s) (leftBy m s cs .standing)
+  pub undo : (cs : List Call) (line : List ℕ) (room : ℕ) → let f = leftBy m s cs in
       isEnded line ≡ true → orderOf (textOf line) ≡ Undo → length (run (f .state) line .reply) ≤ room
       → isAccepted (m (f .calls) (f .state) line room .verdict) ≡ stands (f .standing)
 
-module _ (k : Series) (m : Machine) (exact : Exact k m) where
-  -- an exact machine goes as `step` does
+-- from every state of a series
+abbrev pub Plays : Series → Machine → Type 0
+Plays k m = (s : State) → isState s ≡ true → s .series ≡ k → PlaysFrom s m
+
+-- a machine that goes as `step` does where something holds that lasts
+module _ (m : Machine) (Holds : ℕ → State → Type 0)
+    (goes : (n : ℕ) (s : State) → Holds n s → (line : List ℕ) (room : ℕ) → m n s line room ≡ step s line room)
+    (lasts : (n : ℕ) (s : State) → Holds n s → (line : List ℕ) (room : ℕ) → Holds (n + 1) (step s line room .next)) where
   abbrev Agrees : Counted → Followed → Type 0
-  Agrees f g = (f .state ≡ g .state) × (f .standing ≡ g .standing) × (isState (g .state) ≡ true) × (g .state .series ≡ k)
+  Agrees f g = (f .state ≡ g .state) × (f .standing ≡ g .standing) × Holds (f .calls) (g .state)
 
   agrees : (f : Counted) (g : Followed) (c : Call) → Agrees f g → Agrees (counts m f c .left) (follows g c .left) × (counts m f c .reply ≡ follows g c .reply)
   agrees f g c h =
       let s = g .state in
-      let ds = lineDeed (s .series) (c .line) in
       let is : m (f .calls) (f .state) (c .line) (c .room) ≡ step s (c .line) (c .room) =
-      ap (λ (t : State). m (f .calls) t (c .line) (c .room)) (h .0) ∙ exact (f .calls) s (h .2) (h .3) (c .line) (c .room)
+      ap (λ (t : State). m (f .calls) t (c .line) (c .room)) (h .0) ∙ goes (f .calls) s (h .2) (c .line) (c .room)
       in
       let marks : counts m f c .left .standing ≡ follows g c .left .standing =
       λ i. cond (isAccepted (is i .verdict)) (mark (h .1 i) (lineDeed (h .0 i .series) (c .line))) (h .1 i)
       in (
-        (ap (λ (o : Outcome). o .next) is, marks, step-state s (c .line) (c .room) (h .2), step-series s (c .line) (c .room) ∙ h .3),
+        (ap (λ (o : Outcome). o .next) is, marks, lasts (f .calls) s (h .2) (c .line) (c .room)),
         ap (λ (o : Outcome). o .reply) is,
       )
 
-  agreed : (s : State) → Start s → s .series ≡ k → (cs : List Call) → Agrees (leftBy m s cs) (session follows (fresh s) cs .left)
-  agreed s start e cs = alike-calls (counts m) follows Agrees agrees (record { calls = 0; state = s; standing = [] }) (fresh s) cs (refl, refl, start .state, e) .0
+  agreed : (s : State) → Holds 0 s → (cs : List Call) → Agrees (leftBy m s cs) (session follows (begins s) cs .left)
+  agreed s h cs = alike-calls (counts m) follows Agrees agrees (record { calls = 0; state = s; standing = standsAt s }) (begins s) cs (refl, refl, h) .0
 
-  pub exact-plays : Plays k m
-  exact-plays =
+  plays-from : (s : State) → isState s ≡ true → Holds 0 s → PlaysFrom s m
+  plays-from s is h =
       record {
-        contents = λ s start e cs.
-            let g = agreed s start e cs in
-            let f = session follows (fresh s) cs .left in
-            ap contentsOf (g .0) ∙ contents (contentsOf s) (f .state) (f .standing) (start-follows s start cs .1) ∙ ap (playAll (contentsOf s)) (sym (g .1));
-        undo = λ s start e cs line room plain undo fits.
-            let g = agreed s start e cs in
+        contents = λ cs.
+            let g = agreed s h cs in
+            let f = session follows (begins s) cs .left in
+            ap contentsOf (g .0) ∙ contents (startOf s) (f .state) (f .standing) (start-follows s is cs .1) ∙ ap (playAll (startOf s)) (sym (g .1));
+        undo = λ cs line room plain undo fits.
+            let g = agreed s h cs in
             let n = leftBy m s cs .calls in
-            let f = session follows (fresh s) cs .left in
+            let f = session follows (begins s) cs .left in
             ap (λ (t : State). isAccepted (m n t line room .verdict)) (g .0)
-            ∙ ap (λ (o : Outcome). isAccepted (o .verdict)) (exact n (f .state) (g .2) (g .3) line room)
-            ∙ undo-by line plain undo (contentsOf s) (f .state) (f .standing) (start-follows s start cs .1) room
+            ∙ ap (λ (o : Outcome). isAccepted (o .verdict)) (goes n (f .state) (g .2) line room)
+            ∙ undo-by line plain undo (startOf s) (f .state) (f .standing) (start-follows s is cs .1) room
             (subst (λ (t : State). length (run t line .reply) ≤ room) (g .0) fits)
             ∙ ap stands (sym (g .1));
       }
+
+pub exact-plays : (k : Series) (m : Machine) → Exact k m → Plays k m
+exact-plays k m exact s is e =
+    plays-from m (λ n t. (isState t ≡ true) × (t .series ≡ k)) (λ n t h. exact n t (h .0) (h .1))
+    (λ n t h line room. (step-state t line room (h .0), step-series t line room ∙ h .1)) s is (is, e)
 
 pub step-plays : (k : Series) → Plays k (λ n. step)
 step-plays k = exact-plays k (λ n. step) (λ n s is e line room. refl)
@@ -118,7 +129,7 @@ undo-line = codes "UNDO\r"
 
 -- what a line computes with
 computing : Unit {0}
-unfolding every startsWith numberFrom runOf seek rows100 rows300 session strike playAll
+unfolding every startsWith numberFrom runOf seek rows100 rows300 session strike marksBack allBack playAll
 computing = tt
 
 -- room for the longest reply to one of these
@@ -197,6 +208,10 @@ isUndo keeps = false
 abbrev pub no-undo : Machine
 no-undo n s line room = cond (isUndo (lineDeed (s .series) line)) (replies s (step s line room)) (step s line room)
 
+-- it begins with no undo entry, whatever list was loaded
+abbrev pub forgets : Machine
+forgets n s line room = step (cond (eqb n 0) (keepOf s) s) line room
+
 calls : List (List ℕ) → List Call
 calls [] = []
 calls (line ∷ lines) = record { line = line; room = enough } ∷ calls lines
@@ -207,10 +222,10 @@ module _ (k : Series) (m : Machine) (lines : List (List ℕ)) (n : ℕ) where
   came = parameterOf k (leftBy m (factoryState k) (calls lines) .state .settings) n
 
   abbrev wanted : ℕ
-  wanted = parameterOf k (playAll (contentsOf (factoryState k)) (leftBy m (factoryState k) (calls lines) .standing) .settings) n
+  wanted = parameterOf k (playAll (startOf (factoryState k)) (leftBy m (factoryState k) (calls lines) .standing) .settings) n
 
   fails : eqb came wanted ≡ false → Plays k m → ⊥
-  fails e h = eqb-false came wanted e (ap (λ (c : Contents). parameterOf k (c .settings) n) (h .contents (factoryState k) (factory-start k) refl (calls lines)))
+  fails e h = eqb-false came wanted e (ap (λ (c : Contents). parameterOf k (c .settings) n) (h (factoryState k) (factory-is-state k) refl .contents (calls lines)))
 
 pub idle-fails : (k : Series) → Plays k idle → ⊥
 unfolding calls computing
@@ -226,6 +241,32 @@ pub no-undo-fails : (k : Series) → Plays k no-undo → ⊥
 unfolding calls computing
 no-undo-fails Tps100 = fails Tps100 no-undo (set-50 ∷ undo-line ∷ []) 50 refl
 no-undo-fails Tps300 = fails Tps300 no-undo (set-50 ∷ undo-line ∷ []) 50 refl
+
+-- a state with one entry, of a SET, as a sheet may load it
+abbrev loaded : Series → State
+loaded k = step (factoryState k) set-50 enough .next
+
+loaded-undo : (k : Series) → isAccepted (forgets 0 (loaded k) undo-line enough .verdict) ≡ stands (standsAt (loaded k)) → ⊥
+unfolding computing
+loaded-undo Tps100 e = false≢true e
+loaded-undo Tps300 e = false≢true e
+
+undo-fits : (k : Series) → length (run (loaded k) undo-line .reply) ≤ enough
+unfolding computing
+undo-fits Tps100 = omega arith
+undo-fits Tps300 = omega arith
+
+pub forgets-fails : (k : Series) → Plays k forgets → ⊥
+unfolding computing
+forgets-fails k h =
+    let s = factoryState k in
+    loaded-undo k (h (loaded k) (step-state s set-50 enough (factory-is-state k)) (step-series s set-50 enough) .undo [] undo-line enough refl refl (undo-fits k))
+
+-- though from a state with no entry it is right
+pub forgets-plays : (s : State) → isState s ≡ true → s .count ≡ 0 → PlaysFrom s forgets
+forgets-plays s is none =
+    plays-from forgets (λ n t. cond (eqb n 0) (keepOf t) t ≡ t) (λ n t h line room. ap (λ (u : State). step u line room) h)
+    (λ n t h line room. rw (ne-eqb (n + 1) 0 (omega arith))) s is (keep-none s is none)
 
 -- what fails demand 3 isn't what `step` says either
 pub inexact : (k : Series) (m : Machine) → (Plays k m → ⊥) → Exact k m → ⊥

@@ -1,4 +1,4 @@
--- Demand 3 over lines and sheet loads in any order, accepted and refused, on a state and on a lent image.
+-- Demand 3 over lines and sheet loads in any order, accepted and refused, from any state, on it and on a lent image.
 use Prim.Native.Nat.{ℕ}
 use mathlib.Core.Path.{_≡_, refl, ap, _∙_}
 use mathlib.Core.Bool.{true}
@@ -9,15 +9,15 @@ use Rattle.state.specs.Image.{imageOf}
 use Rattle.state.specs.declared.entries.State.{State}
 use Rattle.lines.specs.Machine.{step}
 use Rattle.lines.specs.Sessions.{Exchange, session, Lent, called}
-use Rattle.lines.specs.Demand.{Start}
+use Rattle.lines.proofs.Begins.{state-tracks}
 use Rattle.lines.proofs.Demand.{undo-by}
 use Rattle.lines.proofs.Hosted.{ImageOf, hosted}
 use Rattle.lines.proofs.Sessions.{lasts, alike}
 use Rattle.lines.proofs.States.{step-state}
 use Rattle.lines.proofs.Tracks.{Tracks, contents, step-tracks}
-use Rattle.sheets.specs.Loading.{Loading, wrong, right, loadingOf, Loaded·image, loadedBy, loaded}
+use Rattle.sheets.specs.Loading.{Loading, wrong, right, loadedState, loadingOf, Loaded·image, loadedBy, loaded}
 use Rattle.sheets.specs.Acts.{Act, sends, loads, Traced, startsAt, traceLoad, acted, traced, Demanded, ofRoom, calledActs}
-use Rattle.sheets.proofs.Sheets.{loads-sheet}
+use Rattle.sheets.proofs.Sheets.{loads-sheet-of}
 use Rattle.sheets.proofs.Images.{image-loads}
 
 -- what every act keeps
@@ -31,12 +31,15 @@ traces-on t (loads sheet) h = by (loadingOf (t .state .series) sheet) refl
   where
     by : (l : Loading) → loadingOf (t .state .series) sheet ≡ l → Traces (traceLoad t l)
     by (wrong at) e = h
-    by (right settings values) e = (loads-sheet (t .state .series) sheet settings values e .0, (refl, refl))
+    by (right settings values entries) e =
+        let is = loads-sheet-of (t .state .series) sheet settings values entries e .0 in
+        (is, state-tracks (loadedState (t .state .series) settings values entries) is)
 
-pub demanded : (s : State) → Start s → (acts : List (Act ℕ)) → Demanded (traced s acts)
-demanded s start acts =
+-- from any state
+pub demanded : (s : State) → isState s ≡ true → (acts : List (Act ℕ)) → Demanded (traced s acts)
+demanded s state acts =
     let t = traced s acts in
-    let (is, follows) = lasts acted Traces traces-on (startsAt s) acts (start .state, (start .none, refl)) in
+    let (is, follows) = lasts acted Traces traces-on (startsAt s) acts (state, state-tracks s state) in
     record {
       is = is;
       played = contents (t .start) (t .state) (t .standing) follows;
@@ -67,13 +70,13 @@ lent-traces image t (loads sheet) (is, state) =
     by : (l : Loading) → loadingOf (t .state .series) sheet ≡ l → loaded image sheet .image ≡ loadedBy (t .state .series) (imageOf (t .state)) l .image
         → Laid (loaded image sheet .image) (traceLoad t l)
     by (wrong at) e q = (q, state)
-    by (right settings values) e q = (q, loads-sheet (t .state .series) sheet settings values e .0)
+    by (right settings values entries) e q = (q, loads-sheet-of (t .state .series) sheet settings values entries e .0)
 
 -- after any acts its image is that of the state after them, and each reply is the state's
-pub hosted-acts : (s : State) → Start s → (acts : List (Act (List ℕ))) →
+pub hosted-acts : (s : State) → isState s ≡ true → (acts : List (Act (List ℕ))) →
     let own = session acted (startsAt s) (map ofRoom acts) in
     let host = session calledActs (imageOf s) acts in
     (host .left ≡ imageOf (own .left .state)) × (host .replies ≡ own .replies)
-hosted-acts s start acts =
-    let h = alike calledActs acted ofRoom Laid lent-traces (imageOf s) (startsAt s) acts (refl, start .state) in
+hosted-acts s state acts =
+    let h = alike calledActs acted ofRoom Laid lent-traces (imageOf s) (startsAt s) acts (refl, state) in
     (h .0 .0, h .1)

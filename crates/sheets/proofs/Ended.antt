@@ -1,23 +1,25 @@
 -- A line that is written has one LF, its last byte. So two lines at the start of the same bytes are one line.
 use Prim.Native.Nat.{ℕ, _+_, _/_, _%_, _<_}
 use mathlib.Core.Path.{_≡_, refl, sym, ap, _∙_}
-use mathlib.Core.Bool.{Bool, true, false, not, _&&_, false≢true}
+use mathlib.Core.Bool.{true, false, not, _&&_, false≢true, and-false}
 use mathlib.Core.List.{List, [], _∷_, _++_, append-assoc}
 use native.Mathlib.Omega.{arith}
-use borrow.Author.Tests.{eq-eqb, eqb-true, leb-true, not-false, not-true}
-use lib.Dec.{eqb, leb}
-use lib.ListN.{take}
+use borrow.Author.Tests.{eq-eqb, ne-eqb, eqb-true, leb-true, not-false, not-true}
+use lib.Dec.{eqb, leb, ltb}
+use lib.ListN.{length, take}
 use Rattle.figures.specs.Text.{codes}
-use Rattle.figures.specs.Bytes.{within, every, runOf, isOther}
-use Rattle.figures.specs.Decimal.{isDigit, digitsOf, digitsNBy, digitsN, decimalOf}
+use Rattle.figures.specs.Bytes.{within, every, runOf, isOther, startsWith}
+use Rattle.figures.specs.Decimal.{isDigit, digitsN, decimalOf}
 use Rattle.figures.proofs.Bytes.{within-bounds, every-append, is-other}
 use Rattle.figures.proofs.Decimal.{digits-are}
 use Rattle.figures.proofs.Tests.{both, by-test, either}
 use Rattle.words.specs.Records.{isGraphic}
-use Rattle.instrument.specs.Rows.{keyOf}
-use Rattle.instrument.specs.Settings.{noRow, rows100, rows300, rowsOf, rowAt}
-use Rattle.instrument.specs.Values.{noStored, stored, storedAt, indexNumber, valueWord, eightBytes, putRight, keptRight}
-use Rattle.instrument.specs.declared.settings.Row.{Row}
+use Rattle.instrument.specs.Settings.{settingNumber, rowAt}
+use Rattle.instrument.specs.Values.{valuesN, noStored, stored, storedAt, indexNumber, valueWord, eightBytes, putRight, keptRight}
+use Rattle.state.specs.Entries.{itemRight}
+use Rattle.state.specs.declared.entries.Item.{Item}
+use Rattle.state.specs.declared.entries.Item.the-variants as item
+use Rattle.state.specs.declared.entries.Former.{Former}
 use Rattle.instrument.specs.declared.settings.Series.{Series}
 use Rattle.instrument.specs.declared.settings.Series.the-variants.{Tps100, Tps300}
 use Rattle.instrument.specs.declared.values.Kept.{Kept}
@@ -26,7 +28,9 @@ use Rattle.instrument.specs.declared.values.Stored.{Stored}
 use Rattle.instrument.proofs.Kept.{heldBy, kept-held, put-parts}
 use Rattle.instrument.proofs.Seek.{eachRow, row-tested}
 use Rattle.sheets.specs.Lines.{LinesOf, linesBy}
-use Rattle.sheets.specs.Sheet.{settingKey, settingLines, charactersOf, valueKey, keptLine, valueLines, seriesLine}
+use Rattle.sheets.specs.Sheet.{settingKey, settingLines, charactersOf, valueKey, valueLines, seriesLine}
+use Rattle.sheets.specs.Undo.{formLine, countKey, countLines, itemKey, formerText, entryLines}
+use Rattle.sheets.specs.declared.forms.Form.the-variants.{Two}
 use Rattle.sheets.specs.FirstWrong.{areLines, hasNoLf, lineN}
 use Rattle.sheets.proofs.Partwise.{rightBy}
 
@@ -89,6 +93,34 @@ snoc-lines (x ∷ y ∷ a) = snoc-lines (y ∷ a)
 pub one-lines : (w : List ℕ) → OneLf w → areLines w ≡ true
 one-lines w p = rw (p .is) (snoc-lines (p .body))
 
+-- their last byte is an LF
+
+pub lines-lf : (l : List ℕ) → 0 < length l → areLines l ≡ true → hasNoLf l ≡ false
+unfolding areLines every
+lines-lf [] h e = absurd (omega arith)
+lines-lf (x ∷ []) h e = rw e
+lines-lf (x ∷ y ∷ l) h e = rw (lines-lf (y ∷ l) (omega arith) e, and-false)
+
+pub lines-end : (a b : List ℕ) → 0 < length b → areLines (a ++ b) ≡ true → areLines b ≡ true
+unfolding areLines
+lines-end [] b h e = e
+lines-end (x ∷ []) [] h e = absurd (omega arith)
+lines-end (x ∷ []) (y ∷ b) h e = e
+lines-end (x ∷ y ∷ a) b h e = lines-end (y ∷ a) b h e
+
+-- so whether a line stands at their start they say, whatever stands after them
+
+line-starts : (body l a : List ℕ) → hasNoLf body ≡ true → 0 < length l → areLines l ≡ true
+    → startsWith (body ++ (10 ∷ [])) (l ++ a) ≡ startsWith (body ++ (10 ∷ [])) l
+unfolding areLines every startsWith
+line-starts body [] a c h e = absurd (omega arith)
+line-starts [] (x ∷ l) a c h e = refl
+line-starts (b ∷ body) (x ∷ []) a c h e = rw (eqb-true x 10 e, ne-eqb 10 b (λ q. no-lf b (both (isOther 10 b) (hasNoLf body) c .0) (sym q)))
+line-starts (b ∷ body) (x ∷ y ∷ l) a c h e = rw (line-starts body (y ∷ l) a (both (isOther 10 b) (hasNoLf body) c .1) (omega arith) e)
+
+pub lines-start : (w l a : List ℕ) → OneLf w → 0 < length l → areLines l ≡ true → startsWith w (l ++ a) ≡ startsWith w l
+lines-start w l a p h e = rw (p .is) (line-starts (p .body) l a (p .clean) h e)
+
 -- each line that may stand
 
 abbrev pub LinesEnd : {A : Type 0} → LinesOf A → Type 0
@@ -112,6 +144,10 @@ unfolding every
 series-line Tps100 = record { body = codes "series=TPS100"; clean = refl; is = refl }
 series-line Tps300 = record { body = codes "series=TPS300"; clean = refl; is = refl }
 
+pub form-line : OneLf (formLine Two)
+unfolding every
+form-line = record { body = codes "form=2"; clean = refl; is = refl }
+
 -- a byte above LF is none
 high : (low top : ℕ) → 10 < low → (l : List ℕ) → every (within low top) l ≡ true → hasNoLf l ≡ true
 unfolding every
@@ -121,55 +157,71 @@ high low top h (b ∷ l) e =
     let bounds = within-bounds low top b (parts .0) in
     rw (is-other 10 b (λ q. omega arith)) (high low top h l (parts .1))
 
-keys-clean : (k : Series) → (hasNoLf (settingKey noRow) ≡ true) × (eachRow (λ (r : Row). hasNoLf (settingKey r)) (rowsOf k) ≡ true)
-unfolding eachRow rows100 rows300 digitsOf digitsNBy every
-keys-clean Tps100 = (refl, refl)
-keys-clean Tps300 = (refl, refl)
+number-clean : (n : ℕ) → hasNoLf (decimalOf n) ≡ true
+number-clean n = high 48 57 (omega arith) (decimalOf n) (digits-are (digitsN n) n)
+
+-- a letter, a number and the byte that follows them
+name-clean : (letter n after : ℕ) → isOther 10 letter ≡ true → isOther 10 after ≡ true → hasNoLf ((letter ∷ decimalOf n) ++ (after ∷ [])) ≡ true
+unfolding every
+name-clean letter n after e f = every-append (isOther 10) (letter ∷ decimalOf n) (after ∷ []) ∙ rw (e, f, number-clean n)
 
 pub setting-ends : (k : Series) → LinesEnd (settingLines k)
 setting-ends k got i p e =
-    let keys = keys-clean k in
-    keyed-line (settingKey (rowAt k i)) (decimalOf p) (row-tested (λ (r : Row). hasNoLf (settingKey r)) (rowsOf k) noRow (keys .0) (keys .1) i)
-    (high 48 57 (omega arith) (decimalOf p) (digits-are (digitsN p) p))
+    let r = rowAt k i in keyed-line (settingKey r) (decimalOf p) (name-clean 115 (settingNumber r) 61 refl refl) (number-clean p)
 
--- a value's index and units
+-- the characters of a value that may be held
 
-abbrev cleanRow : Stored → Bool
-cleanRow r = hasNoLf (keyOf "v" (indexNumber r)) && not (within (r .first) (r .last) 10)
-
-rows-clean : (cleanRow noStored ≡ true) × (eachRow cleanRow stored ≡ true)
-unfolding eachRow stored digitsOf digitsNBy every
-rows-clean = (refl, refl)
-
-row-clean : (i : ℕ) → (hasNoLf (valueKey i) ≡ true) × (within (storedAt i .first) (storedAt i .last) 10 ≡ false)
-row-clean i =
-    let t = both (hasNoLf (valueKey i)) (not (within (storedAt i .first) (storedAt i .last) 10)) (row-tested cleanRow stored noStored (rows-clean .0) (rows-clean .1) i) in
-    (t .0, not-true _ (t .1))
+unit-clean : (i : ℕ) → within (storedAt i .first) (storedAt i .last) 10 ≡ false
+unfolding eachRow stored
+unit-clean i = not-true _ (row-tested (λ (r : Stored). not (within (r .first) (r .last) 10)) stored noStored refl units i)
+  where
+    units : eachRow (λ (r : Stored). not (within (r .first) (r .last) 10)) stored ≡ true
+    units = refl
 
 data-clean : (r : Stored) (u m : ℕ) (l : List ℕ) → heldBy r u m l ≡ true → hasNoLf l ≡ true
 data-clean r u m l e =
     by-test (eqb (r .first) 46) (λ q. high 33 126 (omega arith) l (both (eqb m 0) (every isGraphic l) (rw q at e) .1))
     (λ q. high 48 57 (omega arith) l (both (every isDigit l) _ (rw q at e) .0))
 
-pub value-ends : LinesEnd valueLines
+characters-clean : (i : ℕ) (k : Kept) → keptRight i k ≡ true → hasNoLf (charactersOf i k) ≡ true
 unfolding every
-value-ends got i v e = by (v .kept) e
+characters-clean i Never r = refl
+characters-clean i (Put u m d) r =
+    let word = valueWord 46 i u m d in
+    let parts = both (leb m 1) (putRight i word) r in
+    let unit = put-parts i word (parts .1) .unit in
+    let bounds = within-bounds (storedAt i .first) (storedAt i .last) u unit in
+    let data-is : hasNoLf (eightBytes d) ≡ true =
+    data-clean (storedAt i) u m (eightBytes d) (sym (kept-held u m d (leb-true m 1 (parts .0)) i (Put u m d) refl (bounds .0) (bounds .1)) ∙ r) in
+    let unit-is : isOther 10 u ≡ true = is-other 10 u (λ q. absurd (false≢true (sym (unit-clean i) ∙ rw q at unit))) in
+    rw (
+      is-other 10 (48 + storedAt i .index / 10 % 10) (omega arith),
+      is-other 10 (48 + storedAt i .index % 10) (omega arith),
+      either (λ b. isOther 10 b ≡ true) (eqb (storedAt i .first) 46) 46 49 (λ _. refl) refl,
+      unit-is,
+      either (λ b. isOther 10 b ≡ true) (eqb m 0) 43 45 (λ _. refl) refl,
+    ) data-is
+
+pub value-ends : LinesEnd valueLines
+value-ends got i v e =
+    keyed-line (valueKey i) (charactersOf i (v .kept)) (name-clean 118 (indexNumber (storedAt i)) 61 refl refl) (characters-clean i (v .kept) e)
+
+-- the undo list
+
+pub count-ends : LinesEnd countLines
+unfolding every
+count-ends got i n e = keyed-line countKey (decimalOf n) refl (number-clean n)
+
+pub entry-ends : (k : Series) → LinesEnd (entryLines k)
+unfolding every
+entry-ends k got i e m = by (e .item) (e .former) m
   where
-    by : (k : Kept) → keptRight i k ≡ true → OneLf (keptLine i k)
-    by Never r = keyed-line (valueKey i) [] (row-clean i .0) refl
-    by (Put u m d) r =
-        let word = valueWord 46 i u m d in
-        let parts = both (leb m 1) (putRight i word) r in
-        let unit = put-parts i word (parts .1) .unit in
-        let bounds = within-bounds (storedAt i .first) (storedAt i .last) u unit in
-        let data-is : hasNoLf (eightBytes d) ≡ true =
-        data-clean (storedAt i) u m (eightBytes d) (sym (kept-held u m d (leb-true m 1 (parts .0)) i (Put u m d) refl (bounds .0) (bounds .1)) ∙ r) in
-        let unit-is : isOther 10 u ≡ true = is-other 10 u (λ q. absurd (false≢true (sym (row-clean i .1) ∙ rw q at unit))) in
-        keyed-line (valueKey i) (charactersOf i (Put u m d)) (row-clean i .0)
-        (rw (
-          is-other 10 (48 + storedAt i .index / 10 % 10) (omega arith),
-          is-other 10 (48 + storedAt i .index % 10) (omega arith),
-          either (λ b. isOther 10 b ≡ true) (eqb (storedAt i .first) 46) 46 49 (λ _. refl) refl,
-          unit-is,
-          either (λ b. isOther 10 b ≡ true) (eqb m 0) 43 45 (λ _. refl) refl,
-        ) data-is)
+    by : (x : Item) (f : Former) → itemRight k x (f .parameter) (f .kept) ≡ true → OneLf (itemKey k x ++ (formerText x f ++ codes "\n"))
+    by item.Free f r = absurd (false≢true r)
+    by (item.Setting j) f r =
+        let p = f .parameter in
+        keyed-line (itemKey k (item.Setting j)) (decimalOf p) (name-clean 115 (settingNumber (rowAt k j)) 58 refl refl) (number-clean p)
+    by (item.Stored j) f r =
+        let rest = both (ltb j valuesN) (eqb (f .parameter) 0 && keptRight j (f .kept)) r .1 in
+        keyed-line (itemKey k (item.Stored j)) (charactersOf j (f .kept)) (name-clean 118 (indexNumber (storedAt j)) 58 refl refl)
+        (characters-clean j (f .kept) (both (eqb (f .parameter) 0) (keptRight j (f .kept)) rest .1))

@@ -1,384 +1,299 @@
--- 40 is told at the first wrong line: the bytes before it begin some sheet of the series, and none goes on as the input does.
-use Prim.Native.Nat.{ℕ, zero, suc, _+_, _-_, _≤_, _<_}
+-- 40 is told at the first wrong line: the bytes before it begin some sheet of the series, and none goes on as the input does; or at `undo=`, where each line is
+-- right but no state has that list.
+use Prim.Native.Nat.{ℕ, suc, _+_, _≤_, _<_}
 use mathlib.Core.Path.{_≡_, refl, sym, ap, subst, _∙_}
-use mathlib.Core.Bool.{true, false, false≢true}
+use mathlib.Core.Bool.{Bool, true, false, cond, false≢true}
 use mathlib.Core.List.{List, [], _∷_, _++_, append-assoc, append-nil}
-use native.Mathlib.Nat.{add-zero}
 use native.Mathlib.Omega.{arith}
-use borrow.Author.Tests.{eqb-true, eqb-false}
-use lib.Dec.{eqb}
+use borrow.Author.Tests.{eqb-true, eqb-false, ltb-true, ltb-false}
+use lib.Dec.{eqb, ltb}
 use lib.ListN.{length, getD, take, drop, length-append, take-append-drop}
-use lib.Seq.{append-snoc, take-at, take-add, take-all, take-suc}
-use Rattle.figures.specs.Bytes.{every, startsWith}
+use lib.Seq.{take-at, take-add, take-all, take-suc}
+use Rattle.figures.specs.Bytes.{startsWith}
 use Rattle.figures.proofs.Bytes.{starts-append}
-use Rattle.figures.proofs.Tests.{both, by-test}
-use Rattle.instrument.specs.Settings.{noRow, rows100, rows300, rowsOf, rowAt, factoryOf, inRange, held, padded, settingsN}
-use Rattle.instrument.specs.Values.{valuesN}
-use Rattle.instrument.proofs.Seek.{eachRow, row-tested}
-use Rattle.instrument.specs.declared.settings.Row.{Row}
+use Rattle.figures.proofs.Tests.{clash, by-test}
+use Rattle.instrument.specs.Settings.{held}
 use Rattle.instrument.specs.declared.settings.Series.{Series}
 use Rattle.instrument.specs.declared.settings.Series.the-variants.{Tps100, Tps300}
-use Rattle.instrument.specs.declared.values.Kept.the-variants.{Never}
 use Rattle.instrument.specs.declared.values.Value.{Value}
-use Rattle.state.specs.Entries.{valueOf, noEntries, isState}
 use Rattle.state.specs.Image.{seriesIn}
+use Rattle.state.specs.declared.entries.Entry.{Entry}
 use Rattle.state.specs.declared.entries.State.{State}
-use Rattle.sheets.specs.Lines.{LinesOf, linesBy}
+use Rattle.sheets.specs.Lines.{linesBy}
 use Rattle.sheets.specs.Sheet.{seriesLine, settingLines, valueLines, sheetOf}
-use Rattle.sheets.specs.Loading.{wrong, right, loadingOf, Loaded·image, loaded}
-use Rattle.sheets.specs.FirstWrong.{areLines, hasNoLf, lineN, Begun, NoneBegins, FirstWrong}
+use Rattle.sheets.specs.Undo.{formLine, countLine, entryLines, sheetAs}
+use Rattle.sheets.specs.Loading.{Loading, wrong, right, loadedState, firstLines, loadingAs, formIn, loadingOf, Loaded·image, loaded}
+use Rattle.sheets.specs.Writing.{seriesNamed, movedBy, movedSheet}
+use Rattle.sheets.specs.FirstWrong.{areLines, hasNoLf, lineN, isLined, NoneBegins, FirstWrong, Tells, wrong-line, no-list}
+use Rattle.sheets.specs.declared.forms.Form.{Form}
+use Rattle.sheets.specs.declared.forms.Form.the-variants.{One, Two}
 use Rattle.sheets.specs.declared.answers.Sheeted.the-variants as answer
-use Rattle.sheets.proofs.Linewise.{lines-append}
-use Rattle.sheets.proofs.Partwise.{rightBy, Said, starts-parted, NoLine}
-use Rattle.sheets.proofs.Says.{setting-said, value-said, Named, state-named}
-use Rattle.sheets.proofs.Sheets.{sheetBy, named-state, sheet-loads, series-apart, Ways, other, setting, value, through, ways, wrong-right}
+use Rattle.sheets.proofs.Partwise.{starts-parted}
+use Rattle.sheets.proofs.Sheets.{bodyBy, tailBy, sheetBy, Lined, entriesIn, sheet-one, sheet-by, form-in, sheet-loads-of, series-apart, one-series}
+use Rattle.sheets.proofs.Sheets.{sheet-back, Parted, Ways, other-form, other-series, setting, value, count, entry, surplus, no-list as unlisted, through}
+use Rattle.sheets.proofs.Sheets.{wrong-right, ways, loads-sheet}
 use Rattle.sheets.proofs.Images.{LoadsAs, lent-none, lent-wrong, lent-right, loads-as}
-use Rattle.sheets.proofs.Ended.{OneLf, one-line, first-line, lines-more, one-lines, LinesEnd, part-lines, series-line, setting-ends, value-ends}
+use Rattle.sheets.proofs.Moves.{move-takes}
+use Rattle.sheets.proofs.Sizes.{series-long}
+use Rattle.sheets.proofs.Lined.{lined-as, shown-lined}
+use Rattle.sheets.proofs.Ended.{OneLf, one-line, first-line, lines-more, one-lines, lines-lf, lines-end, lines-start, form-line}
+use Rattle.sheets.proofs.Broken.{Apart, over, on, form-off, no-more, sheet-lines, Broken}
+use Rattle.sheets.proofs.Broken.{broken-series, broken-setting, broken-value, broken-count, broken-entry, broken-surplus}
 
--- three parts and what stands after them
+-- the first line tells the form: whole lines that a sheet of a form begins with are judged as that form's, whatever stands after them
+pub form-told : (f : Form) (s : State) (l a b : List ℕ) → 0 < length l → areLines l ≡ true → l ++ a ≡ sheetAs f s → formIn (l ++ b) ≡ f
+form-told f s l a b h lines e =
+    let same : (x : List ℕ) → startsWith (formLine Two) (l ++ x) ≡ startsWith (formLine Two) l = λ x. lines-start (formLine Two) l x form-line h lines in
+    ap (λ (t : Bool). cond t Two One) (same b ∙ sym (same a)) ∙ ap formIn e ∙ form-in f s
 
-three : (a b c d : List ℕ) → (a ++ (b ++ c)) ++ d ≡ a ++ (b ++ (c ++ d))
-three a b c d = simp append-assoc
+sheet-some : (f : Form) (s : State) → 0 < length (sheetAs f s)
+sheet-some f s =
+    let k = s .series in
+    let lines = linesBy (settingLines k) 0 (held k (s .settings)) ++ linesBy valueLines 0 (s .values) in
+    let body = seriesLine k ++ lines in
+    let tail = tailBy f k (entriesIn f s) in
+    let long = length-append (formLine f) (body ++ tail) in
+    omega (arith, ap length (sheet-by f s), long, length-append body tail, length-append (seriesLine k) lines, series-long k)
 
-all-there : (a b : List ℕ) → length (a ++ b) ≡ length a → a ++ b ≡ a
-all-there a [] e = append-nil a
-all-there a (x ∷ b) e = absurd (omega (arith, length-append a (x ∷ b)))
+-- and an input starts as its form does
+starts-own : (input : List ℕ) → startsWith (formLine (formIn input)) input ≡ true
+unfolding startsWith
+starts-own input = by-test (startsWith (formLine Two) input) (λ e. rw (e, e)) (λ e. rw e)
 
--- a part, whatever its lines hold
-
-module _ {A : Type 0} (l : LinesOf A) where
-  -- things after those that are held, and all in their turn
-  right-on : (xs ys got : List A) (i : ℕ) → rightBy l got i xs ≡ true → rightBy l (got ++ xs) (i + length xs) ys ≡ true → rightBy l got i (xs ++ ys) ≡ true
-  unfolding rightBy
-  right-on [] ys got i ex ey = rw (append-nil, add-zero) at ey
-  right-on (x ∷ xs) ys got i ex ey =
-      let parts = both (l .may got i x) (rightBy l (got ++ (x ∷ [])) (i + 1) xs) ex in
-      let place : i + suc (length xs) ≡ i + 1 + length xs = omega arith in
-      rw (parts .0) (right-on xs ys (got ++ (x ∷ [])) (i + 1) (parts .1) (rw (← append-snoc got x xs, place) at ey))
-
-  -- n more, by something that may be held at each place
-  module _ (fill : List A → ℕ → A) (fills : (got : List A) (i : ℕ) → l .may got i (fill got i) ≡ true) where
-    filled : (n : ℕ) (got : List A) (i : ℕ) → (more : List A) × (length more ≡ n) × (rightBy l got i more ≡ true)
-    unfolding rightBy
-    filled zero got i = ([], refl, refl)
-    filled (suc n) got i =
-        let x = fill got i in
-        let t = filled n (got ++ (x ∷ [])) (i + 1) in
-        (x ∷ t .0, ap suc (t .1), rw (fills got i) (t .2))
-
-  module _ (said : Said l) (ends : LinesEnd l) where
-    -- what the lines at the start of others hold begins what those hold
-    follow : (xs ys got : List A) (i : ℕ) (a b : List ℕ) → rightBy l got i xs ≡ true → rightBy l got i ys ≡ true → length xs ≤ length ys
-        → linesBy l i xs ++ a ≡ linesBy l i ys ++ b
-        → (zs : List A) × (length ys ≡ length xs + length zs) × (rightBy l (got ++ xs) (i + length xs) zs ≡ true) × (a ≡ linesBy l (i + length xs) zs ++ b)
-    unfolding rightBy linesBy
-    follow [] ys got i a b ex ey h e = (ys, omega arith, rw (append-nil, add-zero) ey, rw add-zero e)
-    follow (x ∷ xs) [] got i a b ex ey h e = absurd (omega arith)
-    follow (x ∷ xs) (y ∷ ys) got i a b ex ey h e =
-        let px = both (l .may got i x) (rightBy l (got ++ (x ∷ [])) (i + 1) xs) ex in
-        let py = both (l .may got i y) (rightBy l (got ++ (y ∷ [])) (i + 1) ys) ey in
-        let v = l .write i x in
-        let w = l .write i y in
-        let t = one-line v w (linesBy l (i + 1) xs ++ a) (linesBy l (i + 1) ys ++ b) (ends got i x (px .0)) (ends got i y (py .0))
-        (sym (append-assoc v (linesBy l (i + 1) xs) a) ∙ e ∙ append-assoc w (linesBy l (i + 1) ys) b) in
-        let same : y ≡ x = sym (said got i y [] (py .0)) ∙ ap (λ (s : List ℕ). l .says i (s ++ [])) (sym (t .0)) ∙ said got i x [] (px .0) in
-        let place : i + 1 + length xs ≡ i + suc (length xs) = omega arith in
-        let r = follow xs ys (got ++ (x ∷ [])) (i + 1) a b (px .1) (rw same at (py .1)) (omega arith) (t .1) in
-        (r .0, omega (arith, r .1), rw (append-snoc got x xs, place) at (r .2), rw place at (r .3))
-
-    -- as many lines at the start of the same bytes: what stands after them is the same
-    same-lines : (xs ys : List A) (a b : List ℕ) → rightBy l [] 0 xs ≡ true → rightBy l [] 0 ys ≡ true → length xs ≡ length ys
-        → linesBy l 0 xs ++ a ≡ linesBy l 0 ys ++ b → a ≡ b
-    unfolding linesBy
-    same-lines xs ys a b ex ey h e =
-        let t = follow xs ys [] 0 a b ex ey (omega arith) e in
-        none (t .0) (omega (arith, t .1)) (t .3)
-      where
-        none : (zs : List A) → length zs ≡ 0 → a ≡ linesBy l (0 + length xs) zs ++ b → a ≡ b
-        none [] q r = r
-        none (z ∷ zs) q r = absurd (omega arith)
-
-    -- a line at whose place no line that may stand there stands: no more lines go on with it
-    stop : (xs ys : List A) (line more rest b : List ℕ) → rightBy l [] 0 xs ≡ true → rightBy l [] 0 ys ≡ true → length xs < length ys
-        → NoLine l xs (0 + length xs) rest → OneLf line → startsWith line rest ≡ true → linesBy l 0 xs ++ (line ++ more) ≡ linesBy l 0 ys ++ b → ⊥
-    unfolding rightBy linesBy
-    stop xs ys line more rest b ex ey h none p s e =
-        let t = follow xs ys [] 0 (line ++ more) b ex ey (omega arith) e in
-        by (t .0) (omega (arith, t .1)) (t .2) (t .3)
-      where
-        by : (zs : List A) → 0 < length zs → rightBy l xs (0 + length xs) zs ≡ true → line ++ more ≡ linesBy l (0 + length xs) zs ++ b → ⊥
-        by [] q r f = omega arith
-        by (z ∷ zs) q r f =
-            let i = 0 + length xs in
-            let m = both (l .may xs i z) (rightBy l (xs ++ (z ∷ [])) (i + 1) zs) r .0 in
-            let w = l .write i z in
-            let is = one-line line w more (linesBy l (i + 1) zs ++ b) p (ends xs i z m) (f ∙ append-assoc w (linesBy l (i + 1) zs) b) in
-            false≢true (sym (none z m) ∙ ap (λ (x : List ℕ). startsWith x rest) (sym (is .0)) ∙ s)
-
--- what may be held at each place: the factory's parameter, and no value
-
-factory-fits : (k : Series) → (inRange noRow (factoryOf noRow) ≡ true) × (eachRow (λ (r : Row). inRange r (factoryOf r)) (rowsOf k) ≡ true)
-unfolding eachRow rows100 rows300
-factory-fits Tps100 = (refl, refl)
-factory-fits Tps300 = (refl, refl)
-
-setting-fills : (k : Series) (got : List ℕ) (i : ℕ) → inRange (rowAt k i) (factoryOf (rowAt k i)) ≡ true
-setting-fills k got i = let t = factory-fits k in row-tested (λ (r : Row). inRange r (factoryOf r)) (rowsOf k) noRow (t .0) (t .1) i
-
--- an input that is right up to a place, where no sheet of the series goes on with its line
-record Broken (k : Series) (input : List ℕ) (at : ℕ) : Type 0 where
-  front : List ℕ
-  is : input ≡ front ++ drop at input
-  here : at ≡ length front
-  lined : areLines front ≡ true
-  begun : Begun k front
-  apart : (settings : List ℕ) (values : List Value) → Named k settings values → (line more : List ℕ) → OneLf line → startsWith line (drop at input) ≡ true
-      → front ++ (line ++ more) ≡ sheetBy k settings values → ⊥
-
-module _ (k : Series) where
-  abbrev head : List ℕ
-  head = seriesLine k
-
-  abbrev part : List ℕ → List ℕ
-  part settings = linesBy (settingLines k) 0 settings
-
-  off : (x y : List ℕ) → head ++ x ≡ head ++ y → x ≡ y
-  off x y e = one-line head head x y (series-line k) (series-line k) e .1
-
-  -- past the settings
-  settings-past : (settings others : List ℕ) (a b : List ℕ) → length settings ≡ settingsN k → rightBy (settingLines k) [] 0 settings ≡ true
-      → length others ≡ settingsN k → rightBy (settingLines k) [] 0 others ≡ true → head ++ (part settings ++ a) ≡ head ++ (part others ++ b) → a ≡ b
-  settings-past settings others a b n r m q e =
-      same-lines (settingLines k) (setting-said k) (setting-ends k) settings others a b r q (omega arith) (off _ _ e)
-
-  -- no sheet begins with another and more
-  no-more : (settings others : List ℕ) (values those : List Value) (a : List ℕ) → Named k settings values → Named k others those
-      → sheetBy k settings values ++ a ≡ sheetBy k others those → a ≡ []
-  no-more settings others values those a n m e =
-      let v = linesBy valueLines 0 values in
-      let w = linesBy valueLines 0 those in
-      let rest = settings-past settings others (v ++ a) w (n .settings-long) (n .settings-right) (m .settings-long) (m .settings-right)
-      (sym (three head (part settings) v a) ∙ e) in
-      same-lines valueLines value-said value-ends values those a [] (n .values-right) (m .values-right) (omega (arith, n .values-long, m .values-long))
-      (rest ∙ sym (append-nil w))
-
-  whole-lines : (settings : List ℕ) (values : List Value) → rightBy (settingLines k) [] 0 settings ≡ true → rightBy valueLines [] 0 values ≡ true
-      → areLines (sheetBy k settings values) ≡ true
-  whole-lines settings values r rv =
-      lines-more head (part settings ++ linesBy valueLines 0 values) (one-lines head (series-line k))
-      (lines-more (part settings) (linesBy valueLines 0 values) (part-lines (settingLines k) (setting-ends k) [] 0 settings r)
-      (part-lines valueLines value-ends [] 0 values rv))
-
-  begun-by : (settings : List ℕ) (values : List Value) → Named k settings values → (front more : List ℕ) → front ++ more ≡ sheetBy k settings values → Begun k front
-  begun-by settings values n front more e =
-      let s = named-state k settings values n in
-      record {
-        state = noEntries k (padded settings) values;
-        is = s .0;
-        of = refl;
-        begins = ap (startsWith front) (s .1 ∙ sym e) ∙ starts-append front more;
-      }
-
-  -- settings and values that go on from some
-  named-on : (settings : List ℕ) (values : List Value) → rightBy (settingLines k) [] 0 settings ≡ true → rightBy valueLines [] 0 values ≡ true
-      → length settings ≤ settingsN k → length values ≤ valuesN → (g : List ℕ) × (v : List Value) × Named k (settings ++ g) (values ++ v)
-  named-on settings values rs rv hs hv =
-      let s = filled (settingLines k) (λ got i. factoryOf (rowAt k i)) (setting-fills k) (settingsN k - length settings) settings (0 + length settings) in
-      let v = filled valueLines (λ got i. valueOf Never) (λ got i. refl) (valuesN - length values) values (0 + length values) in (
-        s .0,
-        v .0,
-        record {
-          settings-long = omega (arith, length-append settings (s .0), s .1);
-          settings-right = right-on (settingLines k) settings (s .0) [] 0 rs (s .2);
-          values-long = omega (arith, length-append values (v .0), v .1);
-          values-right = right-on valueLines values (v .0) [] 0 rv (v .2);
-        },
-      )
-
-  module _ (input : List ℕ) where
-    broken-series : startsWith head input ≡ false → Broken k input 0
-    unfolding areLines startsWith rightBy
-    broken-series e = record {
-      front = [];
-      is = refl;
-      here = refl;
-      lined = refl;
-      begun = begun-by _ _ (named-on [] [] refl refl (omega arith) (omega arith) .2) [] _ refl;
-      apart = λ settings values n line more p s q.
-          let t = one-line line head more (part settings ++ linesBy valueLines 0 values) p (series-line k) q in
-          false≢true (sym e ∙ ap (λ (w : List ℕ). startsWith w input) (sym (t .0)) ∙ s);
-    }
-
-    broken-setting : (at : ℕ) (settings : List ℕ) → input ≡ head ++ (part settings ++ drop at input) → at ≡ length (head ++ part settings)
-        → rightBy (settingLines k) [] 0 settings ≡ true → length settings < settingsN k
-        → NoLine (settingLines k) settings (0 + length settings) (drop at input) → Broken k input at
-    unfolding rightBy
-    broken-setting at settings is to r few none =
-        let (g, v, n) = named-on settings [] r refl (omega arith) (omega arith) in
-        let rest = linesBy (settingLines k) (0 + length settings) g ++ linesBy valueLines 0 v in
-        let on : (head ++ part settings) ++ rest ≡ sheetBy k (settings ++ g) v =
-        append-assoc head (part settings) rest
-        ∙ ap (λ (l : List ℕ). head ++ l) (sym (append-assoc (part settings) (linesBy (settingLines k) (0 + length settings) g) (linesBy valueLines 0 v)))
-        ∙ ap (λ (l : List ℕ). head ++ (l ++ linesBy valueLines 0 v)) (sym (lines-append (settingLines k) 0 settings g)) in
-        record {
-          front = head ++ part settings;
-          is = is ∙ sym (append-assoc head (part settings) (drop at input));
-          here = to;
-          lined = lines-more head (part settings) (one-lines head (series-line k)) (part-lines (settingLines k) (setting-ends k) [] 0 settings r);
-          begun = begun-by (settings ++ g) v n (head ++ part settings) rest on;
-          apart = λ others values m line more p s q.
-              stop (settingLines k) (setting-said k) (setting-ends k) settings others line more (drop at input) (linesBy valueLines 0 values) r
-              (m .settings-right) (omega (arith, m .settings-long)) none p s (off _ _ (sym (append-assoc head (part settings) (line ++ more)) ∙ q));
-        }
-
-    broken-value : (at : ℕ) (settings : List ℕ) (values : List Value) → input ≡ sheetBy k settings values ++ drop at input
-        → at ≡ length (sheetBy k settings values) → length settings ≡ settingsN k → rightBy (settingLines k) [] 0 settings ≡ true
-        → rightBy valueLines [] 0 values ≡ true → length values < valuesN → NoLine valueLines values (0 + length values) (drop at input) → Broken k input at
-    unfolding rightBy
-    broken-value at settings values is to long r rv few none =
-        let (g, v, n) = named-on settings values r rv (omega arith) (omega arith) in
-        let rest = linesBy valueLines (0 + length values) v in
-        let text = linesBy valueLines 0 values in
-        let no-g : settings ++ g ≡ settings = all-there settings g (omega (arith, n .settings-long)) in
-        let on : sheetBy k settings values ++ rest ≡ sheetBy k settings (values ++ v) =
-        three head (part settings) text rest ∙ ap (λ (l : List ℕ). head ++ (part settings ++ l)) (sym (lines-append valueLines 0 values v)) in
-        record {
-          front = sheetBy k settings values;
-          is = is;
-          here = to;
-          lined = whole-lines settings values r rv;
-          begun = begun-by settings (values ++ v) (rw no-g at n) (sheetBy k settings values) rest on;
-          apart = λ others those m line more p s q.
-              let w = linesBy valueLines 0 those in
-              let past = settings-past settings others (text ++ (line ++ more)) w long r (m .settings-long) (m .settings-right)
-              (sym (three head (part settings) text (line ++ more)) ∙ q) in
-              stop valueLines value-said value-ends values those line more (drop at input) [] rv (m .values-right) (omega (arith, m .values-long)) none p s
-              (past ∙ sym (append-nil w));
-        }
-
-    broken-end : (at : ℕ) (settings : List ℕ) (values : List Value) → input ≡ sheetBy k settings values ++ drop at input
-        → at ≡ length (sheetBy k settings values) → Named k settings values → Broken k input at
-    broken-end at settings values is to n =
-        let front = sheetBy k settings values in
-        record {
-          front = front;
-          is = is;
-          here = to;
-          lined = whole-lines settings values (n .settings-right) (n .values-right);
-          begun = begun-by settings values n front [] (append-nil front);
-          apart = λ others those m line more p s q.
-              let none = no-more settings others values those (line ++ more) n m q in
-              omega (arith, ap length none, length-append line more, ap length (p .is), length-append (p .body) (10 ∷ []));
-        }
-
-    broken : (at : ℕ) → loadingOf k input ≡ wrong at → Broken k input at
-    broken at e = by (ways k input)
-      where
-        to : (b : ℕ) → loadingOf k input ≡ wrong b → Broken k input b → Broken k input at
-        to b q t =
-            let same : wrong b ≡ wrong at = sym q ∙ e in
-            let is : b ≡ at = cc in
-            subst (λ (n : ℕ). Broken k input n) is t
-
-        by : Ways k input (loadingOf k input) → Broken k input at
-        by (other q o) = to 0 q (broken-series o)
-        by (setting b settings q is here r few none) = to b q (broken-setting b settings is here r few none)
-        by (value b settings values q is here long r rv few none) = to b q (broken-value b settings values is here long r rv few none)
-        by (through b settings values q is here n) =
-            by-test (eqb b (length input)) (λ t. absurd (wrong-right at settings values (sym e ∙ q ∙ rw t)))
-            (λ t. to b (q ∙ rw t) (broken-end b settings values is here n))
-
--- a state of the series, by what it holds
-as-named : (k : Series) (s : State) → isState s ≡ true → s .series ≡ k →
+-- a sheet of the series, by what it shows
+pub as-lined : (f : Form) (k : Series) (s : State) → isLined s ≡ true → s .series ≡ k →
     let settings = held (s .series) (s .settings) in
-    Named k settings (s .values) × (sheetOf s ≡ sheetBy k settings (s .values))
-unfolding sheetOf
-as-named k s e of =
-    let settings = held (s .series) (s .settings) in
-    (subst (λ (t : Series). Named t settings (s .values)) of (state-named s e), ap (λ (t : Series). sheetBy t settings (s .values)) of)
+    Lined f k settings (s .values) (entriesIn f s) × (sheetAs f s ≡ sheetBy f k settings (s .values) (entriesIn f s))
+as-lined f k s e of =
+    let settings = held (s .series) (s .settings) in (
+      subst (λ (t : Series). Lined f t settings (s .values) (entriesIn f s)) of (lined-as f s e),
+      sheet-by f s ∙ ap (λ (t : Series). sheetBy f t settings (s .values) (entriesIn f s)) of,
+    )
 
-series-lf : (k : Series) (l : List ℕ) → hasNoLf (seriesLine k ++ l) ≡ false
-unfolding every
-series-lf Tps100 l = refl
-series-lf Tps300 l = refl
+after-series : (a b c d : List ℕ) → ((a ++ b) ++ c) ++ d ≡ a ++ (b ++ (c ++ d))
+after-series a b c d = simp append-assoc
 
-module _ (k : Series) (input : List ℕ) (at : ℕ) (told : loadingOf k input ≡ wrong at) where
-  b : Broken k input at
-  b = broken k input at told
+-- where the first sheet is the beginning of the second
+begins-series : (f : Form) (s : State) (k : Series) (settings : List ℕ) (values : List Value) (entries : List Entry) (more : List ℕ)
+    → sheetAs f s ++ more ≡ sheetBy f k settings values entries → s .series ≡ k
+begins-series f s k settings values entries more e =
+    let t = s .series in
+    let body = bodyBy t (held t (s .settings)) (s .values) in
+    let tail = tailBy f t (entriesIn f s) in
+    series-apart t k _ _
+    (sym (after-series (seriesLine t) _ tail more)
+    ∙ form-off f _ _ (sym (append-assoc (formLine f) (body ++ tail) more) ∙ ap (λ (l : List ℕ). l ++ more) (sym (sheet-by f s)) ∙ e)
+    ∙ append-assoc (seriesLine k) _ (tailBy f k entries))
 
-  front-is : take at input ≡ b .front
-  front-is = ap (take at) (b .is) ∙ take-at (b .front) (drop at input) at (sym (b .here))
+module _ (k : Series) (input : List ℕ) (at : ℕ) (b : Broken (formIn input) k input at) where
+  abbrev own : Form
+  own = formIn input
+
+  abbrev front : List ℕ
+  front = b .front
+
+  abbrev rest : List ℕ
+  rest = drop at input
+
+  front-is : take at input ≡ front
+  front-is = ap (take at) (b .parted .is) ∙ take-at front rest at (sym (b .parted .here))
 
   inside : at ≤ length input
-  inside = omega (arith, b .here, ap length (b .is), length-append (b .front) (drop at input))
+  inside = omega (arith, b .parted .here, ap length (b .parted .is), length-append front rest)
 
-  own-sheet : (s : State) → isState s ≡ true → s .series ≡ k → sheetOf s ≡ input → ⊥
-  own-sheet s e of is = wrong-right at _ _ (sym told ∙ sym (λ j. loadingOf (of j) (is j)) ∙ sheet-loads s e)
+  -- a sheet that begins with the bytes before the place goes on otherwise
+  goes-on : (s : State) → isLined s ≡ true → s .series ≡ k → (x : List ℕ) → front ++ x ≡ sheetAs own s → Apart x rest
+  goes-on s e of x q = let t = as-lined own k s e of in b .apart _ _ _ (t .0) x (q ∙ t .1)
 
-  -- a sheet of the other series is wrong at once, where an LF stands
-  no-sheet : hasNoLf (drop at input) ≡ true → (s : State) → isState s ≡ true → sheetOf s ≡ input → ⊥
-  unfolding sheetOf
-  no-sheet none s e is =
-      let t = s .series in
-      by-test (startsWith (seriesLine k) (sheetOf s))
-      (λ y. own-sheet s e (series-apart t k _ _ (starts-parted (seriesLine k) (sheetOf s) y)) is)
-      (λ n.
-      let first : wrong 0 ≡ wrong at = sym (rw n) ∙ ap (loadingOf k) is ∙ told in
-      let start : at ≡ 0 = cc in
-      false≢true (sym (series-lf t _) ∙ ap hasNoLf (is ∙ sym (ap (λ (i : ℕ). drop i input) start)) ∙ none))
+  no-own : (s : State) → isLined s ≡ true → s .series ≡ k → sheetAs own s ≡ input → ⊥
+  no-own s e of is = by (goes-on s e of rest (sym (b .parted .is) ∙ sym is))
+    where
+      by : Apart rest rest → ⊥
+      by (over q h) = omega (arith, ap length q)
+      by (on line more q p none) = false≢true (sym none ∙ ap (startsWith line) q ∙ starts-append line more)
 
-  no-line : hasNoLf (drop at input) ≡ false → NoneBegins k (take (at + lineN (drop at input)) input)
-  no-line some s e of =
-      let rest = drop at input in
+  no-sheet : hasNoLf rest ≡ true → (f : Form) (s : State) → isLined s ≡ true → sheetAs f s ≡ input → ⊥
+  no-sheet none f s e is =
+      let same : f ≡ own = sym (form-in f s) ∙ ap formIn is in
+      let as-own : sheetAs own s ≡ input = subst (λ (g : Form). sheetAs g s ≡ input) same is in
+      let whole : areLines input ≡ true = ap areLines (sym is ∙ sheet-by f s) ∙ sheet-lines (s .series) f _ _ _ (lined-as f s e) in
+      by-test (ltb 0 (length rest))
+      (λ y.
+      let some = ltb-true 0 (length rest) y in
+      false≢true (sym (lines-lf rest some (lines-end front rest some (ap areLines (sym (b .parted .is)) ∙ whole))) ∙ none))
+      (λ y.
+      let all : input ≡ front = b .parted .is ∙ ap (λ (l : List ℕ). front ++ l) (empty rest (omega (arith, ltb-false 0 (length rest) y))) ∙ append-nil front in
+      no-own s e (begins-series own s k _ _ _ (b .more) (ap (λ (l : List ℕ). l ++ b .more) (as-own ∙ all) ∙ b .whole)) as-own)
+    where
+      empty : (l : List ℕ) → length l ≡ 0 → l ≡ []
+      empty [] h = refl
+      empty (x ∷ l) h = absurd (omega arith)
+
+  no-line : hasNoLf rest ≡ false → NoneBegins k (take (at + lineN rest) input)
+  no-line some f s e of =
       let n = lineN rest in
       let line = take n rest in
+      let lf = first-line rest some in
       let bytes = take (at + n) input in
-      by-test (startsWith bytes (sheetOf s))
+      let split : bytes ≡ front ++ line = take-add at n input ∙ ap (λ (l : List ℕ). l ++ line) front-is in
+      let more = drop (length bytes) (sheetAs f s) in
+      by-test (startsWith bytes (sheetAs f s))
       (λ y.
-      let named = as-named k s e of in
-      let split : bytes ≡ b .front ++ line = take-add at n input ∙ ap (λ (l : List ℕ). l ++ line) front-is in
-      let more = drop (length bytes) (sheetOf s) in
-      let whole : b .front ++ (line ++ more) ≡ sheetOf s =
-      sym (append-assoc (b .front) line more) ∙ ap (λ (l : List ℕ). l ++ more) (sym split) ∙ sym (starts-parted bytes (sheetOf s) y) in
+      let parted : sheetAs f s ≡ bytes ++ more = starts-parted bytes (sheetAs f s) y in
+      let lines : areLines bytes ≡ true = ap areLines split ∙ lines-more front line (b .lined) (one-lines line lf) in
+      let long : 0 < length line = omega (arith, ap length (lf .is), length-append (lf .body) (10 ∷ [])) in
+      let same : own ≡ f =
+      ap formIn (sym (take-append-drop (at + n) input))
+      ∙ form-told f s bytes more (drop (at + n) input) (omega (arith, ap length split, length-append front line)) lines (sym parted) in
+      let whole : front ++ (line ++ more) ≡ sheetAs own s =
+      sym (append-assoc front line more)
+      ∙ ap (λ (l : List ℕ). l ++ more) (sym split)
+      ∙ sym parted
+      ∙ ap (λ (g : Form). sheetAs g s) (sym same) in
       let stands : startsWith line rest ≡ true = ap (startsWith line) (sym (take-append-drop n rest)) ∙ starts-append line (drop n rest) in
-      absurd (b .apart _ _ (named .0) line more (first-line rest some) stands (whole ∙ named .1)))
+      absurd (by line more lf long stands (goes-on s e of (line ++ more) whole)))
       (λ y. y)
+    where
+      by : (line more : List ℕ) → OneLf line → 0 < length line → startsWith line rest ≡ true → Apart (line ++ more) rest → ⊥
+      by line more lf long stands (over q h) = omega (arith, ap length q, length-append line more)
+      by line more lf long stands (on other after q p none) =
+          false≢true (sym none ∙ ap (λ (w : List ℕ). startsWith w rest) (sym (one-line line other more after lf p q .0)) ∙ stands)
 
-  no-byte : (s : State) → isState s ≡ true → s .series ≡ k → take at input ≡ sheetOf s → NoneBegins k (take (suc at) input)
-  no-byte s e of is t f on =
+  no-byte : (f : Form) (s : State) → isLined s ≡ true → s .series ≡ k → take at input ≡ sheetAs f s → NoneBegins k (take (suc at) input)
+  no-byte f s e of is g t d on-it =
       let bytes = take (suc at) input in
+      let sheet : front ≡ sheetAs f s = sym front-is ∙ is in
+      let some : 0 < length front = omega (arith, ap length sheet, sheet-some f s) in
+      let same : own ≡ f = ap formIn (b .parted .is) ∙ form-told f s front [] rest some (b .lined) (append-nil front ∙ sheet) in
+      let as-own : front ≡ sheetAs own s = sheet ∙ ap (λ (h : Form). sheetAs h s) (sym same) in
       by-test (eqb at (length input))
-      (λ q. absurd (own-sheet s e of (sym is ∙ take-all at input (omega (arith, eqb-true at (length input) q)))))
+      (λ q. absurd (no-own s e of (sym as-own ∙ sym front-is ∙ take-all at input (omega (arith, eqb-true at (length input) q)))))
       (λ q.
-      by-test (startsWith bytes (sheetOf t))
+      by-test (startsWith bytes (sheetAs g t))
       (λ y.
-      let one = as-named k s e of in
-      let two = as-named k t f on in
       let byte = getD input at 0 ∷ [] in
-      let more = drop (length bytes) (sheetOf t) in
+      let more = drop (length bytes) (sheetAs g t) in
       let below : at < length input = omega (arith, inside, eqb-false at (length input) q) in
-      let split : bytes ≡ sheetOf s ++ byte = take-suc input at 0 below ∙ ap (λ (l : List ℕ). l ++ byte) is in
-      let whole : sheetOf s ++ (byte ++ more) ≡ sheetOf t =
-      sym (append-assoc (sheetOf s) byte more) ∙ ap (λ (l : List ℕ). l ++ more) (sym split) ∙ sym (starts-parted bytes (sheetOf t) y) in
-      let none = no-more k _ _ _ _ (byte ++ more) (one .0) (two .0) (ap (λ (l : List ℕ). l ++ (byte ++ more)) (sym (one .1)) ∙ whole ∙ two .1) in
+      let split : bytes ≡ front ++ byte = take-suc input at 0 below ∙ ap (λ (l : List ℕ). l ++ byte) front-is in
+      let whole : front ++ (byte ++ more) ≡ sheetAs g t =
+      sym (append-assoc front byte more) ∙ ap (λ (l : List ℕ). l ++ more) (sym split) ∙ sym (starts-parted bytes (sheetAs g t) y) in
+      let also : own ≡ g = ap formIn (b .parted .is) ∙ form-told g t front (byte ++ more) rest some (b .lined) whole in
+      let one = as-lined own k s e of in
+      let two = as-lined own k t d on-it in
+      let none = no-more k own _ _ _ _ _ _ (byte ++ more) (one .0) (two .0)
+      (ap (λ (l : List ℕ). l ++ (byte ++ more)) (sym (as-own ∙ one .1)) ∙ whole ∙ ap (λ (h : Form). sheetAs h t) (sym also) ∙ two .1) in
       absurd (omega (arith, ap length none, length-append byte more)))
       (λ y. y))
 
-  pub loading-first-wrong : FirstWrong k input at
-  loading-first-wrong = record {
+  pub first-wrong : FirstWrong k input at
+  first-wrong = record {
     within = inside;
     lines = ap areLines front-is ∙ b .lined;
-    before = subst (λ (l : List ℕ). Begun k l) (sym front-is) (b .begun);
+    before = record {
+      form = own;
+      state = loadedState k (b .settings) (b .values) (b .entries);
+      is = shown-lined own k (b .settings) (b .values) (b .entries) (b .shown);
+      of = refl;
+      begins = ap (startsWith (take at input)) (sheet-back own k (b .settings) (b .values) (b .entries) (b .shown .named .settings-long) ∙ sym (b .whole))
+          ∙ rw front-is (starts-append front (b .more));
+    };
     unended = no-sheet;
     ended = no-line;
     surplus = no-byte;
   }
 
--- so of a load that 40 refuses
-pub loaded-first-wrong : (image sheet : List ℕ) (at : ℕ) → loaded image sheet .answer ≡ answer.Wrong at → FirstWrong (seriesIn image) sheet at
-loaded-first-wrong image sheet at e = by (loads-as image sheet)
+-- every 40 tells one of the two
+pub tells : (k : Series) (input : List ℕ) (at : ℕ) → loadingOf k input ≡ wrong at → Tells k input at
+tells k input at e = by (ways own k input)
   where
-    by : LoadsAs image sheet (loaded image sheet) → FirstWrong (seriesIn image) sheet at
-    by (lent-none i q) = let z : _≡_ {A = ℕ} 0 1 = cc (ap (λ (o : Loaded·image). o .answer) q) in absurd (omega arith)
-    by (lent-wrong n l q) = let same : n ≡ at = cc (ap (λ (o : Loaded·image). o .answer) q) in loading-first-wrong (seriesIn image) sheet at (l ∙ ap wrong same)
-    by (lent-right settings values l q) = let z : _≡_ {A = ℕ} 0 1 = cc (ap (λ (o : Loaded·image). o .answer) q) in absurd (omega arith)
+    own : Form
+    own = formIn input
+
+    to : (n : ℕ) → loadingOf k input ≡ wrong n → Broken own k input n → Tells k input at
+    to n q t =
+        let same : wrong n ≡ wrong at = sym q ∙ e in
+        let is : n ≡ at = cc in
+        subst (Tells k input) is (wrong-line (first-wrong k input n t))
+
+    as-two : {n : ℕ} → own ≡ Two → Broken Two k input n → Broken own k input n
+    as-two {n} two t = subst (λ (f : Form). Broken f k input n) (sym two) t
+
+    by : Ways own k input (loadingOf k input) → Tells k input at
+    by (other-form q o) = absurd (false≢true (sym o ∙ starts-own input))
+    by (other-series n q p o) = to n q (broken-series k input n own p o)
+    by (setting n g q p r less none) = to n q (broken-setting k input n own g p r less none)
+    by (value n g v q p long r rv less none) = to n q (broken-value k input n own g v p long r rv less none)
+    by (count n g v two q p named none) =
+        to n q (as-two two (broken-count k input n g v (subst (λ (f : Form). Parted (formLine f ++ bodyBy k g v) n input) two p) named none))
+    by (entry n g v m es two q p named few r less none) =
+        let after = bodyBy k g v ++ (countLine m ++ linesBy (entryLines k) 0 es) in
+        to n q (as-two two (broken-entry k input n g v m es (subst (λ (f : Form). Parted (formLine f ++ after) n input) two p) named few r less none))
+    by (surplus n g v es q p more l) = to n q (broken-surplus k input n own g v es p more l)
+    by (unlisted n g v es two q here all l not) =
+        let same : wrong n ≡ wrong at = sym q ∙ e in
+        let is : n ≡ at = cc in
+        let shown = loadedState k g v es in
+        let long = l .named .settings-long in
+        let sheet : sheetAs Two shown ≡ input = sheet-back Two k g v es long ∙ subst (λ (f : Form). sheetBy f k g v es ≡ input) two (sym all) in
+        let first : sheetOf shown ≡ bodyBy k g v = sym (sheet-one shown) ∙ sheet-back One k g v es long ∙ append-nil (bodyBy k g v) in
+        no-list (record {
+          shown = shown;
+          lined = shown-lined own k g v es l;
+          of = refl;
+          is = sheet;
+          here = sym is ∙ here ∙ ap (λ (f : Form). length (formLine f ++ bodyBy k g v)) two ∙ ap (λ (t : List ℕ). length (formLine Two ++ t)) (sym first);
+          none = λ s d j.
+              wrong-right at _ _ _ (sym e ∙ sym (λ i. loadingOf (one-series Two s shown (j ∙ sym sheet) i) (j i)) ∙ sheet-loads-of Two s d);
+        })
+    by (through g v es q all l is) = absurd (wrong-right at g v es (sym e ∙ q))
+
+-- as a sheet of the form that it doesn't start as, an input is wrong at its first line
+pub other-form-wrong : (f : Form) (k : Series) (input : List ℕ) → (formIn input ≡ f → ⊥) → loadingAs f k input ≡ wrong 0
+unfolding firstLines startsWith
+other-form-wrong f k input apart = by f k (startsWith (formLine Two) input) refl apart
+  where
+    by : (g : Form) (t : Series) (b : Bool) → startsWith (formLine Two) input ≡ b → (formIn input ≡ g → ⊥) → loadingAs g t input ≡ wrong 0
+    by One Tps100 true y not = ap (loadingAs One Tps100) (starts-parted (formLine Two) input y)
+    by One Tps300 true y not = ap (loadingAs One Tps300) (starts-parted (formLine Two) input y)
+    by One t false y not = absurd (not (rw y))
+    by Two t true y not = absurd (not (rw y))
+    by Two t false y not = rw y
+
+-- so of a load that 40 refuses
+pub loaded-tells : (image sheet : List ℕ) (at : ℕ) → loaded image sheet .answer ≡ answer.Wrong at → Tells (seriesIn image) sheet at
+loaded-tells image sheet at e = by (loads-as image sheet)
+  where
+    by : LoadsAs image sheet (loaded image sheet) → Tells (seriesIn image) sheet at
+    by (lent-none i q) = absurd (clash (cc (ap (λ (o : Loaded·image). o .answer) q)))
+    by (lent-wrong n l q) = let same : n ≡ at = cc (ap (λ (o : Loaded·image). o .answer) q) in tells (seriesIn image) sheet at (l ∙ ap wrong same)
+    by (lent-right settings values entries l q) = absurd (clash (cc (ap (λ (o : Loaded·image). o .answer) q)))
+
+-- and of a sheet to be moved: it is of that form, or of the other and wrong at its first line
+pub data MoveTells (f : Form) (sheet : List ℕ) (at : ℕ) : Type 0 where
+  of-form : formIn sheet ≡ f → Tells (seriesNamed f sheet) sheet at → MoveTells f sheet at
+  of-other : (formIn sheet ≡ f → ⊥) → at ≡ 0 → MoveTells f sheet at
+
+either-form : {P : Type 0} (f g : Form) → (f ≡ g → P) → ((f ≡ g → ⊥) → P) → P
+either-form One One same apart = same refl
+either-form One Two same apart = apart (λ e. clash (cc e))
+either-form Two One same apart = apart (λ e. clash (cc e))
+either-form Two Two same apart = same refl
+
+pub moved-tells : (f : Form) (sheet room : List ℕ) (at : ℕ) → movedSheet f sheet room .answer ≡ answer.Wrong at → MoveTells f sheet at
+moved-tells f sheet room at e = by (loadingAs f k sheet) refl
+  where
+    k : Series
+    k = seriesNamed f sheet
+
+    by : (l : Loading) → loadingAs f k sheet ≡ l → MoveTells f sheet at
+    by (wrong n) q =
+        let come : answer.Wrong n ≡ answer.Wrong at = sym (ap (λ (l : Loading). movedBy f k room l .answer) q) ∙ e in
+        let same : n ≡ at = cc in
+        either-form (formIn sheet) f (λ is. of-form is (tells k sheet at (ap (λ (g : Form). loadingAs g k sheet) is ∙ q ∙ ap wrong same)))
+        (λ apart.
+        let first : wrong n ≡ wrong 0 = sym q ∙ other-form-wrong f k sheet apart in
+        let start : n ≡ 0 = cc in
+        of-other apart (sym same ∙ start))
+    by (right settings values entries) q =
+        let t = loads-sheet f k sheet settings values entries q in
+        absurd (move-takes f sheet room .0 (loadedState k settings values entries, t .0, t .1) at e)

@@ -1,21 +1,23 @@
 -- Laws of the keys that the rows of the tables hold, by one computed test of every row.
-use Prim.Native.Nat.{ℕ, _-_, _≤_, _<_}
-use mathlib.Core.Path.{_≡_, refl, sym}
+use Prim.Native.Nat.{ℕ, _+_, _-_, _≤_, _<_}
+use mathlib.Core.Path.{_≡_, refl, sym, ap, _∙_}
 use mathlib.Core.Bool.{Bool, true, false, cond, _&&_, and-eq-true-iff}
-use mathlib.Core.List.{List, [], _∷_}
+use mathlib.Core.List.{List, [], _∷_, _++_}
 use native.Mathlib.Nat.{sub-zero}
 use native.Mathlib.Omega.{arith}
-use borrow.Author.Tests.{eqb-true, leb-true, ltb-true}
+use borrow.Author.Tests.{eqb-true, eq-eqb, ne-eqb, leb-true}
 use borrow.Rule.Slice.PartMut.{midOf}
-use lib.Dec.{eqb, leb, ltb}
-use lib.ListN.{length, getD, take}
+use lib.Dec.{eqb, leb}
+use lib.ListN.{length, getD, take, length-append}
+use lib.Seq.{take-take, take-at}
+use Rattle.figures.specs.Text.{codes}
 use Rattle.figures.specs.Bytes.{startsWith, sameBytes}
 use Rattle.figures.specs.Decimal.{digitsOf, digitsNBy}
 use Rattle.figures.proofs.Bytes.{same-true}
-use Rattle.figures.proofs.Tests.{both, Even, along}
+use Rattle.figures.proofs.Tests.{Even, along}
 use Rattle.instrument.specs.Settings.{settingNumber, noRow, rows100, rows300, rowsOf, rowAt, settingsN}
 use Rattle.instrument.specs.Values.{noStored, stored, storedAt, indexNumber, valuesN}
-use Rattle.instrument.specs.Rows.{keyOf, keyBytes}
+use Rattle.instrument.specs.Rows.{nameOf, keyOf, keyBytes}
 use Rattle.instrument.proofs.Seek.{eachRow, row-tested}
 use Rattle.instrument.specs.declared.settings.Series.{Series}
 use Rattle.instrument.specs.declared.settings.Series.the-variants.{Tps100, Tps300}
@@ -56,6 +58,30 @@ key-most held = by (eqb (getD held 4 0) 0) (eqb (getD held 3 0) 0)
     by true false = omega arith
     by false fourth = omega arith
 
+-- one with a fifth byte has five, any other of four or more has four
+
+module _ (held : List ℕ) where
+  pub key-five : (getD held 4 0 ≡ 0 → ⊥) → keyLength held ≡ 5
+  key-five h = rw (ne-eqb (getD held 4 0) 0 h)
+
+  pub key-four : getD held 4 0 ≡ 0 → 4 ≤ keyLength held → keyLength held ≡ 4
+  key-four e = rw (eq-eqb (getD held 4 0) 0 e) (by (eqb (getD held 3 0) 0))
+    where
+      by : (fourth : Bool) → 4 ≤ cond fourth 3 4 → _≡_ {A = ℕ} (cond fourth 3 4) 4
+      by true h = omega (arith, h)
+      by false h = refl
+
+-- the name that a key is without its `=`
+
+module _ (name : List ℕ) {held : List ℕ} {most : ℕ} (k : Keyed held (name ++ codes "=") most) where
+  pub name-long : keyLength held ≡ length name + 1
+  name-long = k .long ∙ length-append name (codes "=")
+
+  pub name-is : take (keyLength held - 1) held ≡ name
+  name-is =
+      let n = keyLength held in
+      sym (take-take (n - 1) n held (omega arith)) ∙ ap (take (n - 1)) (k .is) ∙ take-at name (codes "=") (n - 1) (omega (arith, name-long))
+
 -- the settings' rows
 
 abbrev settingKeyed : Row → Bool
@@ -95,12 +121,20 @@ values-keyed = (refl, refl)
 pub value-keyed : (i : ℕ) → Keyed (storedAt i .key) (valueKey i) 4
 value-keyed i = keyed (storedAt i .key) (valueKey i) 4 (row-tested valueKeyed stored noStored (values-keyed .0) (values-keyed .1) i)
 
--- a value's is the first four of the bytes that its row holds
+-- a value's name is the first three of the bytes that its row holds
 
-abbrev pub firstFour : List ℕ → List ℕ
-firstFour l = getD l 0 0 ∷ getD l 1 0 ∷ getD l 2 0 ∷ getD l 3 0 ∷ []
+abbrev pub valueName : ℕ → List ℕ
+valueName i = nameOf "v" (indexNumber (storedAt i))
 
-pub value-key : (i : ℕ) → i < valuesN → valueKey i ≡ firstFour (storedAt i .key)
-unfolding stored digitsOf digitsNBy startsWith
-value-key i h =
-    same-true (valueKey i) (firstFour (storedAt i .key)) (sym (along (λ j. sameBytes (valueKey j) (firstFour (storedAt j .key))) 0 valuesN refl (omega arith) h))
+abbrev pub firstThree : List ℕ → List ℕ
+firstThree l = getD l 0 0 ∷ getD l 1 0 ∷ getD l 2 0 ∷ []
+
+module _ (i : ℕ) (h : i < valuesN) where
+  pub value-name : valueName i ≡ firstThree (storedAt i .key)
+  unfolding stored digitsOf digitsNBy startsWith
+  value-name =
+      same-true (valueName i) (firstThree (storedAt i .key))
+      (sym (along (λ j. sameBytes (valueName j) (firstThree (storedAt j .key))) 0 valuesN refl (omega arith) h))
+
+  pub value-key-long : length (valueKey i) ≡ 4
+  value-key-long = omega (arith, length-append (valueName i) (codes "="), ap length value-name)

@@ -10,7 +10,7 @@ use borrow.Author.Tests.{ltb-true, lt-ltb, le-ltb}
 use lib.Dec.{ltb}
 use lib.ListN.{length, getD, take, drop, length-append, take-append-drop, drop-of-length-le}
 use lib.Seq.{take-suc, take-all, drop-cons, length-take-le}
-use Rattle.figures.specs.Text.{codes}
+use Rattle.figures.specs.Text.{codes, byte}
 use Rattle.figures.specs.Decimal.{digitsOf, digitsNBy, digitsN, decimalOf}
 use Rattle.figures.specs.Rooms.{Puts}
 use Rattle.figures.proofs.Decimal.{digits-length}
@@ -26,7 +26,8 @@ use Rattle.instrument.specs.declared.values.Kept.the-variants.{Never, Put}
 use Rattle.state.specs.declared.entries.State.{State}
 use Rattle.sheets.specs.Lines.{LinesOf, linesBy}
 use Rattle.sheets.specs.Sheet.{seriesLine, settingKey, settingLines, charactersN, charactersOf, valueKey, keptLine, valueLines, sheetOf}
-use Rattle.sheets.specs.Keeping.{keysN}
+use Rattle.sheets.specs.Keeping.{keysN, keptText}
+use Rattle.sheets.proofs.Keyed.{valueName}
 
 -- one line more, whatever a line is
 
@@ -118,11 +119,19 @@ pub setting-long : (k : Series) (i p : ℕ) → length (settingLines k .write i 
 setting-long k i p =
     omega (arith, length-append (settingKey (rowAt k i)) (decimalOf p ++ codes "\n"), length-append (decimalOf p) (codes "\n"), digits-length (digitsN p) p)
 
-pub kept-long : (i : ℕ) (k : Kept) → length (keptLine i k) ≡ length (valueKey i) + 1 + charactersN * cond (isPut k) 1 0
-kept-long i Never = omega (arith, length-append (valueKey i) (codes "\n"))
-kept-long i (Put u m d) =
+-- a value's name, a separator, what was put, LF
+
+pub text-long : (i separator : ℕ) (k : Kept) → length (keptText i separator k) ≡ length (valueName i) + 2 + charactersN * cond (isPut k) 1 0
+text-long i separator Never = omega (arith, length-append (valueName i) (separator ∷ codes "\n"))
+text-long i separator (Put u m d) =
     let c = charactersOf i (Put u m d) in
-    omega (arith, length-append (valueKey i) (c ++ codes "\n"), length-append c (codes "\n"))
+    omega (arith, length-append (valueName i) (separator ∷ (c ++ codes "\n")), length-append c (codes "\n"))
+
+pub kept-text : (i : ℕ) (k : Kept) → keptLine i k ≡ keptText i (byte "=") k
+kept-text i k = append-assoc (valueName i) (codes "=") (charactersOf i k ++ codes "\n")
+
+pub kept-long : (i : ℕ) (k : Kept) → length (keptLine i k) ≡ length (valueKey i) + 1 + charactersN * cond (isPut k) 1 0
+kept-long i k = omega (arith, ap length (kept-text i k), text-long i (byte "=") k, length-append (valueName i) (codes "="))
 
 -- the lines of the settings before the place i, and the keys and LFs of those from there on
 

@@ -16,12 +16,15 @@ use Rattle.state.proofs.Images.{factory-is-state}
 use Rattle.lines.specs.Sessions.{Call, after, inRoom}
 use Rattle.lines.proofs.States.{after-state}
 use Rattle.lines.proofs.Hosted.{hosted}
-use Rattle.sheets.specs.Sheet.{sheetOf, Sheet·room, sheetInRoom, writtenSheet, WritesSheet}
+use Rattle.sheets.specs.Sheet.{sheetOf}
+use Rattle.sheets.specs.Writing.{Sheet·room, sheetInRoom, writtenSheet, WritesSheet}
 use Rattle.pieces.specs.Pieces.{pieces}
 use Rattle.sheets.specs.Playing.{callOf, refusedInput, inputMost, printed, Prints}
 use Rattle.sheets.specs.Keeping.{lentOf, runBy}
+use Rattle.sheets.specs.declared.forms.Form.the-variants.{One}
 use Rattle.sheets.specs.declared.answers.Sheeted.{Sheeted}
-use Rattle.sheets.specs.declared.answers.Sheeted.the-variants.{NoState, Room, Wrong, Written, Loaded}
+use Rattle.sheets.specs.declared.answers.Sheeted.the-variants.{NoState, Room, Wrong, Standing, Written, Loaded}
+use Rattle.sheets.proofs.Sheets.{sheet-one}
 use Rattle.sheets.proofs.Images.{image-writes}
 
 -- the program plays a TPS100
@@ -47,12 +50,12 @@ printed-refused input h = rw (lt-leb (length input) inputMost h)
 
 -- what the write of the image that the pieces are run to comes to
 pub write-printed : (input image room room′ : List ℕ) (answer : Sheeted) → length input ≤ inputMost → image ≡ runBy (pieces input) (imageOf factory100)
-    → WritesSheet image room answer room′ → (answer ≡ sheetInRoom (printed input) room .answer) × (room′ ≡ sheetInRoom (printed input) room .room)
+    → WritesSheet One image room answer room′ → (answer ≡ sheetInRoom (printed input) room .answer) × (room′ ≡ sheetInRoom (printed input) room .room)
 write-printed input image room room′ answer h ei w =
     let is : image ≡ imageOf (reached input) = ei ∙ run-after (pieces input) factory100 (factory-is-state Tps100) in
-    let out : writtenSheet image room ≡ sheetInRoom (printed input) room =
-    ap (λ (i : List ℕ). writtenSheet i room) is ∙ image-writes (reached input) room (reached-state input)
-    ∙ ap (λ (l : List ℕ). sheetInRoom l room) (sym (printed-sheet input h))
+    let out : writtenSheet One image room ≡ sheetInRoom (printed input) room =
+    ap (λ (i : List ℕ). writtenSheet One i room) is ∙ image-writes One (reached input) room (reached-state input)
+    ∙ ap (λ (l : List ℕ). sheetInRoom l room) (sheet-one (reached input) ∙ sym (printed-sheet input h))
     in
     (w .0 ∙ ap (λ (o : Sheet·room). o .answer) out, w .1 ∙ ap (λ (o : Sheet·room). o .room) out)
 
@@ -63,6 +66,7 @@ abbrev pub writtenN : Sheeted → ℕ
 writtenN NoState = 0
 writtenN Room = 0
 writtenN (Wrong at) = 0
+writtenN (Standing at) = 0
 writtenN (Written n) = n
 writtenN Loaded = 0
 
@@ -79,7 +83,7 @@ fitted-tells sheet room = by (leb (length sheet) (length room))
     by false = (refl, refl)
 
 pub plays-printed : (input image room room′ : List ℕ) (answer : Sheeted) (r : ℕ) → length input ≤ inputMost → image ≡ runBy (pieces input) (imageOf factory100)
-    → WritesSheet image room answer room′ → r ≡ writtenN answer → Prints input room r room′
+    → WritesSheet One image room answer room′ → r ≡ writtenN answer → Prints input room r room′
 plays-printed input image room room′ answer r h ei w er =
     let p = write-printed input image room room′ answer h ei w in
     let t = fitted-tells (printed input) room in

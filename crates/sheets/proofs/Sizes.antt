@@ -1,33 +1,48 @@
--- The length of a sheet: its least and its greatest, by the tables of its series.
+-- The length of a sheet in either form: its least and its greatest, by the tables of its series.
 use Prim.Native.Nat.{ℕ, zero, suc, _+_, _*_, _/_, _≤_, _<_}
-use mathlib.Core.Path.{_≡_, refl, ap}
-use mathlib.Core.Bool.{true, false, cond}
+use mathlib.Core.Path.{_≡_, refl, ap, _∙_}
+use mathlib.Core.Bool.{true, false, cond, not, false≢true}
 use mathlib.Core.List.{List, [], _∷_, _++_, map}
 use native.Mathlib.Omega.{arith}
-use borrow.Author.Tests.{lt-ltb, le-ltb, ltb-false}
-use lib.Dec.{ltb}
+use borrow.Author.Tests.{lt-ltb, le-ltb, leb-true, ltb-false}
+use lib.Dec.{leb, ltb}
 use lib.ListN.{length, replicate, length-append}
+use Rattle.figures.specs.Text.{codes}
 use Rattle.figures.specs.Bytes.{among, every}
-use Rattle.figures.specs.Decimal.{digitsOf, digitsNBy, digitsN, numberFrom}
+use Rattle.figures.specs.Decimal.{digitsOf, digitsNBy, digitsN, decimalOf, numberFrom}
+use Rattle.figures.proofs.Decimal.{digits-length}
 use Rattle.figures.proofs.Tests.{both, by-test}
-use Rattle.instrument.specs.Settings.{rows100, rows300, rowAt, held, inRange, inRanges, settingsN}
+use Rattle.instrument.specs.Rows.{nameOf}
+use Rattle.instrument.specs.Settings.{noRow, rows100, rows300, rowsOf, rowAt, settingNumber, isAsked, held, inRange, inRanges, settingsN}
 use Rattle.instrument.specs.Settings as rows
-use Rattle.instrument.specs.Values.{stored, isPut, valuesN}
-use Rattle.state.specs.Entries.{valueOf, noEntries, factoryState, valuesRight, allBlank, rightBack, isState}
+use Rattle.instrument.specs.Values.{noStored, stored, storedAt, indexNumber, isPut, valuesN}
+use Rattle.state.specs.Entries.{entriesN, valueOf, entryOf, withEntries, factoryState, isNever, allBlank, valuesRight, settable, itemRight, entryRight}
+use Rattle.state.specs.Entries.{rightBack, isState}
 use Rattle.instrument.specs.declared.settings.Row.{Row}
 use Rattle.instrument.specs.declared.settings.Series.{Series}
 use Rattle.instrument.specs.declared.settings.Series.the-variants.{Tps100, Tps300}
 use Rattle.instrument.specs.declared.values.Kept.{Kept}
 use Rattle.instrument.specs.declared.values.Kept.the-variants.{Never, Put}
+use Rattle.instrument.specs.declared.values.Stored.{Stored}
 use Rattle.instrument.specs.declared.values.Value.{Value}
+use Rattle.state.specs.declared.entries.Item.{Item}
+use Rattle.state.specs.declared.entries.Item.the-variants as item
+use Rattle.state.specs.declared.entries.Former.{Former}
+use Rattle.state.specs.declared.entries.Entry.{Entry}
 use Rattle.state.specs.declared.entries.State.{State}
 use Rattle.instrument.proofs.Ranges.{range-high, rows-high, range-byte}
+use Rattle.instrument.proofs.Seek.{eachRow, row-tested}
 use Rattle.sheets.specs.Lines.{LinesOf, linesBy}
-use Rattle.sheets.specs.Sheet.{seriesLine, settingKey, settingLines, charactersN, valueKey, valueLines, sheetOf}
+use Rattle.sheets.specs.Sheet.{seriesLine, settingKey, settingLines, charactersN, charactersOf, valueKey, valueLines, sheetOf}
+use Rattle.sheets.specs.Undo.{formLine, countKey, countLine, itemKey, formerText, entryLine, entryLines, entriesOf, listText, undoText, sheetAs}
+use Rattle.sheets.specs.FirstWrong.{isLined}
 use Rattle.sheets.specs.Keeping.{sheetMost}
+use Rattle.sheets.specs.declared.forms.Form.{Form}
+use Rattle.sheets.specs.declared.forms.Form.the-variants.{One, Two}
 use Rattle.sheets.proofs.Linewise.{short-decimal, setting-long, kept-long}
 use Rattle.sheets.proofs.Partwise.{rightBy}
-use Rattle.sheets.proofs.Says.{state-named}
+use Rattle.sheets.proofs.Says.{Listed}
+use Rattle.sheets.proofs.Lined.{lined-named, lined-listed, state-lined}
 
 -- a size of each thing, added up
 unfoldable pub totalOf : {A : Type 0} → (A → ℕ) → List A → ℕ
@@ -148,7 +163,7 @@ unfolding totalFrom rows100 stored digitsOf digitsNBy
 sizes-100 = (refl, refl)
 
 -- and of a TPS300, whose greatest is the longest of all
-pub sizes-300 : (sheetLeast Tps300 ≡ 263) × (sheetGreatest Tps300 ≡ sheetMost)
+pub sizes-300 : (sheetLeast Tps300 ≡ 263) × (sheetGreatest Tps300 ≡ sheetMost One)
 unfolding totalFrom rows300 stored digitsOf digitsNBy
 sizes-300 = (refl, refl)
 
@@ -157,14 +172,14 @@ series-long Tps100 = refl
 series-long Tps300 = refl
 
 -- a sheet by the values that are put
-sheet-between : (s : State) → isState s ≡ true →
+sheet-between : (s : State) → isLined s ≡ true →
     let k = s .series in
     let put = charactersN * putsN (s .values) in
     (sheetLeast k + put ≤ length (sheetOf s)) × (length (sheetOf s) ≤ length (seriesLine k) + settingsGreatest k + valuesLeast + put)
 unfolding sheetOf
 sheet-between s e =
     let k = s .series in
-    let n = state-named s e in
+    let n = lined-named s e in
     let g = linesBy (settingLines k) 0 (held k (s .settings)) in
     let v = linesBy valueLines 0 (s .values) in
     let settings = lines-between (settingLines k) (λ i. settingHere k i + 1) (settingMost k) (λ got. setting-sized k) [] 0
@@ -177,13 +192,154 @@ sheet-between s e =
     let both = length-append g v in
     (omega (arith, all, both, few, put), omega (arith, all, both, many, put))
 
+lined-least : (s : State) → isLined s ≡ true → sheetLeast (s .series) ≤ length (sheetOf s)
+lined-least s e = omega (arith, sheet-between s e .0)
+
+lined-most : (s : State) → isLined s ≡ true → length (sheetOf s) ≤ sheetGreatest (s .series)
+lined-most s e = omega (arith, sheet-between s e .1, puts-few (s .values), lined-named s e .values-long)
+
 pub sheet-least : (s : State) → isState s ≡ true → sheetLeast (s .series) ≤ length (sheetOf s)
-sheet-least s e = omega (arith, sheet-between s e .0)
+sheet-least s e = lined-least s (state-lined s e)
 
 pub sheet-most : (s : State) → isState s ≡ true → length (sheetOf s) ≤ sheetGreatest (s .series)
-sheet-most s e = omega (arith, sheet-between s e .1, puts-few (s .values), state-named s e .values-long)
+sheet-most s e = lined-most s (state-lined s e)
 
--- and there are sheets of these lengths: the factory's, and one of the highest parameters with each value put
+-- a TPS100's has 187 bytes, and 15 more for each value that is put, whatever its settings
+pub sheet-size : (s : State) → isState s ≡ true → s .series ≡ Tps100 → length (sheetOf s) ≡ 187 + 15 * putsN (s .values)
+sheet-size s e is =
+    let between = sheet-between s (state-lined s e) in
+    omega (arith, between .0, between .1, ap sheetLeast is, ap sheetGreatest is, sizes-100)
+
+-- the undo list
+
+-- the longest line of an entry, a value's that was put
+abbrev pub entryMost : ℕ
+entryMost = 22
+
+-- the names of a setting and of a value have at most four bytes and three
+names-short : (k : Series) → (leb (length (nameOf "s" (settingNumber noRow))) 4 ≡ true)
+    × (eachRow (λ (r : Row). leb (length (nameOf "s" (settingNumber r))) 4) (rowsOf k) ≡ true)
+unfolding eachRow rows100 rows300 digitsOf digitsNBy
+names-short Tps100 = (refl, refl)
+names-short Tps300 = (refl, refl)
+
+name-short : (k : Series) (i : ℕ) → length (nameOf "s" (settingNumber (rowAt k i))) ≤ 4
+name-short k i =
+    let t = names-short k in leb-true _ 4 (row-tested (λ (r : Row). leb (length (nameOf "s" (settingNumber r))) 4) (rowsOf k) noRow (t .0) (t .1) i)
+
+index-short : (i : ℕ) → length (nameOf "v" (indexNumber (storedAt i))) ≤ 3
+unfolding eachRow stored digitsOf digitsNBy
+index-short i = leb-true _ 3 (row-tested (λ (r : Stored). leb (length (nameOf "v" (indexNumber r))) 3) stored noStored refl refl i)
+
+characters-few : (i : ℕ) (w : Kept) → length (charactersOf i w) ≤ charactersN
+characters-few i Never = omega arith
+characters-few i (Put u m d) = omega arith
+
+-- a key of at most so many bytes between `u=` and the colon, and what was there
+entry-long : (name text : List ℕ) → length ((codes "u=" ++ (name ++ codes ":")) ++ (text ++ codes "\n")) ≡ length name + length text + 4
+entry-long name text =
+    omega (arith, length-append (codes "u=" ++ (name ++ codes ":")) (text ++ codes "\n"), length-append name (codes ":"), length-append text (codes "\n"))
+
+entry-sized : (k : Series) (e : Entry) → entryRight k e ≡ true → length (entryLine k e) ≤ entryMost
+entry-sized k e r = by (e .item) (e .former) r
+  where
+    by : (x : Item) (f : Former) → itemRight k x (f .parameter) (f .kept) ≡ true → length (itemKey k x ++ (formerText x f ++ codes "\n")) ≤ entryMost
+    by item.Free f r = absurd (false≢true r)
+    by (item.Setting i) f r =
+        let p = f .parameter in
+        let name = nameOf "s" (settingNumber (rowAt k i)) in
+        let settled = both (settable k i p) (isNever (f .kept)) r .0 in
+        let ranged = both (not (isAsked (rowAt k i))) (inRange (rowAt k i) p) (both (ltb i (settingsN k)) _ settled .1) .1 in
+        let small : p < 1000 = omega (arith, range-byte k i p ranged) in
+        omega (arith, entry-long name (decimalOf p), name-short k i, digits-length (digitsN p) p, short-decimal p small .0)
+    by (item.Stored i) f r =
+        let name = nameOf "v" (indexNumber (storedAt i)) in
+        omega (arith, entry-long name (charactersOf i (f .kept)), index-short i, characters-few i (f .kept))
+
+total-same : (m i n : ℕ) → totalFrom (λ j. m) i n ≡ m * n
+unfolding totalFrom
+total-same m i zero = omega arith
+total-same m i (suc n) = omega (arith, total-same m (i + 1) n)
+
+count-long : (n : ℕ) → length (countLine n) ≡ digitsN n + 6
+count-long n = omega (arith, length-append countKey (decimalOf n ++ codes "\n"), length-append (decimalOf n) (codes "\n"), digits-length (digitsN n) n)
+
+-- a list's text: with none and with all
+abbrev pub listLeast : ℕ
+listLeast = length (countLine 0)
+
+abbrev pub listGreatest : ℕ
+listGreatest = length (countLine entriesN) + entryMost * entriesN
+
+list-between : (k : Series) (entries : List Entry) → Listed k entries → (listLeast ≤ length (listText k entries)) × (length (listText k entries) ≤ listGreatest)
+unfolding digitsNBy
+list-between k entries l =
+    let n = length entries in
+    let lines = lines-between (entryLines k) (λ i. 0) (λ i. entryMost) (λ got i e r. (omega arith, entry-sized k e r)) [] 0 entries (l .each) in
+    let all = length-append (countLine n) (linesBy (entryLines k) 0 entries) in
+    let some = digits-some n (omega (arith, l .few)) in
+    let up = digits-up n entriesN (l .few) (omega arith) in (
+      omega (arith, all, count-long 0, count-long n, some, nought),
+      omega (arith, all, count-long entriesN, count-long n, up, lines .1, total-same entryMost 0 n, l .few),
+    )
+  where
+    nought : digitsN 0 ≡ 1
+    nought = refl
+
+-- either form's
+abbrev pub leastAs : Form → Series → ℕ
+leastAs One k = sheetLeast k
+leastAs Two k = length (formLine Two) + sheetLeast k + listLeast
+
+abbrev pub greatestAs : Form → Series → ℕ
+greatestAs One k = sheetGreatest k
+greatestAs Two k = length (formLine Two) + sheetGreatest k + listGreatest
+
+-- "187 to 352 bytes" grow to 201 and 1,775, and those of a TPS300 to 277 and 1,864
+pub sizes-two-100 : (leastAs Two Tps100 ≡ 201) × (greatestAs Two Tps100 ≡ 1775)
+unfolding digitsOf digitsNBy
+sizes-two-100 = (omega (arith, sizes-100), omega (arith, sizes-100))
+
+pub sizes-two-300 : (leastAs Two Tps300 ≡ 277) × (greatestAs Two Tps300 ≡ sheetMost Two)
+unfolding digitsOf digitsNBy
+sizes-two-300 = (omega (arith, sizes-300), omega (arith, sizes-300))
+
+two-long : (s : State) → length (sheetAs Two s) ≡ length (formLine Two) + length (sheetOf s) + length (listText (s .series) (entriesOf s))
+unfolding sheetAs undoText
+two-long s =
+    let text = listText (s .series) (entriesOf s) in
+    omega (arith, length-append (formLine Two) (sheetOf s ++ text), length-append (sheetOf s) text)
+
+lined-between : (f : Form) (s : State) → isLined s ≡ true → (leastAs f (s .series) ≤ length (sheetAs f s)) × (length (sheetAs f s) ≤ greatestAs f (s .series))
+unfolding sheetAs
+lined-between One s e = (lined-least s e, lined-most s e)
+lined-between Two s e =
+    let list = list-between (s .series) (entriesOf s) (lined-listed s e) in
+    (omega (arith, two-long s, lined-least s e, list .0), omega (arith, two-long s, lined-most s e, list .1))
+
+pub least-as : (f : Form) (s : State) → isState s ≡ true → leastAs f (s .series) ≤ length (sheetAs f s)
+least-as f s e = lined-between f s (state-lined s e) .0
+
+pub most-as : (f : Form) (s : State) → isState s ≡ true → length (sheetAs f s) ≤ greatestAs f (s .series)
+most-as f s e = lined-between f s (state-lined s e) .1
+
+greatest-below : (f : Form) (k : Series) → greatestAs f k ≤ sheetMost f
+greatest-below One Tps100 = omega (arith, sizes-100)
+greatest-below One Tps300 = omega (arith, sizes-300)
+greatest-below Two Tps100 = omega (arith, sizes-two-100)
+greatest-below Two Tps300 = omega (arith, sizes-two-300)
+
+pub most-two : (f : Form) → sheetMost f ≤ sheetMost Two
+most-two One = omega arith
+most-two Two = omega arith
+
+pub lined-below : (f : Form) (s : State) → isLined s ≡ true → length (sheetAs f s) ≤ sheetMost f
+lined-below f s e = omega (arith, lined-between f s e .1, greatest-below f (s .series))
+
+pub sheet-below : (f : Form) (s : State) → isState s ≡ true → length (sheetAs f s) ≤ sheetMost f
+sheet-below f s e = lined-below f s (state-lined s e)
+
+-- and there are sheets of these lengths: the factory's, and one of the highest parameters with each value put and as many entries, each of a value that was put
 
 pub least-reached : (k : Series) → length (sheetOf (factoryState k)) ≡ sheetLeast k
 unfolding sheetOf linesBy totalFrom rows100 rows300 stored digitsOf digitsNBy
@@ -198,7 +354,8 @@ fullest k =
     let text = held-as 46 in
     let angle = held-as 50 in
     let long = held-as 48 in
-    noEntries k (map (λ (r : Row). r .highest) (rows.heldRows k)) (text ∷ text ∷ angle ∷ angle ∷ replicate 7 long)
+    withEntries k (map (λ (r : Row). r .highest) (rows.heldRows k)) (text ∷ text ∷ angle ∷ angle ∷ replicate 7 long)
+    (replicate entriesN (entryOf (item.Stored 0) 0 (text .kept)))
 
 pub fullest-state : (k : Series) → isState (fullest k) ≡ true
 unfolding rows100 rows300 stored inRanges valuesRight allBlank rightBack among every numberFrom
@@ -210,15 +367,12 @@ unfolding sheetOf linesBy totalFrom rows100 rows300 stored digitsOf digitsNBy
 greatest-reached Tps100 = refl
 greatest-reached Tps300 = refl
 
--- a TPS100's has 187 bytes, and 15 more for each value that is put, whatever its settings
-pub sheet-size : (s : State) → isState s ≡ true → s .series ≡ Tps100 → length (sheetOf s) ≡ 187 + 15 * putsN (s .values)
-sheet-size s e is =
-    let between = sheet-between s e in
-    omega (arith, between .0, between .1, ap sheetLeast is, ap sheetGreatest is, sizes-100)
+pub least-reached-as : (f : Form) (k : Series) → length (sheetAs f (factoryState k)) ≡ leastAs f k
+unfolding sheetAs linesBy digitsOf digitsNBy
+least-reached-as One k = least-reached k
+least-reached-as Two k = two-long (factoryState k) ∙ ap (λ n. length (formLine Two) + n + listLeast) (least-reached k)
 
-greatest-below : (k : Series) → sheetGreatest k ≤ sheetMost
-greatest-below Tps100 = omega (arith, sizes-100)
-greatest-below Tps300 = omega (arith, sizes-300)
-
-pub sheet-below : (s : State) → isState s ≡ true → length (sheetOf s) ≤ sheetMost
-sheet-below s e = omega (arith, sheet-most s e, greatest-below (s .series))
+pub greatest-reached-as : (f : Form) (k : Series) → length (sheetAs f (fullest k)) ≡ greatestAs f k
+unfolding sheetAs linesBy stored digitsOf digitsNBy
+greatest-reached-as One k = greatest-reached k
+greatest-reached-as Two k = two-long (fullest k) ∙ ap (λ n. length (formLine Two) + n + listGreatest) (greatest-reached k)

@@ -9,7 +9,7 @@ use native.Mathlib.Omega.{arith}
 use borrow.Author.Tests.{eqb-true, eqb-false, eq-eqb, ne-eqb, leb-true}
 use borrow.Rule.Slice.PartMut.{midOf}
 use lib.Dec.{eqb, leb}
-use lib.ListN.{length, getD, take, drop, drop-of-length-le, List·getD-eq-default}
+use lib.ListN.{length, getD, take, drop, length-append, drop-of-length-le, List·getD-eq-default}
 use lib.Seq.{drop-cons, drop-drop, drop-at, getD-drop}
 use Rattle.figures.specs.Text.{codes}
 use Rattle.figures.specs.Bytes.{startsWith}
@@ -28,14 +28,15 @@ use Rattle.instrument.specs.declared.values.Value.{Value}
 use Rattle.instrument.proofs.Kept.{elements}
 use Rattle.state.specs.Entries.{valueOf}
 use Rattle.sheets.specs.Sheet.{settingKey, saidBy, settingLines, charactersOf, valueKey, keptLine, keptSaid, valueLines}
-use Rattle.sheets.specs.Keeping.{keyLength, digitsFirst, saidOf, noSetting, settingTaken, noValue, valueTaken, putTaken}
+use Rattle.sheets.specs.Keeping.{keyLength, digitsFirst, saidOf, noNumber, numberTaken, noSetting, settingTaken, noValue, valueTaken, putStands}
 use Rattle.sheets.specs.declared.loading.Digits.{Digits}
+use Rattle.sheets.specs.declared.loading.Numbered.{Numbered}
 use Rattle.sheets.specs.declared.loading.Taken.{Taken}
 use Rattle.sheets.specs.declared.loading.TakenValue.{TakenValue}
 use Rattle.sheets.proofs.Keyed.{value-keyed}
 use Rattle.sheets.proofs.Linewise.{short-decimal, setting-long, kept-long}
 use Rattle.sheets.proofs.Partwise.{starts-parted, Turned, part-turned}
-use Rattle.sheets.proofs.Says.{digits-stand, digits-counted}
+use Rattle.sheets.proofs.Says.{digits-stand, digits-until}
 
 -- the loop that reads digits, after i of them that say n: a turn, and the end where no digit follows
 
@@ -78,7 +79,7 @@ module _ (n i : ℕ) (s : List ℕ) (at : ℕ) where
 
 -- a string after another, and a byte, at the start of some bytes
 
-starts-both : (a b s : List ℕ) (n : ℕ) → length a ≡ n → startsWith (a ++ b) s ≡ startsWith a s && startsWith b (drop n s)
+pub starts-both : (a b s : List ℕ) (n : ℕ) → length a ≡ n → startsWith (a ++ b) s ≡ startsWith a s && startsWith b (drop n s)
 unfolding startsWith
 starts-both a b s n h = by a s ∙ ap (λ (m : ℕ). startsWith a s && startsWith b (drop m s)) h
   where
@@ -102,7 +103,7 @@ abbrev pub all : List Bool → Bool
 all [] = true
 all (t ∷ ts) = t && all ts
 
-all-not : (ts : List Bool) (n : ℕ) → getD ts n true ≡ false → all ts ≡ false
+pub all-not : (ts : List Bool) (n : ℕ) → getD ts n true ≡ false → all ts ≡ false
 all-not [] n e = absurd (false≢true (sym e))
 all-not (t ∷ ts) zero e = and-off (all ts) e
 all-not (t ∷ ts) (suc n) e = rw (all-not ts n e, and-false)
@@ -114,13 +115,13 @@ said-below t =
     let d = digits-stand 3 0 t in
     rw (d .say) (said-small (numberOf (take (digitsFirst 3 t) t)) (digitsFirst 3 t) (d .few) (rw (d .long) at (number-below (take (digitsFirst 3 t) t) (d .are))))
 
-decimal-stands : (t : List ℕ) → let p = saidBy 3 0 t in
-    startsWith (decimalOf p ++ codes "\n") t ≡ eqb (digitsFirst 3 t) (digitsN p) && startsWith (codes "\n") (drop (digitsFirst 3 t) t)
-decimal-stands t =
+pub stands-before : (b : ℕ) → isDigit b ≡ false → (t : List ℕ) → let p = saidBy 3 0 t in
+    startsWith (decimalOf p ++ (b ∷ [])) t ≡ eqb (digitsFirst 3 t) (digitsN p) && startsWith (b ∷ []) (drop (digitsFirst 3 t) t)
+stands-before b none t =
     let p = saidBy 3 0 t in
     let n = digitsFirst 3 t in
     let d = digits-stand 3 0 t in
-    let line = decimalOf p ++ codes "\n" in
+    let line = decimalOf p ++ (b ∷ []) in
     by-test (eqb n (digitsN p))
     (λ e.
     let same = sym (eqb-true n (digitsN p) e) in
@@ -128,21 +129,66 @@ decimal-stands t =
     let digits : decimalOf p ≡ take n t =
     ap (λ (m : ℕ). digitsOf m p) (same ∙ sym (d .long)) ∙ ap (digitsOf (length (take n t))) (d .say) ∙ digits-number (take n t) (d .are) in
     let stands : startsWith (decimalOf p) t ≡ true = take-starts (decimalOf p) t (ap (λ (m : ℕ). take m t) long ∙ sym digits) in
-    starts-both (decimalOf p) (codes "\n") t n long ∙ rw (stands, e))
+    starts-both (decimalOf p) (b ∷ []) t n long ∙ rw (stands, e))
     (λ e. by-test (startsWith line t)
     (λ s.
     let rest = drop (length line) t in
     let few = short-decimal p (said-below t) .0 in
-    let count = ap (digitsFirst 3) (starts-parted line t s ∙ append-assoc (decimalOf p) (codes "\n") rest)
-    ∙ digits-counted 3 (decimalOf p) rest (omega (arith, digits-length (digitsN p) p)) (digits-are (digitsN p) p) in
+    let count = ap (digitsFirst 3) (starts-parted line t s ∙ append-assoc (decimalOf p) (b ∷ []) rest)
+    ∙ digits-until 3 (decimalOf p) b rest none (omega (arith, digits-length (digitsN p) p)) (digits-are (digitsN p) p) in
     absurd (eqb-false n (digitsN p) e (count ∙ digits-length (digitsN p) p)))
     (λ s. s ∙ rw e))
 
--- the line of a setting: its key of n bytes, and then a number that was read
+pub number-stands : (t : List ℕ) → let p = saidBy 3 0 t in
+    startsWith (decimalOf p ++ codes "\n") t ≡ eqb (digitsFirst 3 t) (digitsN p) && startsWith (codes "\n") (drop (digitsFirst 3 t) t)
+number-stands = stands-before 10 refl
 
-abbrev pub settingTests : Series → ℕ → List ℕ → ℕ → Digits → List Bool
-settingTests k i s n r =
-    inRange (rowAt k i) (r .number) ∷ eqb (r .digits) (digitsN (r .number)) ∷ startsWith (codes "\n") (drop (n + r .digits) s) ∷ []
+-- a number and LF from the place n on, as it was read
+
+abbrev pub numberTests : List ℕ → ℕ → Digits → List Bool
+numberTests s n r = eqb (r .digits) (digitsN (r .number)) ∷ startsWith (codes "\n") (drop (n + r .digits) s) ∷ []
+
+number-long : (p : ℕ) → length (decimalOf p ++ codes "\n") ≡ digitsN p + 1
+number-long p = length-append (decimalOf p) (codes "\n") ∙ rw (digits-length (digitsN p) p)
+
+module _ (s : List ℕ) (n : ℕ) (r : Digits) (is : r ≡ saidOf (drop n s)) where
+  number-as : let p = r .number in
+      numberTaken (drop n s) ≡ cond (all (numberTests s n r)) (record { n = length (decimalOf p ++ codes "\n"); number = p }) noNumber
+  number-as =
+      let t = drop n s in
+      rw (number-stands t, is, drop-drop (digitsFirst 3 t) n s, and-true)
+
+  pub number-not : (j : ℕ) → getD (numberTests s n r) j true ≡ false → noNumber ≡ numberTaken (drop n s)
+  number-not j e = sym (number-as ∙ rw (all-not (numberTests s n r) j e))
+
+  pub number-is : r .digits ≡ digitsN (r .number) → all (numberTests s n r) ≡ true
+      → record { n = r .digits + 1; number = r .number } ≡ numberTaken (drop n s)
+  number-is d e =
+      let size : r .digits + 1 ≡ length (decimalOf (r .number) ++ codes "\n") = omega (arith, number-long (r .number)) in
+      (λ j. record { n = size j; number = r .number }) ∙ sym (number-as ∙ rw e)
+
+-- what was taken: nothing, where no number and LF stand, or both
+module _ (rest : List ℕ) (t : Numbered) (is : t ≡ numberTaken rest) where
+  abbrev line : List ℕ
+  line = decimalOf (saidBy 3 0 rest) ++ codes "\n"
+
+  abbrev some : Numbered
+  some = record { n = length line; number = saidBy 3 0 rest }
+
+  as-judged : (b : Bool) → startsWith line rest ≡ b → t ≡ cond b some noNumber
+  as-judged b e = is ∙ ap (λ (x : Bool). cond x some noNumber) e
+
+  pub number-none : t .n ≡ 0 → startsWith line rest ≡ false
+  number-none z =
+      by-test (startsWith line rest)
+      (λ e. absurd (omega (arith, z, ap (λ (x : Numbered). x .n) (as-judged true e), number-long (saidBy 3 0 rest))))
+      (λ e. e)
+
+  pub number-some : (t .n ≡ 0 → ⊥) → (startsWith line rest ≡ true) × (t ≡ some)
+  number-some z =
+      by-test (startsWith line rest) (λ e. (e, as-judged true e)) (λ e. absurd (z (ap (λ (x : Numbered). x .n) (as-judged false e))))
+
+-- the line of a setting: its key of n bytes, and then a number that was taken
 
 module _ (k : Series) (i : ℕ) (s : List ℕ) where
   abbrev key : List ℕ
@@ -151,24 +197,34 @@ module _ (k : Series) (i : ℕ) (s : List ℕ) where
   pub setting-unkeyed : startsWith key s ≡ false → noSetting ≡ settingTaken k i s
   setting-unkeyed e = rw (starts-both key (decimalOf (settingLines k .says i s) ++ codes "\n") s (length key) refl, e, and-false)
 
-  module _ (keyed : startsWith key s ≡ true) (n : ℕ) (long : n ≡ length key) (r : Digits) (is : r ≡ saidOf (drop n s)) where
-    setting-as : let p = r .number in
-        settingTaken k i s ≡ cond (all (settingTests k i s n r)) (record { n = length (settingLines k .write i p); parameter = p }) noSetting
-    setting-as =
-        let t = drop (length key) s in
-        let p = saidBy 3 0 t in
-        let line : startsWith (key ++ (decimalOf p ++ codes "\n")) s ≡ startsWith (decimalOf p ++ codes "\n") t =
-        starts-both key (decimalOf p ++ codes "\n") s (length key) refl ∙ and-on keyed in
-        rw (line, decimal-stands t, is, long, drop-drop (digitsFirst 3 t) (length key) s, and-true)
+  module _ (keyed : startsWith key s ≡ true) (n : ℕ) (long : n ≡ length key) (t : Numbered) (is : t ≡ numberTaken (drop n s)) where
+    taken : t ≡ numberTaken (drop (length key) s)
+    taken = is ∙ ap (λ (m : ℕ). numberTaken (drop m s)) long
 
-    pub setting-not : (j : ℕ) → getD (settingTests k i s n r) j true ≡ false → noSetting ≡ settingTaken k i s
-    setting-not j e = sym (setting-as ∙ rw (all-not (settingTests k i s n r) j e))
+    -- after its key, the number makes the line
+    after-key : let p = settingLines k .says i s in startsWith (settingLines k .write i p) s ≡ startsWith (decimalOf p ++ codes "\n") (drop (length key) s)
+    after-key = starts-both key (decimalOf (settingLines k .says i s) ++ codes "\n") s (length key) refl ∙ and-on keyed
 
-    pub setting-is : r .digits ≡ digitsN (r .number) → all (settingTests k i s n r) ≡ true
-        → record { n = n + r .digits + 1; parameter = r .number } ≡ settingTaken k i s
-    setting-is d e =
-        let size : n + r .digits + 1 ≡ length (settingLines k .write i (r .number)) = omega (arith, setting-long k i (r .number)) in
-        (λ j. record { n = size j; parameter = r .number }) ∙ sym (setting-as ∙ rw e)
+    pub setting-unended : t .n ≡ 0 → noSetting ≡ settingTaken k i s
+    setting-unended z = rw (after-key, number-none (drop (length key) s) t taken z, and-false)
+
+    module _ (some : t .n ≡ 0 → ⊥) where
+      said : t ≡ record { n = length (decimalOf (settingLines k .says i s) ++ codes "\n"); number = settingLines k .says i s }
+      said = number-some (drop (length key) s) t taken some .1
+
+      pub setting-beyond : inRange (rowAt k i) (t .number) ≡ false → noSetting ≡ settingTaken k i s
+      setting-beyond e =
+          let out : inRange (rowAt k i) (settingLines k .says i s) ≡ false = ap (λ (x : Numbered). inRange (rowAt k i) (x .number)) (sym said) ∙ e in
+          rw out
+
+      pub setting-is : inRange (rowAt k i) (t .number) ≡ true → record { n = n + t .n; parameter = t .number } ≡ settingTaken k i s
+      setting-is e =
+          let p = settingLines k .says i s in
+          let in-it : inRange (rowAt k i) p ≡ true = ap (λ (x : Numbered). inRange (rowAt k i) (x .number)) (sym said) ∙ e in
+          let size : n + t .n ≡ length (settingLines k .write i p) =
+          omega (arith, long, ap (λ (x : Numbered). x .n) said, length-append key (decimalOf p ++ codes "\n")) in
+          (λ j. record { n = size j; parameter = said j .number })
+          ∙ rw (in-it, after-key, number-some (drop (length key) s) t taken some .0)
 
 pub setting-turned : (k : Series) (i at : ℕ) (sheet got : List ℕ) → i < settingsN k → i < length got → at ≤ length sheet
     → (t : Taken) → t ≡ settingTaken k i (midOf at (length sheet - at) sheet) → Turned (settingLines k) (settingsN k) i at sheet got (t .parameter) (t .n)
@@ -180,7 +236,7 @@ setting-turned k i at sheet got hn hg ha t is =
 
 -- the line of a value, whose key has four bytes
 
-key-long : (i : ℕ) → i < valuesN → length (valueKey i) ≡ 4
+pub key-long : (i : ℕ) → i < valuesN → length (valueKey i) ≡ 4
 unfolding stored digitsOf digitsNBy
 key-long i h = sym (along (λ j. length (valueKey j)) 0 valuesN refl (omega arith) h)
 
@@ -244,12 +300,12 @@ module _ (i : ℕ) (there : i < valuesN) (s : List ℕ) where
       pub value-short : length s < 20 → noValue ≡ valueTaken i s
       value-short few = untaken (λ t. omega (arith, starts-length (keptLine i put) s (rw put-said at t), put-long))
 
-      pub value-put : putTaken i s ≡ valueTaken i s
-      value-put =
-          let line = kept-starts put ∙ and-on keyed in
+      pub value-put : (b : Bool) → b ≡ putStands i s → cond b (record { n = 20; kept = put }) noValue ≡ valueTaken i s
+      value-put b is =
+          let line = is ∙ ap (λ (t : Bool). keptRight i put && t) (sym (kept-starts put ∙ and-on keyed)) in
           let taken : Kept → TakenValue =
           λ k. cond (keptRight i k && startsWith (keptLine i k) s) (record { n = length (keptLine i k); kept = k }) noValue in
-          sym (ap taken put-said ∙ (λ j. cond (keptRight i put && line j) (record { n = put-long j; kept = put }) noValue))
+          (λ j. cond (line j) (record { n = sym put-long j; kept = put }) noValue) ∙ ap taken (sym put-said)
 
 pub value-turned : (i at : ℕ) (sheet : List ℕ) (got : List Value) → i < valuesN → i < length got → at ≤ length sheet
     → (t : TakenValue) → t ≡ valueTaken i (midOf at (length sheet - at) sheet) → Turned valueLines valuesN i at sheet got (valueOf (t .kept)) (t .n)
@@ -279,11 +335,13 @@ keptAt s = signedAt s (signOf (getD s 10 0))
 put-kept : (s : List ℕ) → putKept (drop 4 s) ≡ keptAt s
 put-kept s = simp getD-drop
 
--- what it holds may be held, and index, dots, mark, sign and LF stand
+pub put-signed : (s : List ℕ) (m : ℕ) → m ≡ signOf (getD s 10 0) → signedAt s m ≡ putKept (drop 4 s)
+put-signed s m e = ap (signedAt s) e ∙ sym (put-kept s)
+
+-- index, dots, mark, sign and LF stand
 abbrev pub putTests : ℕ → List ℕ → List Bool
 putTests i s =
-    keptRight i (keptAt s)
-    ∷ eqb (getD s 4 0) (getD (storedAt i .key) 1 0)
+    eqb (getD s 4 0) (getD (storedAt i .key) 1 0)
     ∷ eqb (getD s 5 0) (getD (storedAt i .key) 2 0)
     ∷ eqb (getD s 6 0) 46
     ∷ eqb (getD s 7 0) 46
@@ -303,24 +361,23 @@ same : (n : ℕ) → eqb n n ≡ true
 same n = eq-eqb n n refl
 
 module _ (i : ℕ) (there : i < valuesN) (s : List ℕ) (long : 20 ≤ length s) where
-  put-starts : startsWith (drop 4 (keptLine i (keptAt s))) (drop 4 s) ≡ all (drop 1 (putTests i s))
+  put-starts : startsWith (drop 4 (keptLine i (keptAt s))) (drop 4 s) ≡ all (putTests i s)
   unfolding startsWith elements
   put-starts =
       let w = charactersOf i (keptAt s) ++ codes "\n" in
       let key = key-digits i there in
       (λ j. startsWith (drop-at (valueKey i) w 4 (key-long i there) j) (elements-on 16 4 s long j)) ∙ rw (key .0, key .1) (simp same)
 
-  put-as : putTaken i s ≡ cond (all (putTests i s)) (record { n = 20; kept = keptAt s }) noValue
+  put-as : putStands i s ≡ keptRight i (keptAt s) && all (putTests i s)
   put-as =
-      let by : Kept → TakenValue =
-      λ k. cond (keptRight i k && startsWith (drop 4 (keptLine i k)) (drop 4 s)) (record { n = 20; kept = k }) noValue in
-      ap by (put-kept s) ∙ (λ j. cond (keptRight i (keptAt s) && put-starts j) (record { n = 20; kept = keptAt s }) noValue)
+      ap (λ (k : Kept). keptRight i k && startsWith (drop 4 (keptLine i k)) (drop 4 s)) (put-kept s) ∙ ap (λ (t : Bool). keptRight i (keptAt s) && t) put-starts
 
-  pub put-not : (n : ℕ) → getD (putTests i s) n true ≡ false → noValue ≡ putTaken i s
-  put-not n e = sym (put-as ∙ rw (all-not (putTests i s) n e))
+  pub put-not : (n : ℕ) → getD (putTests i s) n true ≡ false → false ≡ putStands i s
+  put-not n e = sym (put-as ∙ rw (all-not (putTests i s) n e, and-false))
 
-  pub put-is : all (putTests i s) ≡ true → record { n = 20; kept = keptAt s } ≡ putTaken i s
-  put-is e = sym (put-as ∙ rw e)
+  -- where they all stand, it is left whether what it holds may be held
+  pub put-is : all (putTests i s) ≡ true → keptRight i (keptAt s) ≡ putStands i s
+  put-is e = sym (put-as ∙ rw (e, and-true))
 
 -- a sign that stands there: plus, minus, or none
 

@@ -1,4 +1,4 @@
--- Demand 3 over lines and sheet loads in any order: it starts at the factory state or at a loaded sheet.
+-- Demand 3 over lines and sheet loads in any order: it starts at the factory state or at a loaded sheet, of either form.
 use Prim.Native.Nat.{ℕ, _≤_}
 use mathlib.Core.Path.{_≡_}
 use mathlib.Core.Bool.{true}
@@ -11,7 +11,7 @@ use Rattle.commands.specs.declared.shapes.Order.the-variants.{Undo}
 use Rattle.lines.specs.Verdicts.{isAccepted}
 use Rattle.lines.specs.Machine.{run, step}
 use Rattle.lines.specs.Sessions.{Exchange, session, called}
-use Rattle.lines.specs.Demand.{Mark, follows, playAll, stands}
+use Rattle.lines.specs.Demand.{Mark, standsAt, startOf, follows, playAll, stands}
 use Rattle.sheets.specs.Loading.{Loading, wrong, right, loadingOf, loadedState, loaded}
 
 -- a line with the room for its reply, by its length or as a host lends it, or a sheet to be loaded
@@ -19,19 +19,19 @@ pub data Act (Room : Type 0) : Type 0 where
   sends : (line : List ℕ) → (room : Room) → Act Room
   loads : (sheet : List ℕ) → Act Room
 
--- a state, the contents of the last start, and what stands of the lines since
+-- a state, the contents of the last start with its entries taken back, and what stands of those and of the lines since
 pub record Traced : Type 0 where
   pub state : State
   pub start : Contents
   pub standing : List Mark
 
 abbrev pub startsAt : State → Traced
-startsAt s = record { state = s; start = contentsOf s; standing = [] }
+startsAt s = record { state = s; start = startOf s; standing = standsAt s }
 
 -- a loaded sheet is a start; a refused one leaves everything
 abbrev pub traceLoad : Traced → Loading → Traced
 traceLoad t (wrong at) = t
-traceLoad t (right settings values) = startsAt (loadedState (t .state .series) settings values)
+traceLoad t (right settings values entries) = startsAt (loadedState (t .state .series) settings values entries)
 
 -- a load has no reply
 abbrev pub acted : Traced → Act ℕ → Exchange Traced

@@ -1,7 +1,9 @@
 pub mod Answers
 pub mod Lines
 pub mod Sheet
+pub mod Undo
 pub mod Loading
+pub mod Writing
 pub mod FirstWrong
 pub mod Acts
 pub mod Playing

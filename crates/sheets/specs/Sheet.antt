@@ -1,18 +1,15 @@
 -- The state sheet: "key=value lines ended by LF: `series=TPS100`, then `s` and each setting in the order above, then `v` and each index".
 use Prim.Native.Nat.{ℕ, zero, suc, _+_, _-_, _*_}
-use mathlib.Core.Path.{_≡_}
 use mathlib.Core.Bool.{cond}
 use mathlib.Core.List.{List, [], _∷_, _++_}
-use lib.Dec.{leb}
 use lib.ListN.{length, take, drop}
 use Rattle.figures.specs.Text.{codes}
-use Rattle.figures.specs.Bytes.{laid, startsWith}
+use Rattle.figures.specs.Bytes.{startsWith}
 use Rattle.figures.specs.Decimal.{isDigit, decimalOf}
 use Rattle.instrument.specs.Rows.{keyOf}
 use Rattle.instrument.specs.Settings.{settingNumber, rowAt, inRange, held}
 use Rattle.instrument.specs.Values.{indexNumber, storedAt, getWord, putKept, keptRight}
 use Rattle.state.specs.Entries.{valueOf}
-use Rattle.state.specs.Image.{stateIn, isImage}
 use Rattle.instrument.specs.declared.settings.Series.{Series}
 use Rattle.instrument.specs.declared.settings.Series.the-variants.{Tps100, Tps300}
 use Rattle.instrument.specs.declared.settings.Row.{Row}
@@ -21,8 +18,6 @@ use Rattle.instrument.specs.declared.values.Kept.the-variants.{Never, Put}
 use Rattle.instrument.specs.declared.values.Value.{Value}
 use Rattle.state.specs.declared.entries.State.{State}
 use Rattle.sheets.specs.Lines.{LinesOf, linesBy}
-use Rattle.sheets.specs.declared.answers.Sheeted.{Sheeted}
-use Rattle.sheets.specs.declared.answers.Sheeted.the-variants as answer
 
 -- "The sheet begins `series=TPS300`" (request 103)
 abbrev pub seriesLine : Series → List ℕ
@@ -82,19 +77,3 @@ valueLines = record {
 
 unfoldable pub sheetOf : State → List ℕ
 sheetOf s = seriesLine (s .series) ++ (linesBy (settingLines (s .series)) 0 (held (s .series) (s .settings)) ++ linesBy valueLines 0 (s .values))
-
--- writing it: the answer, and the room as it is then. "Order: .. for writing, 31, then 30. Room beyond a written sheet is untouched."
-pub record Sheet·room : Type 0 where
-  pub answer : Sheeted
-  pub room : List ℕ
-
-abbrev pub sheetInRoom : List ℕ → List ℕ → Sheet·room
-sheetInRoom sheet room =
-    cond (leb (length sheet) (length room)) (record { answer = answer.Written (length sheet); room = laid sheet room })
-    (record { answer = answer.Room; room = room })
-
-abbrev pub writtenSheet : List ℕ → List ℕ → Sheet·room
-writtenSheet image room = cond (isImage image) (sheetInRoom (sheetOf (stateIn image)) room) (record { answer = answer.NoState; room = room })
-
-abbrev pub WritesSheet : List ℕ → List ℕ → Sheeted → List ℕ → Type 0
-WritesSheet image room r room′ = (r ≡ writtenSheet image room .answer) × (room′ ≡ writtenSheet image room .room)

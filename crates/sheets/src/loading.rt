@@ -1,16 +1,22 @@
-// A sheet loaded into a lent image.
+// A sheet loaded into a lent image: the first form's lines, and what both forms share.
 ghost use mathlib.Core.Path.{_≡_};
 ghost use Prim.Native.Nat.{_≤_, _<_};
 ghost use lib.ListN.{length, drop, replicate};
-ghost use Rattle.state.specs.Entries.{valueOf};
+ghost use Rattle.state.specs.Entries.{entriesN, valueOf};
 ghost use Rattle.state.specs.Keeping.{Imaged};
 ghost use Rattle.instrument.specs.Settings.{settingsN};
-ghost use Rattle.instrument.specs.Values.{valuesN};
+ghost use Rattle.instrument.specs.Values.{valuesN, putKept};
 ghost use Rattle.instrument.specs.declared.values.Kept.the-variants.{Never};
 ghost use Rattle.sheets.specs.Lines.{wrongAt};
-ghost use Rattle.sheets.specs.Loading.{settingsIn, valuesFrom, Loads};
-ghost use Rattle.sheets.specs.Keeping.{saidOf, noSetting, settingTaken, noValue, putTaken, valueTaken, settingsAs, valuesAs};
+ghost use Rattle.figures.specs.Bytes.{startsWith};
+ghost use Rattle.sheets.specs.Undo.{formLine};
+ghost use Rattle.sheets.specs.Loading.{settingsIn, valuesFrom, firstWrongAt, firstLines, Loads};
+ghost use Rattle.sheets.specs.Keeping.{saidOf, noNumber, numberTaken, noSetting, settingTaken, noValue, putStands, valueTaken, settingsAs, valuesAs, firstAs, undoLaid};
 use crate::answers::Sheeted;
+use crate::forms::Form;
+use crate::forms::form_in;
+use crate::forms::form_length;
+use crate::undo::list_in;
 use crate::writing::HEAD;
 use crate::writing::digits_in;
 use crate::writing::key_length;
@@ -28,10 +34,14 @@ use instrument::values::VALUES;
 use instrument::values::Value;
 use instrument::values::parts_right;
 use instrument::values::stored_at;
+use state::entries::ENTRIES;
+use state::entries::Entry;
 use state::image::series_in;
 use state::judging::is_image;
 use state::laying::clear;
 use state::laying::put_contents;
+use state::laying::put_count;
+use state::laying::put_entry;
 
 // How far the lines of a part were right: the start of the first wrong one, or the place past the last.
 pub enum Came {
@@ -51,10 +61,23 @@ pub struct Values {
     pub values: [Value; VALUES],
 }
 
+// What the first form's lines held, as the two parts say.
+pub struct First {
+    pub came: Came,
+    pub settings: [u8; SETTINGS],
+    pub values: [Value; VALUES],
+}
+
 // What the digits at the start of some bytes say, three at most, and how many they are.
 pub struct Digits {
     pub number: u64,
     pub digits: usize,
+}
+
+// The length of a number with its LF, 0 where it isn't right, and the number.
+pub struct Numbered {
+    pub n: usize,
+    pub number: u64,
 }
 
 // A line's length, 0 where it isn't right, and the parameter that it holds.
@@ -70,7 +93,7 @@ pub struct TakenValue {
 }
 
 // Reads the digits from a place on, three at most.
-fn said_at(s: &[u8], start: usize) -> Digits
+pub(crate) fn said_at(s: &[u8], start: usize) -> Digits
     ensures { λ r. ⌜ (r ≡ saidOf (drop start (now (s .entry)))) × (r .number < 1000) ⌝ }
 {
     let mut number: u64 = 0;
@@ -100,6 +123,36 @@ fn said_at(s: &[u8], start: usize) -> Digits
     }
 }
 
+fn no_number() -> Numbered
+    ensures { λ r. ⌜ r ≡ noNumber ⌝ }
+{
+    Numbered { n: 0, number: 0 }
+}
+
+// Takes a number in its fewest digits, three at most, and LF from a place on.
+pub(crate) fn number_line(s: &[u8], start: usize) -> Numbered
+    requires { ⌜ start ≤ length (now s) ⌝ }
+    ensures { λ r. ⌜ (r ≡ numberTaken (drop start (now (s .entry)))) × ((r .number < 1000) × (r .n ≤ 4)) ⌝ }
+{
+    let said = said_at(s, start);
+    let number = said.number;
+    let digits = said.digits;
+    if digits != digits_in(number) {
+        return no_number();
+    }
+    let end = start + digits;
+    if s.len() <= end {
+        return no_number();
+    }
+    if s[end] != b'\n' {
+        return no_number();
+    }
+    Numbered {
+        n: digits + 1,
+        number: number,
+    }
+}
+
 fn no_setting() -> Taken
     ensures { λ r. ⌜ r ≡ noSetting ⌝ }
 {
@@ -116,26 +169,18 @@ fn take_setting(series: Series, place: usize, s: &[u8]) -> Taken
     if !figures::starts(s, &key[0..k]) {
         return no_setting();
     }
-    let said = said_at(s, k);
-    let number = said.number;
-    let digits = said.digits;
+    let line = number_line(s, k);
+    let n = line.n;
+    if n == 0 {
+        return no_setting();
+    }
+    let number = line.number;
     if !in_range(row_at(series, place), number) {
         return no_setting();
     }
-    let parameter = number as u8;
-    if digits != digits_in(parameter) {
-        return no_setting();
-    }
-    let end = k + digits;
-    if s.len() <= end {
-        return no_setting();
-    }
-    if s[end] != b'\n' {
-        return no_setting();
-    }
     Taken {
-        n: end + 1,
-        parameter: parameter,
+        n: k + n,
+        parameter: number as u8,
     }
 }
 
@@ -146,36 +191,36 @@ fn no_value() -> TakenValue
     TakenValue { n: 0, kept: never }
 }
 
-// Takes what follows the key on the line of a value that was put: the 15 characters that GET gives, with parts that the place may hold, and LF.
-fn take_put(place: usize, s: &[u8]) -> TakenValue
+// Tells whether what follows a value's key, from the fifth byte on, is the 15 characters that GET gives, with parts that the place may hold, and LF.
+pub(crate) fn put_stands(place: usize, s: &[u8]) -> bool
     requires { ⌜ (place < valuesN) × (20 ≤ length (now s)) ⌝ }
-    ensures { λ r. ⌜ r ≡ putTaken place (now (s .entry)) ⌝ }
+    ensures { λ r. ⌜ r ≡ putStands place (now (s .entry)) ⌝ }
 {
     let row = stored_at(place);
     let key = row.key;
     if s[4] != key[1] {
-        return no_value();
+        return false;
     }
     if s[5] != key[2] {
-        return no_value();
+        return false;
     }
     if s[6] != b'.' {
-        return no_value();
+        return false;
     }
     if s[7] != b'.' {
-        return no_value();
+        return false;
     }
     let mark = if row.first == b'.' { b'.' } else { b'1' };
     if s[8] != mark {
-        return no_value();
+        return false;
     }
     if s[19] != b'\n' {
-        return no_value();
+        return false;
     }
     let mut minus = 0;
     if s[10] != b'+' {
         if s[10] != b'-' {
-            return no_value();
+            return false;
         }
         minus = 1;
     }
@@ -191,12 +236,19 @@ fn take_put(place: usize, s: &[u8]) -> TakenValue
         s[17],
         s[18],
     ];
-    if !parts_right(place, &parts) {
-        return no_value();
-    }
+    parts_right(place, &parts)
+}
+
+// Gives the value that those characters hold.
+pub(crate) fn put_at(s: &[u8]) -> Kept
+    requires { ⌜ 20 ≤ length (now s) ⌝ }
+    ensures { λ r. ⌜ r ≡ putKept (drop 4 (now (s .entry))) ⌝ }
+{
     let eight = Eight(s[11], s[12], s[13], s[14], s[15], s[16], s[17], s[18]);
-    let kept = Kept::Put(s[9], minus, eight);
-    TakenValue { n: 20, kept: kept }
+    if s[10] == b'+' {
+        return Kept::Put(s[9], 0, eight);
+    }
+    Kept::Put(s[9], 1, eight)
 }
 
 // Takes the line of the value at a place from the start of the bytes: its key, and LF or what was put.
@@ -219,7 +271,11 @@ fn take_value(place: usize, s: &[u8]) -> TakenValue
     if s.len() < 20 {
         return no_value();
     }
-    take_put(place, s)
+    if !put_stands(place, s) {
+        return no_value();
+    }
+    let kept = put_at(s);
+    TakenValue { n: 20, kept: kept }
 }
 
 fn wrong_settings(at: usize) -> Settings
@@ -233,17 +289,18 @@ fn wrong_settings(at: usize) -> Settings
     }
 }
 
-// Reads the series and the settings' lines.
-fn settings_in(series: Series, sheet: &[u8]) -> Settings
-    ensures { λ r. ⌜ r ≡ settingsAs (settingsIn series (now (sheet .entry))) ⌝ }
+// Reads the series and the settings' lines, from a place on.
+fn settings_in(series: Series, sheet: &[u8], start: usize) -> Settings
+    requires { ⌜ start ≤ length (now sheet) ⌝ }
+    ensures { λ r. ⌜ r ≡ settingsAs (settingsIn series (now (sheet .entry)) start) ⌝ }
 {
     let head = series_line(series);
-    if !figures::starts(sheet, &head) {
-        return wrong_settings(0);
+    if !figures::starts(&sheet[start..], &head) {
+        return wrong_settings(start);
     }
     let count = settings_of(series);
     let mut settings = [0; SETTINGS];
-    let mut at = HEAD;
+    let mut at = start + HEAD;
     let mut i = 0;
     while i < count {
         let line = take_setting(series, i, &sheet[at..]);
@@ -307,12 +364,76 @@ fn values_in(sheet: &[u8], start: usize) -> Values
     }
 }
 
+fn wrong_first(at: usize) -> First
+    ensures { λ r. ⌜ r ≡ firstAs (firstWrongAt at) ⌝ }
+{
+    let came = Came::Wrong(at);
+    let settings = [0; SETTINGS];
+    let values = never_put();
+    First {
+        came: came,
+        settings: settings,
+        values: values,
+    }
+}
+
+// Tells whether a sheet starts as the form does.
+fn starts_as(form: Form, sheet: &[u8]) -> bool
+    ensures { λ r. ⌜ r ≡ startsWith (formLine form) (now (sheet .entry)) ⌝ }
+{
+    match form {
+        Form::One => true,
+        Form::Two => figures::starts(sheet, b"form=2\n"),
+    }
+}
+
+// Reads the first form's lines in a sheet of a form.
+fn first_in(form: Form, series: Series, sheet: &[u8]) -> First
+    ensures { λ r. ⌜ r ≡ firstAs (firstLines form series (now (sheet .entry))) ⌝ }
+{
+    if !starts_as(form, sheet) {
+        return wrong_first(0);
+    }
+    let part = settings_in(series, sheet, form_length(form));
+    let came = part.came;
+    let at = match came {
+        Came::Wrong(at) => {
+            return wrong_first(at);
+        }
+        Came::To(at) => at,
+    };
+    let settings = part.settings;
+    let rest = values_in(sheet, at);
+    let to = rest.came;
+    let values = rest.values;
+    First {
+        came: to,
+        settings: settings,
+        values: values,
+    }
+}
+
+// Lays undo entries down in an image that has none.
+fn put_undo(series: Series, entries: [Entry; ENTRIES], count: usize, image: &mut [u8])
+    requires { ⌜ count ≤ entriesN ⌝ }
+    ensures { λ _. ⌜ now (image .exit) ≡ undoLaid series entries count (now (image .entry)) ⌝ }
+{
+    let mut i = 0;
+    while i < count {
+        let entry = entries[i];
+        put_entry(series, i, entry, image);
+        i += 1;
+    }
+    put_count(series, count, image);
+}
+
 // Loads a sheet of the series into an image of it.
 fn load_as(series: Series, image: &mut [u8], sheet: &[u8]) -> Sheeted
     requires { ⌜ Imaged series (now image) ⌝ }
     ensures { λ r. ⌜ Loads (now (image .entry)) (now (sheet .entry)) r (now (image .exit)) ⌝ }
 {
-    let first = settings_in(series, sheet);
+    let form = form_in(sheet);
+    let first = first_in(form, series, sheet);
     let came = first.came;
     let at = match came {
         Came::Wrong(at) => {
@@ -320,26 +441,33 @@ fn load_as(series: Series, image: &mut [u8], sheet: &[u8]) -> Sheeted
         }
         Came::To(at) => at,
     };
-    let second = values_in(sheet, at);
-    let next = second.came;
-    let end = match next {
-        Came::Wrong(at) => {
-            return Sheeted::Wrong(at);
-        }
-        Came::To(at) => at,
-    };
-    if end != sheet.len() {
-        return Sheeted::Wrong(end);
-    }
     let settings = first.settings;
-    let values = second.values;
-    put_contents(series, settings, values, image);
-    clear(series, image);
+    let values = first.values;
+    match form {
+        Form::One => {
+            if at != sheet.len() {
+                return Sheeted::Wrong(at);
+            }
+            put_contents(series, settings, values, image);
+            clear(series, image);
+        }
+        Form::Two => {
+            let undo = list_in(series, settings, values, sheet, at);
+            let ended = undo.came;
+            if let Came::Wrong(at) = ended {
+                return Sheeted::Wrong(at);
+            }
+            put_contents(series, settings, values, image);
+            clear(series, image);
+            let entries = undo.entries;
+            put_undo(series, entries, undo.count, image);
+        }
+    }
     Sheeted::Loaded
 }
 
-// Loads a sheet of the image's series into it: settings and values are then those it names, and the undo list is empty. 31 and 40 leave the image as it was.
-// The series is named so that the compiler knows the table.
+// Loads a sheet of the image's series, of either form, into it: settings, values and undo list are then those it names, and in the first form it names none.
+// 31 and 40 leave the image as it was. The series is named so that the compiler knows the table.
 pub fn load(image: &mut [u8], sheet: &[u8]) -> Sheeted
     ensures { λ r. ⌜ Loads (now (image .entry)) (now (sheet .entry)) r (now (image .exit)) ⌝ }
 {

@@ -6,6 +6,7 @@ ghost use Rattle.state.specs.Image.{imageN};
 ghost use Rattle.sheets.specs.Playing.{Prints};
 ghost use Rattle.sheets.specs.Keeping.{Runs};
 use crate::answers::Sheeted;
+use crate::forms::Form;
 use crate::writing::write;
 use instrument::settings::Series;
 use lines::machine::line;
@@ -44,7 +45,7 @@ pub fn play(input: &[u8], room: &mut [u8]) -> usize
     let mut image = [0; IMAGE_100];
     put_factory(Series::Tps100, &mut image);
     run(input, &mut image);
-    let answer = write(&image, room);
+    let answer = write(Form::One, &image, room);
     if let Sheeted::Written(n) = answer {
         return n;
     }

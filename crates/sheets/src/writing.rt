@@ -1,7 +1,8 @@
-// The sheet written from an image: its length first, then line by line into the room, each put where the one before it ended.
+// The sheet written from an image, in either form: its length first, then line by line into the room, each put where the one before it ended.
 ghost use mathlib.Core.Path.{_≡_};
+ghost use mathlib.Core.Bool.{true};
 ghost use mathlib.Core.List.{_++_};
-ghost use Prim.Native.Nat.{_+_, _%_, _≤_, _<_};
+ghost use Prim.Native.Nat.{_+_, _-_, _%_, _≤_, _<_};
 ghost use lib.ListN.{length, take};
 ghost use Rattle.figures.specs.Decimal.{digitsN, decimalOf};
 ghost use Rattle.figures.specs.Rooms.{Puts};
@@ -10,9 +11,16 @@ ghost use Rattle.instrument.specs.Settings.{settingsN};
 ghost use Rattle.instrument.specs.Values.{valuesN};
 ghost use Rattle.state.specs.Image.{stateIn};
 ghost use Rattle.state.specs.Keeping.{Imaged};
-ghost use Rattle.sheets.specs.Sheet.{seriesLine, settingLines, keptLine, WritesSheet};
-ghost use Rattle.sheets.specs.Keeping.{keyLength, keysN, settingsText, valuesText};
+ghost use Rattle.state.specs.Entries.{entryRight};
+ghost use Rattle.sheets.specs.Sheet.{seriesLine, settingLines, keptLine};
+ghost use Rattle.sheets.specs.Undo.{formLine, entryLine, undoText};
+ghost use Rattle.sheets.specs.Writing.{WritesSheet};
+ghost use Rattle.sheets.specs.Keeping.{keyLength, keysN, settingsText, valuesText, keptText};
 use crate::answers::Sheeted;
+use crate::forms::Form;
+use crate::forms::form_length;
+use figures::casts::place_of;
+use figures::casts::wide;
 use instrument::keys::KEY;
 use instrument::keys::key_at;
 use instrument::settings::Series;
@@ -22,6 +30,10 @@ use instrument::values::VALUES;
 use instrument::values::get_word;
 use instrument::values::is_put;
 use instrument::values::stored_at;
+use state::entries::Entry;
+use state::entries::Item;
+use state::image::count_in;
+use state::image::entry_at;
 use state::image::parameter_in;
 use state::image::series_in;
 use state::image::value_in;
@@ -53,14 +65,15 @@ pub(crate) fn series_line(series: Series) -> [u8; HEAD]
     }
 }
 
-// Counts the digits of a parameter.
-pub(crate) fn digits_in(parameter: u8) -> usize
-    ensures { λ r. ⌜ r ≡ digitsN parameter ⌝ }
+// Counts the digits of a number of up to three.
+pub(crate) fn digits_in(number: u64) -> usize
+    requires { ⌜ number < 1000 ⌝ }
+    ensures { λ r. ⌜ (r ≡ digitsN number) × (r ≤ 3) ⌝ }
 {
-    if parameter < 10 {
+    if number < 10 {
         return 1;
     }
-    if parameter < 100 {
+    if number < 100 {
         return 2;
     }
     3
@@ -85,7 +98,7 @@ fn settings_length(series: Series, image: &[u8]) -> usize
     let mut n = keys_length(series);
     let mut i = 0;
     while i < count {
-        n += digits_in(parameter_in(i, image));
+        n += digits_in(wide(parameter_in(i, image)));
         i += 1;
     }
     n
@@ -109,8 +122,50 @@ fn values_length(series: Series, image: &[u8]) -> usize
     n
 }
 
+// Gives the length of an entry's line: `u=`, the item's name, a colon, what was there before, LF.
+fn entry_length(series: Series, entry: Entry) -> usize
+    requires { ⌜ entryRight series entry ≡ true ⌝ }
+    ensures { λ r. ⌜ (r ≡ length (entryLine series entry)) × (r ≤ 22) ⌝ }
+{
+    let item = entry.item;
+    let former = entry.former;
+    match item {
+        Item::Free => 4,
+        Item::Setting(i) => {
+            let key = key_at(series, place_of(i));
+            key_length(key) + 3 + digits_in(wide(former.parameter))
+        }
+        Item::Stored(_) => {
+            let kept = former.kept;
+            if is_put(kept) {
+                return 22;
+            }
+            7
+        }
+    }
+}
+
+// Gives the length of what follows the values' lines: nothing in the first form, the undo list in the second.
+fn undo_length(form: Form, series: Series, image: &[u8]) -> usize
+    requires { ⌜ Imaged series (now image) ⌝ }
+    ensures { λ r. ⌜ (r ≡ length (undoText form (stateIn (now (image .entry))))) × (r ≤ 2000) ⌝ }
+{
+    if let Form::One = form {
+        return 0;
+    }
+    let count = count_in(series, image);
+    let mut n = 6 + digits_in(count as u64);
+    let mut i = 0;
+    while i < count {
+        let entry = entry_at(series, i, image);
+        n += entry_length(series, entry);
+        i += 1;
+    }
+    n
+}
+
 // Puts a text that fits, and answers where the next begins.
-fn lay_text(room: &mut [u8], at: usize, text: &[u8]) -> usize
+pub(crate) fn lay_text(room: &mut [u8], at: usize, text: &[u8]) -> usize
     requires { ⌜ at + length (now text) ≤ length (now room) ⌝ }
     ensures { λ r. ⌜ Puts (now (room .entry)) at (now (text .entry)) r (now (room .exit)) ⌝ }
 {
@@ -170,10 +225,10 @@ fn put_setting(series: Series, place: usize, parameter: u8, room: &mut [u8], at:
     put_parameter(small(parameter), room, next)
 }
 
-// Puts the line of the value at a place, and answers where the next begins.
-fn put_value(place: usize, kept: Kept, room: &mut [u8], at: usize) -> usize
-    requires { ⌜ (place < valuesN) × (at + length (keptLine place kept) ≤ length (now room)) ⌝ }
-    ensures { λ r. ⌜ Puts (now (room .entry)) at (keptLine place kept) r (now (room .exit)) ⌝ }
+// Puts a value's name, the separator, the characters if it was put, and LF; answers where the next line begins.
+fn put_kept(place: usize, separator: u8, kept: Kept, room: &mut [u8], at: usize) -> usize
+    requires { ⌜ (place < valuesN) × (at + length (keptText place separator kept) ≤ length (now room)) ⌝ }
+    ensures { λ r. ⌜ Puts (now (room .entry)) at (keptText place separator kept) r (now (room .exit)) ⌝ }
 {
     let row = stored_at(place);
     let k = row.key;
@@ -183,7 +238,7 @@ fn put_value(place: usize, kept: Kept, room: &mut [u8], at: usize) -> usize
             k[0],
             k[1],
             k[2],
-            k[3],
+            separator,
             w[0],
             w[1],
             w[2],
@@ -203,8 +258,50 @@ fn put_value(place: usize, kept: Kept, room: &mut [u8], at: usize) -> usize
         ];
         return lay_text(room, at, &line);
     }
-    let line = [k[0], k[1], k[2], k[3], b'\n'];
+    let line = [k[0], k[1], k[2], separator, b'\n'];
     lay_text(room, at, &line)
+}
+
+// Puts the line of the value at a place, and answers where the next begins.
+fn put_value(place: usize, kept: Kept, room: &mut [u8], at: usize) -> usize
+    requires { ⌜ (place < valuesN) × (at + length (keptLine place kept) ≤ length (now room)) ⌝ }
+    ensures { λ r. ⌜ Puts (now (room .entry)) at (keptLine place kept) r (now (room .exit)) ⌝ }
+{
+    put_kept(place, b'=', kept, room, at)
+}
+
+// Puts a setting's name, of three or four bytes, after `u=`, and a colon.
+fn put_name(key: [u8; KEY], room: &mut [u8], at: usize) -> usize
+    requires { ⌜ (4 ≤ keyLength key) × (at + 2 + keyLength key ≤ length (now room)) ⌝ }
+    ensures { λ r. ⌜ Puts (now (room .entry)) at (codes "u=" ++ (take (keyLength key - 1) key ++ codes ":")) r (now (room .exit)) ⌝ }
+{
+    if key[4] != 0 {
+        let text = [b'u', b'=', key[0], key[1], key[2], key[3], b':'];
+        return lay_text(room, at, &text);
+    }
+    let text = [b'u', b'=', key[0], key[1], key[2], b':'];
+    lay_text(room, at, &text)
+}
+
+// Puts an entry's line, and answers where the next begins.
+fn put_entry(series: Series, entry: Entry, room: &mut [u8], at: usize) -> usize
+    requires { ⌜ (entryRight series entry ≡ true) × (at + length (entryLine series entry) ≤ length (now room)) ⌝ }
+    ensures { λ r. ⌜ Puts (now (room .entry)) at (entryLine series entry) r (now (room .exit)) ⌝ }
+{
+    let item = entry.item;
+    let former = entry.former;
+    match item {
+        Item::Free => lay_text(room, at, b"u=:\n"),
+        Item::Setting(i) => {
+            let next = put_name(key_at(series, place_of(i)), room, at);
+            put_parameter(small(former.parameter), room, next)
+        }
+        Item::Stored(i) => {
+            let kept = former.kept;
+            let next = lay_text(room, at, b"u=");
+            put_kept(place_of(i), b':', kept, room, next)
+        }
+    }
 }
 
 // Puts the settings' lines, and answers where the next begins.
@@ -236,33 +333,67 @@ fn put_values(series: Series, image: &[u8], room: &mut [u8], start: usize) -> us
     at
 }
 
-// Writes the sheet of an image of the series: straight into the room, once its length is known to fit.
-fn write_as(series: Series, image: &[u8], room: &mut [u8]) -> Sheeted
-    requires { ⌜ Imaged series (now image) ⌝ }
-    ensures { λ r. ⌜ WritesSheet (now (image .entry)) (now (room .entry)) r (now (room .exit)) ⌝ }
+// Puts what follows the values' lines, in a form, and answers where it ends.
+fn put_undo(form: Form, series: Series, image: &[u8], room: &mut [u8], start: usize) -> usize
+    requires { ⌜ Imaged series (now image) × (start + length (undoText form (stateIn (now image))) ≤ length (now room)) ⌝ }
+    ensures { λ r. ⌜ Puts (now (room .entry)) start (undoText form (stateIn (now (image .entry)))) r (now (room .exit)) ⌝ }
 {
-    let n = HEAD + settings_length(series, image) + values_length(series, image);
+    if let Form::One = form {
+        return start;
+    }
+    let count = count_in(series, image);
+    let number_at = lay_text(room, start, b"undo=");
+    let mut at = put_parameter(count as u16, room, number_at);
+    let mut i = 0;
+    while i < count {
+        let entry = entry_at(series, i, image);
+        at = put_entry(series, entry, room, at);
+        i += 1;
+    }
+    at
+}
+
+// Puts the line that names the form; the first has none.
+fn put_form(form: Form, room: &mut [u8]) -> usize
+    requires { ⌜ length (formLine form) ≤ length (now room) ⌝ }
+    ensures { λ r. ⌜ Puts (now (room .entry)) 0 (formLine form) r (now (room .exit)) ⌝ }
+{
+    match form {
+        Form::One => 0,
+        Form::Two => lay_text(room, 0, b"form=2\n"),
+    }
+}
+
+// Writes the sheet of an image of the series: straight into the room, once its length is known to fit.
+fn write_as(form: Form, series: Series, image: &[u8], room: &mut [u8]) -> Sheeted
+    requires { ⌜ Imaged series (now image) ⌝ }
+    ensures { λ r. ⌜ WritesSheet form (now (image .entry)) (now (room .entry)) r (now (room .exit)) ⌝ }
+{
+    let lines = HEAD + settings_length(series, image) + values_length(series, image);
+    let n = form_length(form) + lines + undo_length(form, series, image);
     if room.len() < n {
         return Sheeted::Room;
     }
+    let head_at = put_form(form, room);
     let head = series_line(series);
-    let settings_at = lay_text(room, 0, &head);
+    let settings_at = lay_text(room, head_at, &head);
     let values_at = put_settings(series, image, room, settings_at);
-    put_values(series, image, room, values_at);
+    let undo_at = put_values(series, image, room, values_at);
+    put_undo(form, series, image, room, undo_at);
     Sheeted::Written(n)
 }
 
-// Writes the sheet of a lent image into the room. 31 and 30 leave the room as it was; room beyond the sheet is untouched. The series is named so that the
-// compiler knows the table.
-pub fn write(image: &[u8], room: &mut [u8]) -> Sheeted
-    ensures { λ r. ⌜ WritesSheet (now (image .entry)) (now (room .entry)) r (now (room .exit)) ⌝ }
+// Writes the sheet of a lent image in a form into the room. 31 and 30 leave the room as it was; room beyond the sheet is untouched. The series is named so that
+// the compiler knows the table.
+pub fn write(form: Form, image: &[u8], room: &mut [u8]) -> Sheeted
+    ensures { λ r. ⌜ WritesSheet form (now (image .entry)) (now (room .entry)) r (now (room .exit)) ⌝ }
 {
     if !is_image(image) {
         return Sheeted::NoState;
     }
     let series = series_in(image);
     match series {
-        Series::Tps100 => write_as(Series::Tps100, image, room),
-        Series::Tps300 => write_as(Series::Tps300, image, room),
+        Series::Tps100 => write_as(form, Series::Tps100, image, room),
+        Series::Tps300 => write_as(form, Series::Tps300, image, room),
     }
 }

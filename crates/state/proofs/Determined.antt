@@ -8,7 +8,7 @@ use Rattle.figures.specs.Promises.{Determined}
 use Rattle.figures.proofs.Determined.{by-equation}
 use Rattle.state.specs.Entries.{blankEntry, factoryState}
 use Rattle.state.specs.Image.{valuesAt, imageN, seriesIn, isImage, encodedIn}
-use Rattle.state.specs.Keeping.{countIn, storedIn, stateOf, parameterLaid, valueLaid, entryLaid, countLaid, cleared, contentsLaid}
+use Rattle.state.specs.Keeping.{countIn, storedIn, entryAt, stateOf, parameterLaid, valueLaid, entryLaid, countLaid, cleared, contentsLaid}
 use Rattle.instrument.specs.declared.settings.Series.{Series}
 use Rattle.instrument.specs.declared.values.Kept.{Kept}
 use Rattle.instrument.specs.declared.values.Value.{Value}
@@ -35,6 +35,9 @@ parameter-in-determined = by-equation (ℕ × List ℕ) ℕ (λ i. getD (i .1) (
 
 pub value-in-determined : Determined (Series × ℕ × List ℕ) Kept (λ i r. r ≡ storedIn (i .0) (i .1) (i .2))
 value-in-determined = by-equation (Series × ℕ × List ℕ) Kept (λ i. storedIn (i .0) (i .1) (i .2))
+
+pub entry-at-determined : Determined (Series × ℕ × List ℕ) Entry (λ i r. r ≡ entryAt (i .0) (i .1) (i .2))
+entry-at-determined = by-equation (Series × ℕ × List ℕ) Entry (λ i. entryAt (i .0) (i .1) (i .2))
 
 abbrev Parts : Type 0
 Parts = Series × List ℕ × List ℕ × List ℕ × ℕ

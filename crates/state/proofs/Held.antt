@@ -14,9 +14,9 @@ use Rattle.figures.proofs.Tests.{both, by-test, and-on, and-off}
 use Rattle.instrument.specs.Values.{valuesN, isPut, keptRight, partsIn, partsN, partsRight, eightOf, eightBytes}
 use Rattle.instrument.specs.declared.settings.Series.{Series}
 use Rattle.instrument.specs.declared.values.Kept.the-variants.{Never}
-use Rattle.state.specs.Entries.{isNever}
+use Rattle.state.specs.Entries.{isNever, settable}
 use Rattle.state.specs.Image.{valueN, entryN, keptBytes, keptIn, entryIn}
-use Rattle.state.specs.Keeping.{settable, backRight, putsBack, valueLies, valuesLie, entryLies, rowFrom, entriesLie, allZeros}
+use Rattle.state.specs.Keeping.{backRight, putsBack, valueLies, valuesLie, entryLies, rowFrom, entriesLie, allZeros}
 use Rattle.state.proofs.Rows.{tab, spelt}
 use Rattle.state.proofs.Images.{kept-back}
 

@@ -22,11 +22,11 @@ use Rattle.instrument.specs.declared.values.Kept.the-variants.{Never}
 use Rattle.instrument.specs.declared.values.Value.{Value}
 use Rattle.instrument.proofs.Ranges.{place-row, settings-few, held-rows-long, ranges-long}
 use Rattle.state.specs.Entries.{entriesN, valueOf, valueHeld, blankEntry, isBlank, allBlank, Contents, contentsOf, valuesRight, contentsRight}
-use Rattle.state.specs.Entries.{valuesBack, contentsBack, mayGoBack, rightBack, isState}
+use Rattle.state.specs.Entries.{valuesBack, contentsBack, mayGoBack, itemRight, entryRight, rightBack, isState}
 use Rattle.state.specs.Image.{formOf, valuesAt, valueN, entryN, countAt, entriesAt, restN, imageN, keptBytes, entryBytes, flat, valuesBytes}
 use Rattle.state.specs.Image.{entriesBytes, imageOf, entryIn, rowsIn, valuesIn, entriesInOf, entriesIn, seriesIn, countFrom}
 use Rattle.state.specs.Image.{stateFrom, stateAsOf, stateAs, isImage}
-use Rattle.state.specs.Keeping.{itemRight, entryRight, putsOf, backRight, putsBack, valuesLie, rowFrom, entriesLie, allZeros, restRight, isImageBy}
+use Rattle.state.specs.Keeping.{putsOf, backRight, putsBack, valuesLie, rowFrom, entriesLie, allZeros, restRight, isImageBy}
 use Rattle.state.specs.declared.entries.Item.{Item}
 use Rattle.state.specs.declared.entries.Item.the-variants.{Free, Setting, Stored}
 use Rattle.state.specs.declared.entries.Former.{Former}
@@ -154,12 +154,12 @@ map-set f [] i a = refl
 map-set f (x ∷ l) zero a = refl
 map-set f (x ∷ l) (suc i) a = ap (λ (m : List _). f x ∷ m) (map-set f l i a)
 
-puts-back : (t : Item) (f : Former) (l : List Value) → putsOf (valuesBack l t f) ≡ putsBack (putsOf l) t (f .kept)
+pub puts-back : (t : Item) (f : Former) (l : List Value) → putsOf (valuesBack l t f) ≡ putsBack (putsOf l) t (f .kept)
 puts-back Free f l = refl
 puts-back (Setting i) f l = refl
 puts-back (Stored i) f l = map-set (λ (v : Value). isPut (v .kept)) l i (valueOf (f .kept))
 
-turn : (c : Contents) (t : Item) (f : Former) → contentsRight c ≡ true
+pub turn : (c : Contents) (t : Item) (f : Former) → contentsRight c ≡ true
     → itemRight (c .series) t (f .parameter) (f .kept) && backRight (putsOf (c .values)) t
     ≡ mayGoBack c t f && contentsRight (contentsBack c (record { item = t; former = f }))
 turn c Free f e = refl
@@ -195,7 +195,7 @@ turn c (Stored i) f e =
 
 -- entries up to the count, taken back one after the other
 
-step : (now same rows may back right named next rest : Bool) → (now ≡ true → right && named ≡ may && next) → rows && back ≡ next && rest
+pub step : (now same rows may back right named next rest : Bool) → (now ≡ true → right && named ≡ may && next) → rows && back ≡ next && rest
     → (same && rows) && (now && (may && back)) ≡ now && ((same && right) && (named && rest))
 step false same rows may back right named next rest one later = and-false (same && rows)
 step true same rows may back right named next rest one later =

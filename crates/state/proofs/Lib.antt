@@ -4,4 +4,5 @@ pub mod Images
 pub mod Held
 pub mod Judged
 pub mod Places
+pub mod Listed
 pub mod Determined

@@ -21,12 +21,12 @@ use Rattle.instrument.proofs.Ranges.{settings-few}
 use Rattle.state.specs.Entries.{entriesN, valueOf, valueHeld, blankEntry, noEntries, isBlank, allBlank, isState}
 use Rattle.state.specs.Image.{formOf, valueN, entryN, valuesAt, countAt, entriesAt, restN, imageN, keptBytes, entryBytes, countBytes, valuesBytes, entriesBytes, restOf, imageOf}
 use Rattle.state.specs.Image.{entryIn, valuesIn, entriesIn, seriesIn, stateAsOf, stateAs, stateIn}
-use Rattle.state.specs.Keeping.{Imaged, countIn, storedIn, valuesRead, entriesRead, stateOf}
+use Rattle.state.specs.Keeping.{Imaged, countIn, storedIn, entryAt, valuesRead, entriesRead, stateOf}
 use Rattle.state.specs.Keeping.{laidAt, parameterLaid, valueLaid, entryLaid, countLaid, cleared, contentsLaid}
 use Rattle.state.specs.declared.entries.Entry.{Entry}
 use Rattle.state.specs.declared.entries.State.{State}
 use Rattle.state.proofs.Steps.{state-parts, blank-is}
-use Rattle.state.proofs.Rows.{row-at, rows-first, rows-long, row-in, valueBytes, valueIn}
+use Rattle.state.proofs.Rows.{rows-first, rows-long, row-part, valueBytes, valueIn}
 use Rattle.state.proofs.Rows.{laid-after, laid-before, laid-all, byte-laid, row-laid, flat-append, flat-length, flat-zeros}
 use Rattle.state.proofs.Images.{Shaped, shaped, imaged, image-of, padded-is, length-held, length-values, kept-back, value-back, entry-back}
 
@@ -37,13 +37,16 @@ blanks-are (e ∷ u) h =
     let (here, later) = both (isBlank e) (allBlank u) h in
     λ i. blank-is e here i ∷ blanks-are u later i
 
+-- a list that is blank past its first n is those, and blanks
+pub blank-past : (u : List Entry) (n : ℕ) → length u ≡ entriesN → allBlank (drop n u) ≡ true → u ≡ take n u ++ replicate (entriesN - n) blankEntry
+blank-past u n long blank =
+    sym (take-append-drop n u) ∙ ap (λ (t : List Entry). take n u ++ t) (blanks-are (drop n u) blank ∙ rw (length-drop n u, long))
+
 -- entries read up to the count are all of them, where those past it are blank
 entries-read : (n : ℕ) (e : List ℕ) → length e ≡ entriesN * entryN → n ≤ entriesN → allBlank (drop n (entriesIn e)) ≡ true → entriesRead n e ≡ entriesIn e
 entries-read n e long few blank =
-    let u = entriesIn e in
-    let past : drop n u ≡ replicate (entriesN - n) blankEntry =
-    blanks-are (drop n u) blank ∙ rw (length-drop n u, rows-long entryIn entryN entriesN e) in
-    rw (eq-eqb (length e) (entriesN * entryN) long, min-eq-left few, ← past, ← rows-first entryIn entryN n entriesN e few) (take-append-drop n u)
+    let all = blank-past (entriesIn e) n (rows-long entryIn entryN entriesN e) blank in
+    rw (eq-eqb (length e) (entriesN * entryN) long, min-eq-left few, ← rows-first entryIn entryN n entriesN e few) (sym all)
 
 -- what is read from an image of the series k
 
@@ -75,14 +78,19 @@ module _ {k : Series} {l : List ℕ} (im : Imaged k l) where
   pub stored-read : (i : ℕ) → i < valuesN → storedIn k i l ≡ valueHeld (stateIn l .values) i .kept
   unfolding stateAsOf
   stored-read i h =
-      let rest = drop (valuesAt k) l in
-      let at = valuesAt k + i * valueN in
-      let row : valueHeld (stateAs k l .values) i ≡ valueIn (take valueN (drop at l)) =
-      row-at valueIn valueN i valuesN (take countAt rest) (valueOf Never) h
-      ∙ ap valueIn (row-in valueN (i * valueN) countAt rest (omega arith) (omega (arith, length-drop (valuesAt k) l, image-long)))
-      ∙ ap (λ (t : List ℕ). valueIn (take valueN t)) (drop-drop (i * valueN) (valuesAt k) l) in
-      rw (lt-ltb i valuesN h, le-leb (at + valueN) (length l) (omega (arith, image-long)))
+      let at = valuesAt k in
+      let row = row-part valueIn valueN i valuesN at l (valueOf Never) h (omega (arith, image-long)) in
+      rw (lt-ltb i valuesN h, le-leb (at + i * valueN + valueN) (length l) (omega (arith, image-long)))
       (sym (ap (λ (v : Value). v .kept) row) ∙ ap (λ (s : State). valueHeld (s .values) i .kept) as-said)
+
+  pub entry-read : (n : ℕ) → n < entriesN → entryAt k n l ≡ getD (stateIn l .undo) n blankEntry
+  unfolding stateAsOf
+  entry-read n h =
+      let at = valuesAt k + entriesAt in
+      let part : drop entriesAt (drop (valuesAt k) l) ≡ drop at l = drop-drop entriesAt (valuesAt k) l in
+      let row = row-part entryIn entryN n entriesN at l blankEntry h (omega (arith, image-long)) in
+      rw (lt-ltb n entriesN h, le-leb (at + n * entryN + entryN) (length l) (omega (arith, image-long)))
+      (sym (rw part row) ∙ ap (λ (s : State). getD (s .undo) n blankEntry) as-said)
 
   -- the whole state by the parts of the image
   pub state-read : stateOf k (take (settingsN k) (drop 1 l)) (take countAt (drop (valuesAt k) l))
@@ -255,8 +263,7 @@ entries-cleared u n long few blank =
     let done = entriesBytes (take n u) in
     let past = replicate (entriesN - n) blankEntry in
     let m : n + (entriesN - n) ≡ entriesN = omega arith in
-    let split : u ≡ take n u ++ past =
-    sym (take-append-drop n u) ∙ ap (λ (t : List Entry). take n u ++ t) (blanks-are (drop n u) blank ∙ rw (length-drop n u, long)) in
+    let split = blank-past u n long blank in
     let ld : length done ≡ n * entryN =
     flat-length entryBytes entryN (λ x. entry-back x .0) (take n u) ∙ rw (length-take-le n u (omega arith)) in
     let lz : length zeros ≡ n * entryN = length-replicate (n * entryN) 0 in

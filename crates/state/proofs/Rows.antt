@@ -3,13 +3,13 @@
 use Prim.Native.Nat.{ℕ, zero, suc, _+_, _*_, _-_, _<_, _≤_}
 use mathlib.Core.Path.{_≡_, refl, sym, ap, _∙_, subst}
 use mathlib.Core.List.{List, [], _∷_, _++_, append-assoc, append-nil}
-use native.Mathlib.Nat.{zero-add, suc-add, zero-mul, suc-mul, add-comm}
+use native.Mathlib.Nat.{zero-add, suc-add, zero-mul, suc-mul, add-comm, mul-le-mul-right}
 use native.Mathlib.Numerals.{add-one}
 use native.Mathlib.Omega.{arith}
 use borrow.Author.Tests.{le-leb, lt-leb, leb-true, leb-false}
 use lib.Dec.{leb}
 use borrow.Rule.Slice.PartMut.{putMid, midOf, postOf, same-len-mid, mid-len}
-use lib.ListN.{length, getD, set, take, drop, replicate, drop-of-length-le, length-append, replicate-append-replicate}
+use lib.ListN.{length, getD, set, take, drop, replicate, drop-of-length-le, length-append, length-drop, replicate-append-replicate}
 use lib.Seq.{take-suc, take-all, take-at, take-take, take-add, take-append-add, take-append-le, drop-at, drop-drop, drop-append-add, drop-append-le}
 use lib.Seq.{set-at, set-split, append-snoc, length-take-le}
 use Rattle.figures.specs.Bytes.{laid}
@@ -193,16 +193,30 @@ row-in w n m l h hl =
     ap (λ (j : ℕ). drop n (take j l)) q ∙ ap (drop n) (take-add n (m - n) l) ∙ drop-at (take n l) (take (m - n) (drop n l)) n (length-take-le n l (omega arith)) in
     ap (take w) past ∙ take-take w (m - n) (drop n l) (omega arith)
 
+-- a row of those that lie from a place on
+pub row-part : {A : Type 0} (g : List ℕ → A) (w i n a : ℕ) (l : List ℕ) (d : A) → i < n → a + n * w ≤ length l
+    → getD (rowsIn g w n (take (n * w) (drop a l))) i d ≡ g (take w (drop (a + i * w) l))
+row-part g w i n a l d h hl =
+    let there : i * w + w ≤ n * w = rw suc-mul at (mul-le-mul-right {m = suc i} {n = n} w (omega arith)) in
+    row-at g w i n (take (n * w) (drop a l)) d h
+    ∙ ap g (row-in w (i * w) (n * w) (drop a l) there (omega (arith, length-drop a l)))
+    ∙ rw (drop-drop (i * w) a l)
+
+-- an element stored after the first i of m, where those past them are alike
+pub set-next : {A : Type 0} (done : List A) (i m : ℕ) (d x : A) → length done ≡ i → i < m
+    → set (done ++ replicate (m - i) d) i x ≡ (done ++ (x ∷ [])) ++ replicate (m - (i + 1)) d
+set-next done i m d x long h =
+    let n : m - i ≡ suc (m - (i + 1)) = omega arith in
+    let past = replicate (m - (i + 1)) d in
+    rw (n, append-snoc done x past) (set-at done d past x i long)
+
 -- a turn of a loop that reads rows into a list of m that is blank past them: row i stands in the part from i * w
 pub read-more : {A : Type 0} (g : List ℕ → A) (w i m : ℕ) (l : List ℕ) (u : List A) (d x : A)
     → i < m → x ≡ g (midOf (i * w) (i * w + w - i * w) l) → u ≡ rowsIn g w i l ++ replicate (m - i) d
     → set u i x ≡ rowsIn g w (i + 1) l ++ replicate (m - (i + 1)) d
 read-more g w i m l u d x hi hx h =
     let e : i * w + w - i * w ≡ w = omega arith in
-    let n : m - i ≡ suc (m - suc i) = omega arith in
-    let done = rowsIn g w i l in
-    let past = replicate (m - suc i) d in
-    rw (h, n, set-at done d past x i (rows-long g w i l), add-one i, rows-snoc g w i l, append-snoc done (g (take w (drop (i * w) l))) past, hx, e)
+    rw (h, set-next (rowsIn g w i l) i m d x (rows-long g w i l) hi, add-one i, rows-snoc g w i l, hx, e)
 
 -- what was laid down is read again
 pub rows-flat : {A : Type 0} (f : A → List ℕ) (g : List ℕ → A) (w : ℕ)

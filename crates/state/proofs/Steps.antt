@@ -162,7 +162,7 @@ module _ (u : List Entry) (n : ℕ) (h : n < length u) where
       let v = set u n blankEntry in
       rw (drop-cons v n blankEntry (rw length-set h), getD-set-same u n blankEntry blankEntry h, drop-set-lt (suc n) u n blankEntry (omega arith)) blank
 
-blanks : (n : ℕ) → allBlank (replicate n blankEntry) ≡ true
+pub blanks : (n : ℕ) → allBlank (replicate n blankEntry) ≡ true
 unfolding allBlank
 blanks zero = refl
 blanks (suc n) = blanks n

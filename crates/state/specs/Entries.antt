@@ -1,11 +1,11 @@
 -- What a state is. "A state is settings in range, each value never put or as a PUT can leave it, and 0 to 64 entries holding the same; taken back newest
 -- first, none names a value then never put."
-use Prim.Native.Nat.{ℕ, zero, suc, _+_}
+use Prim.Native.Nat.{ℕ, zero, suc, _+_, _-_}
 use mathlib.Core.Bool.{Bool, true, false, not, _&&_}
-use mathlib.Core.List.{List, [], _∷_}
+use mathlib.Core.List.{List, [], _∷_, _++_}
 use lib.Dec.{eqb, leb, ltb}
 use lib.ListN.{length, getD, set, drop, replicate}
-use Rattle.instrument.specs.Settings.{settingsN, rowAt, heldRows, isAsked, factorySettings, inRanges}
+use Rattle.instrument.specs.Settings.{settingsN, rowAt, heldRows, isAsked, factorySettings, inRange, inRanges}
 use Rattle.instrument.specs.Values.{valuesN, isPut, keptRight}
 use Rattle.instrument.specs.declared.settings.Series.{Series}
 use Rattle.instrument.specs.declared.values.Kept.{Kept}
@@ -33,6 +33,11 @@ entryOf i p k = record { item = i; former = record { parameter = p; kept = k } }
 
 abbrev pub blankEntry : Entry
 blankEntry = entryOf Free 0 Never
+
+-- some undo entries, the oldest first; the places past them are blank
+abbrev pub withEntries : Series → List ℕ → List Value → List Entry → State
+withEntries k settings values entries =
+    record { series = k; settings = settings; values = values; undo = entries ++ replicate (entriesN - length entries) blankEntry; count = length entries }
 
 -- no undo entry
 abbrev pub noEntries : Series → List ℕ → List Value → State
@@ -103,6 +108,19 @@ abbrev pub mayGoBack : Contents → Item → Former → Bool
 mayGoBack c Free f = false
 mayGoBack c (Setting i) f = (ltb i (settingsN (c .series)) && not (isAsked (rowAt (c .series) i))) && isNever (f .kept)
 mayGoBack c (Stored i) f = (ltb i valuesN && isPut (valueHeld (c .values) i .kept)) && eqb (f .parameter) 0
+
+-- a parameter that a SET can leave at a place
+abbrev pub settable : Series → ℕ → ℕ → Bool
+settable k i p = ltb i (settingsN k) && (not (isAsked (rowAt k i)) && inRange (rowAt k i) p)
+
+abbrev pub itemRight : Series → Item → ℕ → Kept → Bool
+itemRight k Free p w = false
+itemRight k (Setting i) p w = settable k i p && isNever w
+itemRight k (Stored i) p w = ltb i valuesN && (eqb p 0 && keptRight i w)
+
+-- "entries holding the same": an entry by itself, whatever stands when it is taken back
+abbrev pub entryRight : Series → Entry → Bool
+entryRight k e = itemRight k (e .item) (e .former .parameter) (e .former .kept)
 
 -- right now, and right again as each of the first n entries is taken back, newest first
 unfoldable pub rightBack : ℕ → Contents → List Entry → Bool

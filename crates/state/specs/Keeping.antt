@@ -2,37 +2,24 @@
 -- judged is what an image is; proofs/Places.antt, that what is read is the state's, and that what is laid down is the image of the state so altered.
 use Prim.Native.Nat.{ℕ, zero, suc, _+_, _-_, _*_, min}
 use mathlib.Core.Path.{_≡_}
-use mathlib.Core.Bool.{Bool, true, false, cond, not, _&&_}
+use mathlib.Core.Bool.{Bool, true, false, cond, _&&_}
 use mathlib.Core.List.{List, [], _∷_, _++_, map}
 use lib.Dec.{eqb, leb, ltb}
 use lib.ListN.{length, getD, set, take, drop, replicate}
 use Rattle.figures.specs.Bytes.{every, within, sameBytes}
-use Rattle.instrument.specs.Settings.{settingsN, settingsMost, rowsOf, rowAt, isAsked, inRange, inRanges, held, padded}
+use Rattle.instrument.specs.Settings.{settingsN, settingsMost, rowsOf, inRanges, held, padded}
 use Rattle.instrument.specs.Values.{valuesN, isPut, keptRight}
 use Rattle.instrument.specs.declared.settings.Series.{Series}
 use Rattle.instrument.specs.declared.values.Kept.{Kept}
 use Rattle.instrument.specs.declared.values.Kept.the-variants.{Never}
 use Rattle.instrument.specs.declared.values.Value.{Value}
-use Rattle.state.specs.Entries.{entriesN, valueOf, blankEntry, isNever}
+use Rattle.state.specs.Entries.{entriesN, valueOf, blankEntry, entryRight}
 use Rattle.state.specs.Image.{formOf, valueN, entryN, valuesAt, countAt, entriesAt, imageN, keptBytes, entryBytes, countBytes, valuesBytes}
 use Rattle.state.specs.Image.{keptIn, entryIn, rowsIn, valuesIn, countFrom, seriesIn, isImage}
 use Rattle.state.specs.declared.entries.Item.{Item}
 use Rattle.state.specs.declared.entries.Item.the-variants.{Free, Setting, Stored}
 use Rattle.state.specs.declared.entries.Entry.{Entry}
 use Rattle.state.specs.declared.entries.State.{State}
-
--- a parameter that a SET can leave at a place
-abbrev pub settable : Series → ℕ → ℕ → Bool
-settable k i p = ltb i (settingsN k) && (not (isAsked (rowAt k i)) && inRange (rowAt k i) p)
-
-abbrev pub itemRight : Series → Item → ℕ → Kept → Bool
-itemRight k Free p w = false
-itemRight k (Setting i) p w = settable k i p && isNever w
-itemRight k (Stored i) p w = ltb i valuesN && (eqb p 0 && keptRight i w)
-
--- an entry that may stand, by itself
-abbrev pub entryRight : Series → Entry → Bool
-entryRight k e = itemRight k (e .item) (e .former .parameter) (e .former .kept)
 
 abbrev pub putsOf : List Value → List Bool
 putsOf = map (λ (v : Value). isPut (v .kept))
@@ -71,6 +58,12 @@ entriesLie k (suc n) puts l =
     let e = entryIn (rowFrom n l) in
     entryLies k (rowFrom n l) && (backRight puts (e .item) && entriesLie k n (putsBack puts (e .item) (e .former .kept)) l)
 
+-- the same of entries that are each right by themselves: none, taken back newest first, names a value then never put
+unfoldable pub goesBack : ℕ → List Bool → List Entry → Bool
+goesBack zero puts u = true
+goesBack (suc n) puts u =
+    let e = getD u n blankEntry in backRight puts (e .item) && goesBack n (putsBack puts (e .item) (e .former .kept)) u
+
 abbrev pub allZeros : List ℕ → Bool
 allZeros = every (within 0 0)
 
@@ -102,6 +95,12 @@ abbrev pub storedIn : Series → ℕ → List ℕ → Kept
 storedIn k i l =
     let at = valuesAt k + i * valueN in
     cond (ltb i valuesN && leb (at + valueN) (length l)) (keptIn (take valueN (drop at l))) Never
+
+-- the entry at a place of the list; past the last, and past the end of the bytes, blank
+abbrev pub entryAt : Series → ℕ → List ℕ → Entry
+entryAt k n l =
+    let at = valuesAt k + entriesAt + n * entryN in
+    cond (ltb n entriesN && leb (at + entryN) (length l)) (entryIn (take entryN (drop at l))) blankEntry
 
 -- values and entries from bytes as many as an image has for them, and blank otherwise; entries past the count are blank
 abbrev pub valuesRead : List ℕ → List Value

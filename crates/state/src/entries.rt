@@ -1,7 +1,6 @@
 // The state, and its undo list: an array by value of entries, each with the item and its former content, blank past the count.
 ghost use mathlib.Core.Path.{_≡_};
-ghost use Rattle.state.specs.Entries.{blankEntry};
-ghost use Rattle.state.specs.Keeping.{settable};
+ghost use Rattle.state.specs.Entries.{blankEntry, settable};
 use figures::casts::wide;
 use instrument::settings::SETTINGS;
 use instrument::settings::Series;

@@ -3,7 +3,7 @@ ghost use mathlib.Core.Path.{_≡_};
 ghost use Prim.Native.Nat.{_≤_, _+_};
 ghost use lib.ListN.{length, getD};
 ghost use Rattle.state.specs.Image.{formOf, valuesAt, valueN, entryN, imageN, keptIn, entryIn, seriesIn};
-ghost use Rattle.state.specs.Keeping.{countIn, storedIn, valuesRead, entriesRead, stateOf};
+ghost use Rattle.state.specs.Keeping.{countIn, storedIn, entryAt, valuesRead, entriesRead, stateOf};
 use crate::entries::ENTRIES;
 use crate::entries::Entry;
 use crate::entries::Former;
@@ -199,6 +199,21 @@ pub fn value_in(series: Series, place: usize, image: &[u8]) -> Kept
         return Kept::Never;
     }
     kept_in(&image[a..z])
+}
+
+// Reads the entry at a place of the list; past the last, and past the bytes' end, it is blank.
+pub fn entry_at(series: Series, n: usize, image: &[u8]) -> Entry
+    ensures { λ r. ⌜ r ≡ entryAt series n (now (image .entry)) ⌝ }
+{
+    if ENTRIES <= n {
+        return blank_entry();
+    }
+    let a = values_at(series) + ENTRIES_AT + n * ENTRY;
+    let z = a + ENTRY;
+    if image.len() < z {
+        return blank_entry();
+    }
+    entry_in(&image[a..z])
 }
 
 // Reads a state from the parts of its image: parameters, stored values, entries up to the count. Only SET, PUT and UNDO ask for it.

@@ -1,12 +1,12 @@
 -- `settings_in` meets its contract. The loop's invariant: the answer turns on the lines from `at` on and the parameters that were read.
 use Prim.Native.Nat.{ℕ, _≤_, _<_, _-_, _+_}
 use mathlib.Core.Path.{_≡_, refl, sym, ap, _∙_}
-use mathlib.Core.Bool.{true, false}
+use mathlib.Core.Bool.{true}
 use mathlib.Core.List.{List}
 use native.Mathlib.Nat.{sub-zero}
 use native.Mathlib.Omega.{arith}
 use borrow.Author.Needs.{needs}
-use lib.ListN.{length, drop, replicate, length-set}
+use lib.ListN.{length, drop, replicate, length-drop, length-set}
 use lib.Seq.{drop-drop, drop-set-lt}
 use Rattle.figures.specs.Bytes.{startsWith}
 use Rattle.instrument.specs.Settings.{settingsN, settingsMost}
@@ -14,6 +14,7 @@ use Rattle.instrument.specs.declared.settings.Series.{Series}
 use Rattle.instrument.proofs.Ranges.{settings-few}
 use Rattle.figures.proofs.Bytes.{starts-length}
 use Rattle.figures.proofs.Tests.{passed, failed}
+use Rattle.commands.proofs.Shape.{to-end}
 use Rattle.sheets.specs.Lines.{Part, wrongAt}
 use Rattle.sheets.specs.Sheet.{seriesLine, settingLines}
 use Rattle.sheets.specs.Loading.{settingsIn}
@@ -32,42 +33,55 @@ abbrev blanks : List ℕ
 blanks = replicate settingsMost 0
 
 abbrev Inv-loop : tie.InvT-loop
-Inv-loop series sheet count settings₀ at₀ i₀ settings at i =
+Inv-loop series sheet start count settings₀ at₀ i₀ settings at i =
     (count ≡ settingsN series)
     × (i ≤ count)
     × (at ≤ length sheet)
     × (length settings ≡ settingsMost)
     × (drop i settings ≡ drop i blanks)
-    × (settingsIn series sheet ≡ settingsLeft series i at sheet settings)
+    × (settingsIn series sheet start ≡ settingsLeft series i at sheet settings)
 
 abbrev μ-loop : tie.MeasureT-loop
-μ-loop series sheet count settings₀ at₀ i₀ settings at i = count - i
+μ-loop series sheet start count settings₀ at₀ i₀ settings at i = count - i
+
+abbrev begun : tie.After-starts Inv-loop μ-loop → tie.Start Inv-loop μ-loop
+begun c = c .before .before .before .before .before
+
+-- the series' line that was looked for
+head : (c : tie.After-starts Inv-loop μ-loop) → let a = begun c .args in
+    c .starts .result ≡ startsWith (seriesLine (a .series)) (drop (a .start) (a .sheet .now))
+head c =
+    let a = begun c .args in
+    c .starts .ensures ∙ (λ j. startsWith (c .before .before .before .series-line .ensures j) (to-end (a .start) (a .sheet .now) j))
 
 returns : tie.Need-returns Inv-loop μ-loop
 returns c =
     let told = c .before .before in
-    let head = told .before .before in
-    let a = head .before .before .args in
-    let astray : startsWith (seriesLine (a .series)) (a .sheet .now) ≡ false =
-    rw (head .series-line .ensures) at (failed (told .starts .ensures) (c .before .if1 .taken)) in
-    let wrong : settingsIn (a .series) (a .sheet .now) ≡ wrongAt 0 = rw astray in
+    let a = begun told .args in
+    let wrong : settingsIn (a .series) (a .sheet .now) (a .start) ≡ wrongAt (a .start) = rw (failed (head told) (c .before .if1 .taken)) in
     c .wrong-settings .ensures ∙ ap settingsAs (sym wrong)
+
+-- it stands, so the sheet has that many bytes more
+stands : (c : tie.Else1 Inv-loop μ-loop) → let a = begun (c .before) .args in
+    (startsWith (seriesLine (a .series)) (drop (a .start) (a .sheet .now)) ≡ true) × (a .start + 14 ≤ length (a .sheet .now))
+stands c =
+    let start = begun (c .before) in
+    let a = start .args in
+    let yes = passed (head (c .before)) (c .if1 .left) in
+    let rest = drop (a .start) (a .sheet .now) in
+    (yes, omega (arith, start .pre, starts-length (seriesLine (a .series)) rest yes, series-long (a .series), length-drop (a .start) (a .sheet .now)))
 
 loop-holds : tie.Need-loop-holds Inv-loop μ-loop
 loop-holds c =
-    let told = c .before .before in
-    let head = told .before .before in
-    let a = head .before .before .args in
+    let a = begun (c .before .before) .args in
     let sheet = a .sheet .now in
-    let yes : startsWith (seriesLine (a .series)) sheet ≡ true =
-    rw (head .series-line .ensures) at (passed (told .starts .ensures) (c .before .if1 .left)) in
-    let long = series-long (a .series) in
-    let left : settingsIn (a .series) sheet ≡ settingsLeft (a .series) 0 14 sheet blanks = rw (yes, long, sub-zero) in
-    (c .settings-of .ensures, omega arith, omega (arith, starts-length (seriesLine (a .series)) sheet yes, long), refl, refl, left)
+    let (named, within) = stands (c .before) in
+    let left : settingsIn (a .series) sheet (a .start) ≡ settingsLeft (a .series) 0 (a .start + 14) sheet blanks = rw (named, series-long (a .series), sub-zero) in
+    (c .settings-of .ensures, omega arith, within, refl, refl, left)
 
 -- where the loop began
 abbrev start : tie.At-loop Inv-loop μ-loop → tie.Start Inv-loop μ-loop
-start c = c .before .before .before .before .before .before .before
+start c = begun (c .before .before .before)
 
 abbrev of : tie.At-loop Inv-loop μ-loop → Series
 of c = start c .args .series
@@ -99,8 +113,8 @@ array-write-settings c =
     let turn = c .before .before .before in
     omega (arith, below turn, settings-few (of (turn .before)))
 
-add-at : tie.Need-add-at Inv-loop μ-loop
-add-at c =
+add-at-2 : tie.Need-add-at-2 Inv-loop μ-loop
+add-at-2 c =
     let at = c .before .before .before .before in
     omega (arith, turned (c .before) .within (c .if2 .left), start at .good)
 
@@ -135,10 +149,14 @@ settings-in-spec =
     μ-loop
     (λ c κs. tt)
     (λ c. search needs)
+    (λ c. search needs)
+    (λ c. search needs)
+    (λ c. search needs)
     (λ c κs. tt)
     (λ c κs. tt)
     returns
     (λ c κs. tt)
+    (λ c. omega (arith, stands (c .before) .1, begun (c .before .before) .good))
     loop-holds
     (λ c. omega arith)
     (λ c. omega arith)
@@ -147,7 +165,7 @@ settings-in-spec =
     (λ c κs. tt)
     returns-2
     array-write-settings
-    add-at
+    add-at-2
     (λ c. omega arith)
     (λ c. omega arith)
     loop-again

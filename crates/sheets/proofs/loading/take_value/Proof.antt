@@ -1,14 +1,15 @@
 -- `take_value` meets its contract: a line that ends after its key says that nothing was put.
 use mathlib.Core.Path.{_≡_, sym, ap, _∙_}
-use mathlib.Core.Bool.{true}
+use mathlib.Core.Bool.{Bool, true, false, cond}
 use native.Mathlib.Omega.{arith}
 use borrow.Author.Needs.{needs}
-use lib.ListN.{length}
+use lib.ListN.{length, drop}
 use Rattle.figures.specs.Bytes.{startsWith}
 use Rattle.figures.proofs.Tests.{passed, failed}
+use Rattle.instrument.specs.Values.{putKept}
 use Rattle.instrument.specs.declared.values.Stored.{Stored}
 use Rattle.sheets.specs.Sheet.{valueKey}
-use Rattle.sheets.specs.Keeping.{keyLength}
+use Rattle.sheets.specs.Keeping.{keyLength, noValue, valueTaken, putStands}
 use Rattle.sheets.proofs.Keyed.{key-part, value-keyed}
 use Rattle.sheets.proofs.Takes.{key-held, key-four, value-unkeyed, value-few, value-never, value-short, value-put}
 use Rattle.sheets.proofs.loading.take_value.Statement.{statement}
@@ -57,13 +58,23 @@ returns-4 c =
     c .no-value3 .ensures
     ∙ value-short (at .args .place) (at .pre) (at .args .s .now) (stands (long .before)) (omega (arith, long .if2 .left)) (other .if3 .left) (c .before .if4 .taken)
 
-returns-5 : tie.Need-returns-5
-returns-5 c =
+-- what was put
+put : (c : tie.After-put-stands) → let at = start (c .before .before .before .before .before .before) in
+    (b : Bool) → b ≡ putStands (at .args .place) (at .args .s .now)
+    → cond b (record { n = 20; kept = putKept (drop 4 (at .args .s .now)) }) noValue ≡ valueTaken (at .args .place) (at .args .s .now)
+put c =
     let other = c .before .before in
     let long = other .before .before in
     let at = start (long .before .before) in
-    c .take-put .ensures
-    ∙ value-put (at .args .place) (at .pre) (at .args .s .now) (stands (long .before)) (omega (arith, long .if2 .left)) (other .if3 .left)
+    value-put (at .args .place) (at .pre) (at .args .s .now) (stands (long .before)) (omega (arith, long .if2 .left)) (other .if3 .left)
+
+returns-5 : tie.Need-returns-5
+returns-5 c = let told = c .before .before in c .no-value4 .ensures ∙ put told false (sym (failed (told .put-stands .ensures) (c .before .if5 .taken)))
+
+returns-6 : tie.Need-returns-6
+returns-6 c =
+    let told = c .before .before in
+    (λ j. record { n = 20; kept = c .put-at .ensures j }) ∙ put told true (sym (passed (told .put-stands .ensures) (c .before .if5 .left)))
 
 pub take-value-spec : {M : Type 1} → statement M
 take-value-spec =
@@ -83,4 +94,7 @@ take-value-spec =
     (λ c κs. search needs)
     returns-4
     (λ c κs. search needs)
-    returns-5)
+    (λ c κs. search needs)
+    returns-5
+    (λ c κs. search needs)
+    returns-6)

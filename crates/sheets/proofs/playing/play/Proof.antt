@@ -12,23 +12,24 @@ use Rattle.pieces.specs.Pieces.{pieces}
 use Rattle.sheets.specs.Playing.{Prints}
 use Rattle.sheets.specs.Keeping.{runBy}
 use Rattle.sheets.specs.declared.answers.Sheeted.{Sheeted}
-use Rattle.sheets.specs.declared.answers.Sheeted.the-variants.{NoState, Room, Wrong, Written, Loaded}
+use Rattle.sheets.specs.declared.answers.Sheeted.the-variants.{NoState, Room, Wrong, Standing, Written, Loaded}
 use Rattle.sheets.proofs.Reached.{factory100, writtenN, plays-printed, plays-short, plays-refused}
 use Rattle.sheets.proofs.answers.Sheeted.{the-type}
 use Rattle.sheets.proofs.playing.play.Statement.{statement}
 use Rattle.sheets.proofs.playing.play.Tie as tie
 
-rest : (a : Sheeted) → OneOf (0 ∷ 1 ∷ 2 ∷ 4 ∷ []) (tagOf the-type a) → 0 ≡ writtenN a
+rest : (a : Sheeted) → OneOf (0 ∷ 1 ∷ 2 ∷ 3 ∷ 5 ∷ []) (tagOf the-type a) → 0 ≡ writtenN a
 rest NoState h = refl
 rest Room h = refl
 rest (Wrong at) h = refl
-rest (Written n) h = absurd (miss (0 ∷ 1 ∷ 2 ∷ 4 ∷ []) 3 tt h)
+rest (Standing at) h = refl
+rest (Written n) h = absurd (miss (0 ∷ 1 ∷ 2 ∷ 3 ∷ 5 ∷ []) 4 tt h)
 rest Loaded h = refl
 
 -- what the write comes to
 out : (w : tie.After-write) (r : ℕ) → r ≡ writtenN (w .write .result)
     → let a = w .before .before .before .before .before .before .before .before .before .before .before .before .args in
-    Prints (a .input .now) (a .room .now) r (w .write .last .1 .0)
+    Prints (a .input .now) (a .room .now) r (w .write .last .1 .1 .0)
 out w r er =
     let run = w .before .before .before .before in
     let factory = run .before .before .before in
@@ -36,7 +37,7 @@ out w r er =
     let a = even .before .before .before .args in
     let room : List ℕ = replicate (20 + restN) 0 in
     let first : factory .put-factory .last .1 .0 ≡ imageOf factory100 = factory .put-factory .ensures ∙ encoded-fits factory100 room (sym image-100) in
-    plays-printed (a .input .now) (run .run .last .1 .0) (a .room .now) (w .write .last .1 .0) (w .write .result) r (even .if1 .left)
+    plays-printed (a .input .now) (run .run .last .1 .0) (a .room .now) (w .write .last .1 .1 .0) (w .write .result) r (even .if1 .left)
     (run .run .ensures ∙ ap (runBy (pieces (a .input .now))) first) (w .write .ensures) er
 
 returns : tie.Need-returns

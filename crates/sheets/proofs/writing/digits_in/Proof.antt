@@ -1,4 +1,4 @@
--- `digits_in` meets its contract: a byte has one digit, two or three.
+-- `digits_in` meets its contract: a number below 1000 has one digit, two or three.
 use mathlib.Core.Path.{sym}
 use native.Mathlib.Omega.{arith}
 use Rattle.sheets.proofs.Linewise.{one-digit, two-digits, three-digits, digits-as}
@@ -7,18 +7,18 @@ use Rattle.sheets.proofs.writing.digits_in.Tie as tie
 
 returns : tie.Need-returns
 returns c =
-    let p = c .before .args .parameter in
-    sym (digits-as p (one-digit p (omega arith)))
+    let n = c .before .args .number in
+    (sym (digits-as n (one-digit n (omega arith))), omega arith)
 
 returns-2 : tie.Need-returns-2
 returns-2 c =
-    let p = c .before .before .args .parameter in
-    sym (digits-as p (two-digits p (omega arith) (omega arith)))
+    let n = c .before .before .args .number in
+    (sym (digits-as n (two-digits n (omega arith) (omega arith))), omega arith)
 
 returns-3 : tie.Need-returns-3
 returns-3 c =
-    let p = c .before .before .args .parameter in
-    sym (digits-as p (three-digits p (omega arith) (omega arith)))
+    let n = c .before .before .args .number in
+    (sym (digits-as n (three-digits n (omega arith) (omega arith))), omega arith)
 
 pub digits-in-spec : {M : Type 1} → statement M
 digits-in-spec = tie.close (tie.spec returns returns-2 returns-3)

@@ -1,30 +1,19 @@
 -- `put_key` meets its contract: a key with a fifth byte has five, any other that is put four.
-use Prim.Native.Nat.{ℕ, _≤_}
 use mathlib.Core.Path.{_≡_, refl, ap}
-use mathlib.Core.Bool.{Bool, true, false, cond}
-use mathlib.Core.List.{List}
 use native.Mathlib.Omega.{arith}
 use borrow.Author.Needs.{needs}
-use borrow.Author.Tests.{eq-eqb, ne-eqb}
-use lib.Dec.{eqb}
-use lib.ListN.{getD, take, length-take}
+use lib.ListN.{take, length-take}
 use Rattle.figures.proofs.Putting.{puts-as}
 use Rattle.sheets.specs.Keeping.{keyLength}
+use Rattle.sheets.proofs.Keyed.{key-five, key-four}
 use Rattle.sheets.proofs.writing.put_key.Statement.{statement}
 use Rattle.sheets.proofs.writing.put_key.Tie as tie
 
 five : (c : tie.Then1) → keyLength (c .before .before .args .t1) ≡ 5
-five c = rw (ne-eqb _ _ (c .if1 .taken))
+five c = key-five (c .before .before .args .t1) (c .if1 .taken)
 
 four : (c : tie.Else1) → keyLength (c .before .before .args .t1) ≡ 4
-four c = of (c .before .before .args .t1) (c .if1 .left) (c .before .before .pre .0)
-  where
-    by : (third : Bool) → 4 ≤ cond third 3 4 → _≡_ {A = ℕ} (cond third 3 4) 4
-    by true h = omega (arith, h)
-    by false h = refl
-
-    of : (key : List ℕ) → getD key 4 0 ≡ 0 → 4 ≤ keyLength key → keyLength key ≡ 4
-    of key e = rw (eq-eqb (getD key 4 0) 0 e) (by (eqb (getD key 3 0) 0))
+four c = key-four (c .before .before .args .t1) (c .if1 .left) (c .before .before .pre .0)
 
 lay-text-requires : tie.Need-lay-text-requires
 lay-text-requires c κs =

@@ -1,104 +1,23 @@
--- `put_value` meets its contract: the four bytes of the key, the fifteen characters of a value that was put, and LF.
-use Prim.Native.Nat.{ℕ, _<_}
-use mathlib.Core.Path.{_≡_, refl, ap, _∙_}
-use mathlib.Core.List.{List, _++_}
+-- `put_value` meets its contract: a value's line is its name and what was put, with `=` between.
+use mathlib.Core.Path.{refl, ap}
 use native.Mathlib.Omega.{arith}
 use borrow.Author.Needs.{needs}
 use lib.ListN.{length}
-use Rattle.figures.specs.Text.{codes}
 use Rattle.figures.proofs.Putting.{puts-as}
-use Rattle.instrument.specs.Values.{storedAt, valuesN, getWord}
-use Rattle.instrument.specs.declared.values.Eight.{Eight}
-use Rattle.instrument.specs.declared.values.Kept.{Kept}
-use Rattle.instrument.specs.declared.values.Kept.the-variants.{Never, Put}
-use Rattle.instrument.specs.declared.values.Stored.{Stored}
-use Rattle.instrument.proofs.Kept.{elements}
-use Rattle.sheets.specs.Sheet.{charactersOf, keptLine}
-use Rattle.sheets.proofs.Keyed.{firstFour, value-key}
+use Rattle.sheets.proofs.Linewise.{kept-text}
 use Rattle.sheets.proofs.writing.put_value.Statement.{statement}
 use Rattle.sheets.proofs.writing.put_value.Tie as tie
 
-module _ {i : ℕ} {r : Stored} (kept : Kept) (h : i < valuesN) (row : r ≡ storedAt i) where
-  keyed : keptLine i kept ≡ firstFour (storedAt i .key) ++ (charactersOf i kept ++ codes "\n")
-  keyed = ap (λ (t : List ℕ). t ++ (charactersOf i kept ++ codes "\n")) (value-key i h)
-
-  put : {w : List ℕ} {u m : ℕ} {d : Eight} → kept ≡ Put u m d → w ≡ getWord i kept → keptLine i kept ≡ firstFour (r .key) ++ (elements 15 0 w ++ codes "\n")
-  unfolding elements
-  put e word = keyed ∙ rw (word, e, row)
-
-  never : kept ≡ Never → keptLine i kept ≡ firstFour (r .key) ++ codes "\n"
-  never e = keyed ∙ rw (e, row)
-
--- the two lines as they are made
-
-whole : (c : tie.After-get-word) → let row = c .before .before .before .before in
-    let a = row .before .before .args in
-    keptLine (a .place) (a .kept) ≡ firstFour (row .stored-at .result .key) ++ (elements 15 0 (c .get-word .result) ++ codes "\n")
-whole c =
-    let row = c .before .before .before .before in
-    put (row .before .before .args .kept) (row .before .before .pre .0) (row .stored-at .ensures) (c .before .enum-told .given .1) (c .get-word .ensures)
-
-bare : (c : tie.After-enum-told2) → let row = c .before .before .before in
-    let a = row .before .before .args in
-    keptLine (a .place) (a .kept) ≡ firstFour (row .stored-at .result .key) ++ codes "\n"
-bare c =
-    let row = c .before .before .before in
-    never (row .before .before .args .kept) (row .before .before .pre .0) (row .stored-at .ensures) (c .enum-told2 .given .1)
-
-lay-text-requires : tie.Need-lay-text-requires
-unfolding elements
-lay-text-requires c κs = omega (arith, ap length (whole (c .before .before)))
+put-kept-requires : tie.Need-put-kept-requires
+put-kept-requires c κs =
+    let start = c .before .before in
+    (start .pre .0, omega (arith, start .pre .1, ap length (kept-text (start .args .place) (start .args .kept))))
 
 returns : tie.Need-returns
-unfolding elements
 returns c =
-    let lay = c .before .before in
-    puts-as _ _ _ _ (whole (lay .before .before .before)) refl refl (lay .lay-text .ensures)
-
-lay-text-requires-2 : tie.Need-lay-text-requires-2
-lay-text-requires-2 c κs = omega (arith, ap length (bare (c .before .before)))
-
-returns-2 : tie.Need-returns-2
-returns-2 c =
-    let lay = c .before .before in
-    puts-as _ _ _ _ (bare (lay .before .before .before)) refl refl (lay .lay-text2 .ensures)
+    let put = c .before .before in
+    let a = put .before .before .before .args in
+    puts-as _ _ _ _ (kept-text (a .place) (a .kept)) refl refl (put .put-kept .ensures)
 
 pub put-value-spec : {M : Type 1} → statement M
-put-value-spec =
-    tie.close
-    (tie.spec
-    (λ c κs. search needs)
-    (λ c. search needs)
-    (λ c κs. search needs)
-    (λ c. search needs)
-    (λ c. search needs)
-    (λ c. search needs)
-    (λ c. search needs)
-    (λ c. search needs)
-    (λ c. search needs)
-    (λ c. search needs)
-    (λ c. search needs)
-    (λ c. search needs)
-    (λ c. search needs)
-    (λ c. search needs)
-    (λ c. search needs)
-    (λ c. search needs)
-    (λ c. search needs)
-    (λ c. search needs)
-    (λ c. search needs)
-    (λ c. search needs)
-    (λ c. search needs)
-    (λ c. search needs)
-    (λ c. search needs)
-    lay-text-requires
-    (λ c. search needs)
-    returns
-    (λ c. search needs)
-    (λ c. search needs)
-    (λ c. search needs)
-    (λ c. search needs)
-    (λ c. search needs)
-    (λ c. search needs)
-    lay-text-requires-2
-    (λ c. search needs)
-    returns-2)
+put-value-spec = tie.close (tie.spec put-kept-requires (λ c. search needs) returns)

@@ -9,7 +9,7 @@ use Rattle.instrument.proofs.Ranges.{settings-few}
 use Rattle.state.specs.Image.{stateIn}
 use Rattle.state.proofs.Places.{series-read}
 use Rattle.sheets.specs.Keeping.{keysN}
-use Rattle.sheets.proofs.Linewise.{short-decimal, sizeTo, keys-few, size-none, size-more, size-all}
+use Rattle.sheets.proofs.Linewise.{sizeTo, keys-few, size-none, size-more, size-all}
 use Rattle.sheets.proofs.Writes.{ownIn, own-long, own-count, own-read}
 use Rattle.sheets.proofs.writing.settings_length.Statement.{statement}
 use Rattle.sheets.proofs.writing.settings_length.Tie as tie
@@ -32,18 +32,16 @@ loop-holds c =
       omega (arith, keys, keys-few (start .args .series)),
     )
 
-few : (c : tie.After-digits-in Inv-loop μ-loop) → c .digits-in .result ≤ 3
-few c = omega (arith, c .digits-in .ensures, short-decimal (c .before .parameter-in .result) (omega arith) .0)
-
 add-n : tie.Need-add-n Inv-loop μ-loop
 add-n c =
-    let turn = c .before .before in
+    let turn = c .before .before .before in
     let start = turn .before .before .before .before .before in
-    omega (arith, few c, turn .loop-test .taken, turn .before .loop .inv, own-count (start .pre), settings-few (start .args .series))
+    omega (arith, c .digits-in .ensures .1, turn .loop-test .taken, turn .before .loop .inv, own-count (start .pre), settings-few (start .args .series))
 
 loop-again : tie.Need-loop-again Inv-loop μ-loop
 loop-again c =
-    let read = c .before in
+    let wide = c .before in
+    let read = wide .before in
     let turn = read .before in
     let at = turn .before in
     let start = at .before .before .before .before in
@@ -52,9 +50,9 @@ loop-again c =
     let own = ownIn image in
     let i = at .loop .i in
     let here : i < length own = omega (arith, turn .loop-test .taken, at .loop .inv .0) in
-    let digits = c .digits-in .ensures ∙ ap digitsN (read .parameter-in .ensures ∙ own-read im i here) in
+    let digits = c .digits-in .ensures .0 ∙ ap digitsN (wide .wide .ensures ∙ read .parameter-in .ensures ∙ own-read im i here) in
     let more = size-more (stateIn image .series) own (own-long im) i here in
-    (at .loop .inv .0, omega (arith, at .loop .inv .1, digits, more), omega (arith, at .loop .inv .2, few c))
+    (at .loop .inv .0, omega (arith, at .loop .inv .1, digits, more), omega (arith, at .loop .inv .2, c .digits-in .ensures .1))
 
 returns : tie.Need-returns Inv-loop μ-loop
 returns c =
@@ -73,6 +71,7 @@ settings-length-spec =
     (λ c κs. search needs)
     (λ c κs. search needs)
     loop-holds
+    (λ c κs. search needs)
     (λ c κs. search needs)
     (λ c κs. search needs)
     add-n

@@ -13,7 +13,7 @@ use Rattle.state.specs.Entries.{valueOf}
 use Rattle.state.specs.Image.{stateIn}
 use Rattle.sheets.specs.Lines.{linesBy}
 use Rattle.sheets.specs.Sheet.{keptLine, valueLines}
-use Rattle.sheets.proofs.Keyed.{value-key}
+use Rattle.sheets.proofs.Keyed.{value-key-long}
 use Rattle.sheets.proofs.Linewise.{long-none, long-more, kept-long}
 use Rattle.sheets.proofs.Writes.{values-long, value-read}
 use Rattle.sheets.proofs.writing.values_length.Statement.{statement}
@@ -37,7 +37,7 @@ turn c =
     let i = loop .before .loop .i in
     let is = c .before .is-put .ensures in
     let line = kept-long i (read .value-in .result) in
-    let key = ap length (value-key i (loop .loop-test .taken)) in
+    let key = value-key-long i (loop .loop-test .taken) in
     ⊎-elim
     (λ w. (omega (arith, w .1, line, key, ap {B = ℕ} (λ (b : Bool). cond b 1 0) (sym is ∙ w .0 .taken)), omega (arith, w .1)))
     (λ w. (omega (arith, w .1, line, key, ap {B = ℕ} (λ (b : Bool). cond b 1 0) (sym is ∙ w .0 .left)), omega (arith, w .1)))

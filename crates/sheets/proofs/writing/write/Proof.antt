@@ -12,7 +12,7 @@ returns : tie.Need-returns
 returns c =
     let judged = c .before in
     let a = judged .before .before .before .args in
-    writes-none (a .image .now) (a .room .now) (failed (judged .is-image .ensures) (c .if1 .taken))
+    writes-none (a .form) (a .image .now) (a .room .now) (failed (judged .is-image .ensures) (c .if1 .taken))
 
 of-series : (c : tie.After-series-in) {k : Series} → c .series-in .result ≡ k → Imaged k (c .before .before .before .before .before .args .image .now)
 of-series c e = record { is = passed (c .before .before .is-image .ensures) (c .before .if1 .left); series = sym e ∙ c .series-in .ensures }
