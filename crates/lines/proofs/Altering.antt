@@ -1,7 +1,7 @@
 -- What SET, PUT, UNDO and KEEP lay down is the image of the state that they leave: the item, one entry and the count, and nothing else.
 use Prim.Native.Nat.{ℕ, suc, _+_, _-_, _<_}
 use mathlib.Core.Path.{_≡_, sym, ap, _∙_, subst}
-use mathlib.Core.Bool.{true, false, not, _&&_, false≢true}
+use mathlib.Core.Bool.{true, not, _&&_, false≢true}
 use mathlib.Core.List.{List}
 use native.Mathlib.Omega.{arith}
 use borrow.Author.Tests.{eqb-false, ltb-true, ne-eqb}
@@ -22,7 +22,7 @@ use Rattle.state.specs.declared.entries.Entry.{Entry}
 use Rattle.state.specs.declared.entries.State.{State}
 use Rattle.state.proofs.Steps.{state-parts, back-may}
 use Rattle.state.proofs.Images.{Shaped, shaped, image-of}
-use Rattle.state.proofs.Places.{withContents, withEntries, parameter-laid, value-laid, entry-laid, count-laid, all-cleared}
+use Rattle.state.proofs.Places.{withContents, withUndo, parameter-laid, value-laid, entry-laid, count-laid, all-cleared}
 use Rattle.state.proofs.Places.{parameter-shaped, value-shaped, entry-shaped, series-read}
 use Rattle.lines.specs.Verdicts.{undoVerdict}
 use Rattle.lines.specs.declared.verdicts.Verdict.the-variants.{Accepted}
@@ -31,22 +31,22 @@ use Rattle.lines.specs.Keeping.{backLaid}
 
 -- an entry and the count, over an image with one item altered
 listed : (s : State) → Shaped s → (n m : ℕ) (e : Entry) → n < entriesN
-    → countLaid (s .series) m (entryLaid (s .series) n e (imageOf s)) ≡ imageOf (withEntries s (set (s .undo) n e) m)
+    → countLaid (s .series) m (entryLaid (s .series) n e (imageOf s)) ≡ imageOf (withUndo s (set (s .undo) n e) m)
 listed s h n m e there =
-    ap (countLaid (s .series) m) (entry-laid s h n e there) ∙ count-laid (withEntries s (set (s .undo) n e) (s .count)) (entry-shaped s h n e) m
+    ap (countLaid (s .series) m) (entry-laid s h n e there) ∙ count-laid (withUndo s (set (s .undo) n e) (s .count)) (entry-shaped s h n e) m
 
 module _ (s : State) (h : Shaped s) where
   abbrev laidBy : ℕ → ℕ → Entry → List ℕ → List ℕ
   laidBy n m e l = countLaid (s .series) m (entryLaid (s .series) n e l)
 
   setting-laid : (i p n m : ℕ) (e : Entry) → i < settingsN (s .series) → n < entriesN
-      → laidBy n m e (parameterLaid i p (imageOf s)) ≡ imageOf (withEntries (withContents s (set (s .settings) i p) (s .values)) (set (s .undo) n e) m)
+      → laidBy n m e (parameterLaid i p (imageOf s)) ≡ imageOf (withUndo (withContents s (set (s .settings) i p) (s .values)) (set (s .undo) n e) m)
   setting-laid i p n m e hi hn =
       ap (laidBy n m e) (parameter-laid s h i p hi) ∙ listed (withContents s (set (s .settings) i p) (s .values)) (parameter-shaped s h i p hi) n m e hn
 
   stored-laid : (i : ℕ) (w : Kept) (n m : ℕ) (e : Entry) → i < valuesN → n < entriesN
       → laidBy n m e (valueLaid (s .series) i w (imageOf s))
-      ≡ imageOf (withEntries (withContents s (s .settings) (set (s .values) i (valueOf w))) (set (s .undo) n e) m)
+      ≡ imageOf (withUndo (withContents s (s .settings) (set (s .values) i (valueOf w))) (set (s .undo) n e) m)
   stored-laid i w n m e hi hn =
       ap (laidBy n m e) (value-laid s h i w hi)
       ∙ listed (withContents s (s .settings) (set (s .values) i (valueOf w))) (value-shaped s h i (valueOf w)) n m e hn
@@ -54,7 +54,7 @@ module _ (s : State) (h : Shaped s) where
   -- an item that has its former content again
   back-laid : (t : Item) (f : Former) (n m : ℕ) (e : Entry) → mayGoBack (contentsOf s) t f ≡ true → n < entriesN
       → let c = contentsBack (contentsOf s) (record { item = t; former = f }) in
-      laidBy n m e (backLaid (s .series) t f (imageOf s)) ≡ imageOf (withEntries (withContents s (c .settings) (c .values)) (set (s .undo) n e) m)
+      laidBy n m e (backLaid (s .series) t f (imageOf s)) ≡ imageOf (withUndo (withContents s (c .settings) (c .values)) (set (s .undo) n e) m)
   back-laid Free f n m e may hn = absurd (false≢true may)
   back-laid (Setting i) f n m e may hn =
       let there = ltb i (settingsN (s .series)) in

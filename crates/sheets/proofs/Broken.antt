@@ -30,8 +30,8 @@ use Rattle.sheets.specs.declared.forms.Form.the-variants.{One, Two}
 use Rattle.sheets.proofs.Linewise.{lines-append}
 use Rattle.sheets.proofs.Partwise.{rightBy, Said, NoLine}
 use Rattle.sheets.proofs.Says.{setting-said, value-said, count-said, entry-said, Named, Listed}
-use Rattle.sheets.proofs.Sheets.{bodyBy, tailBy, sheetBy, Lined, Parted}
-use Rattle.sheets.proofs.Lined.{unlisted}
+use Rattle.sheets.proofs.Sheets.{bodyBy, tailBy, sheetBy, Parted}
+use Rattle.sheets.proofs.Lined.{Lined, unlisted}
 use Rattle.sheets.proofs.Ended.{OneLf, one-line, lines-more, one-lines, LinesEnd, part-lines, form-line, series-line}
 use Rattle.sheets.proofs.Ended.{setting-ends, value-ends, count-ends, entry-ends}
 
@@ -39,10 +39,6 @@ use Rattle.sheets.proofs.Ended.{setting-ends, value-ends, count-ends, e
 pub data Apart (x rest : List ℕ) : Type 0 where
   over : x ≡ [] → 0 < length rest → Apart x rest
   on : (line more : List ℕ) → x ≡ line ++ more → OneLf line → startsWith line rest ≡ false → Apart x rest
-
-all-there : (a b : List ℕ) → length (a ++ b) ≡ length a → a ++ b ≡ a
-all-there a [] e = append-nil a
-all-there a (x ∷ b) e = absurd (omega (arith, length-append a (x ∷ b)))
 
 -- a part, whatever its lines hold
 
@@ -65,6 +61,12 @@ module _ {A : Type 0} (l : LinesOf A) where
         let x = fill got i in
         let t = filled n (got ++ (x ∷ [])) (i + 1) in
         (x ∷ t .0, ap suc (t .1), rw (fills got i) (t .2))
+
+    filled-to : (n : ℕ) (xs : List A) → rightBy l [] 0 xs ≡ true → length xs ≤ n
+        → (more : List A) × (length (xs ++ more) ≡ n) × (rightBy l [] 0 (xs ++ more) ≡ true)
+    filled-to n xs r h =
+        let t = filled (n - length xs) xs (0 + length xs) in
+        (t .0, omega (arith, length-append xs (t .0), t .1), right-on xs (t .0) [] 0 r (t .2))
 
   module _ (said : Said l) (ends : LinesEnd l) where
     -- what the lines at the start of others hold begins what those hold
@@ -226,21 +228,18 @@ module _ (k : Series) where
       by One l = refl
       by Two l = list-lines (length entries) entries (l .few) (l .each)
 
-  -- settings and values that go on from some
-  named-on : (settings : List ℕ) (values : List Value) → rightBy (settingLines k) [] 0 settings ≡ true → rightBy valueLines [] 0 values ≡ true
-      → length settings ≤ settingsN k → length values ≤ valuesN → (g : List ℕ) × (v : List Value) × Named k (settings ++ g) (values ++ v)
-  named-on settings values rs rv hs hv =
-      let s = filled (settingLines k) (λ got i. factoryOf (rowAt k i)) (setting-fills k) (settingsN k - length settings) settings (0 + length settings) in
-      let v = filled valueLines (λ got i. valueOf Never) (λ got i. refl) (valuesN - length values) values (0 + length values) in (
-        s .0,
-        v .0,
-        record {
-          settings-long = omega (arith, length-append settings (s .0), s .1);
-          settings-right = right-on (settingLines k) settings (s .0) [] 0 rs (s .2);
-          values-long = omega (arith, length-append values (v .0), v .1);
-          values-right = right-on valueLines values (v .0) [] 0 rv (v .2);
-        },
-      )
+  -- values that go on from some, and settings with any
+  values-on : (values : List Value) → rightBy valueLines [] 0 values ≡ true → length values ≤ valuesN
+      → (v : List Value) × (length (values ++ v) ≡ valuesN) × (rightBy valueLines [] 0 (values ++ v) ≡ true)
+  values-on = filled-to valueLines (λ got i. valueOf Never) (λ got i. refl) valuesN
+
+  named-on : (settings : List ℕ) → rightBy (settingLines k) [] 0 settings ≡ true → length settings ≤ settingsN k
+      → (g : List ℕ) × (v : List Value) × Named k (settings ++ g) v
+  unfolding rightBy
+  named-on settings r h =
+      let s = filled-to (settingLines k) (λ got i. factoryOf (rowAt k i)) (setting-fills k) (settingsN k) settings r h in
+      let v = values-on [] refl (omega arith) in
+      (s .0, v .0, record { settings-long = s .1; settings-right = s .2; values-long = v .1; values-right = v .2 })
 
 -- an input that is right up to a place as a sheet of the form and series, where each such sheet that begins so goes on otherwise
 pub record Broken (f : Form) (k : Series) (input : List ℕ) (at : ℕ) : Type 0 where
@@ -261,7 +260,7 @@ module _ (k : Series) (input : List ℕ) (at : ℕ) where
   pub broken-series : (f : Form) → Parted (formLine f) at input → startsWith (seriesLine k) (drop at input) ≡ false → Broken f k input at
   unfolding rightBy
   broken-series f p none =
-      let (g, v, n) = named-on k [] [] refl refl (omega arith) (omega arith) in
+      let (g, v, n) = named-on k [] refl (omega arith) in
       record {
         front = formLine f;
         parted = p;
@@ -281,7 +280,7 @@ module _ (k : Series) (input : List ℕ) (at : ℕ) where
       → NoLine (settingLines k) settings (0 + length settings) (drop at input) → Broken f k input at
   unfolding rightBy
   broken-setting f settings p r less none =
-      let (g, v, n) = named-on k settings [] r refl (omega arith) (omega arith) in
+      let (g, v, n) = named-on k settings r (omega arith) in
       let first = seriesLine k ++ part k settings in
       let rest = linesBy (settingLines k) (0 + length settings) g in
       let on-body : first ++ (rest ++ text k v) ≡ bodyBy k (settings ++ g) v =
@@ -311,10 +310,9 @@ module _ (k : Series) (input : List ℕ) (at : ℕ) where
       → length settings ≡ settingsN k → rightBy (settingLines k) [] 0 settings ≡ true → rightBy valueLines [] 0 values ≡ true → length values < valuesN
       → NoLine valueLines values (0 + length values) (drop at input) → Broken f k input at
   broken-value f settings values p long r rv less none =
-      let (g, v, n) = named-on k settings values r rv (omega arith) (omega arith) in
+      let (v, many, rights) = values-on k values rv (omega arith) in
       let body = bodyBy k settings values in
       let rest = linesBy valueLines (0 + length values) v in
-      let no-g : settings ++ g ≡ settings = all-there settings g (omega (arith, n .settings-long)) in
       let on-body : body ++ rest ≡ bodyBy k settings (values ++ v) =
       three (seriesLine k) (part k settings) (text k values) rest
       ∙ ap (λ (l : List ℕ). seriesLine k ++ (part k settings ++ l)) (sym (lines-append valueLines 0 values v)) in
@@ -325,7 +323,7 @@ module _ (k : Series) (input : List ℕ) (at : ℕ) where
         settings = settings;
         values = values ++ v;
         entries = [];
-        shown = unlisted f k settings (values ++ v) (rw no-g at n);
+        shown = unlisted f k settings (values ++ v) (record { settings-long = long; settings-right = r; values-long = many; values-right = rights });
         more = rest ++ tailBy f k [];
         whole = three′ (formLine f) body rest (tailBy f k []) ∙ ap (λ (l : List ℕ). formLine f ++ (l ++ tailBy f k [])) on-body;
         apart = λ others those these m x e.
@@ -364,11 +362,10 @@ module _ (k : Series) (input : List ℕ) (at : ℕ) where
   broken-entry settings values n entries p named few r less none =
       let body = bodyBy k settings values in
       let counted = countLine n ++ list k entries in
-      let z = filled (entryLines k) (λ got i. entryOf (Stored 0) 0 Never) (λ got i. refl) (n - length entries) entries (0 + length entries) in
-      let rest = linesBy (entryLines k) (0 + length entries) (z .0) in
-      let long : n ≡ length (entries ++ z .0) = omega (arith, length-append entries (z .0), z .1) in
-      let on-list : counted ++ rest ≡ tailBy Two k (entries ++ z .0) =
-      append-assoc (countLine n) (list k entries) rest ∙ (λ i. countLine (long i) ++ sym (lines-append (entryLines k) 0 entries (z .0)) i) in
+      let (z, many, rights) = filled-to (entryLines k) (λ got i. entryOf (Stored 0) 0 Never) (λ got i. refl) n entries r (omega arith) in
+      let rest = linesBy (entryLines k) (0 + length entries) z in
+      let on-list : counted ++ rest ≡ tailBy Two k (entries ++ z) =
+      append-assoc (countLine n) (list k entries) rest ∙ (λ i. countLine (sym many i) ++ sym (lines-append (entryLines k) 0 entries z) i) in
       record {
         front = formLine Two ++ (body ++ counted);
         parted = p;
@@ -376,12 +373,8 @@ module _ (k : Series) (input : List ℕ) (at : ℕ) where
             (lines-more body counted (body-lines k settings values (named .settings-right) (named .values-right)) (list-lines k n entries few r));
         settings = settings;
         values = values;
-        entries = entries ++ z .0;
-        shown = record {
-          named = named;
-          listed = record { few = omega arith; each = right-on (entryLines k) entries (z .0) [] 0 r (z .2) };
-          shows = tt;
-        };
+        entries = entries ++ z;
+        shown = record { named = named; listed = record { few = omega (arith, many); each = rights }; shows = tt };
         more = rest;
         whole = three (formLine Two) body counted rest ∙ ap (λ (l : List ℕ). formLine Two ++ (body ++ l)) on-list;
         apart = λ others those these m x e.

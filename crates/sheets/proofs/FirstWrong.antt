@@ -1,20 +1,19 @@
 -- 40 is told at the first wrong line: the bytes before it begin some sheet of the series, and none goes on as the input does; or at `undo=`, where each line is
 -- right but no state has that list.
-use Prim.Native.Nat.{ℕ, suc, _+_, _≤_, _<_}
+use Prim.Native.Nat.{ℕ, suc, _+_, _<_}
 use mathlib.Core.Path.{_≡_, refl, sym, ap, subst, _∙_}
 use mathlib.Core.Bool.{Bool, true, false, cond, false≢true}
 use mathlib.Core.List.{List, [], _∷_, _++_, append-assoc, append-nil}
 use native.Mathlib.Omega.{arith}
-use borrow.Author.Tests.{eqb-true, eqb-false, ltb-true, ltb-false}
-use lib.Dec.{eqb, ltb}
-use lib.ListN.{length, getD, take, drop, length-append, take-append-drop}
+use borrow.Author.Tests.{eqb-true, eqb-false}
+use lib.Dec.{eqb}
+use lib.ListN.{length, getD, take, drop, length-append, length-drop, take-append-drop}
 use lib.Seq.{take-at, take-add, take-all, take-suc}
 use Rattle.figures.specs.Bytes.{startsWith}
 use Rattle.figures.proofs.Bytes.{starts-append}
 use Rattle.figures.proofs.Tests.{clash, by-test}
 use Rattle.instrument.specs.Settings.{held}
 use Rattle.instrument.specs.declared.settings.Series.{Series}
-use Rattle.instrument.specs.declared.settings.Series.the-variants.{Tps100, Tps300}
 use Rattle.instrument.specs.declared.values.Value.{Value}
 use Rattle.state.specs.Image.{seriesIn}
 use Rattle.state.specs.declared.entries.Entry.{Entry}
@@ -22,20 +21,22 @@ use Rattle.state.specs.declared.entries.State.{State}
 use Rattle.sheets.specs.Lines.{linesBy}
 use Rattle.sheets.specs.Sheet.{seriesLine, settingLines, valueLines, sheetOf}
 use Rattle.sheets.specs.Undo.{formLine, countLine, entryLines, sheetAs}
-use Rattle.sheets.specs.Loading.{Loading, wrong, right, loadedState, firstLines, loadingAs, formIn, loadingOf, Loaded·image, loaded}
+use Rattle.sheets.specs.Loading.{Loading, wrong, right, loadedState, loadingAs, formIn, loadingOf, Loaded·image, loaded}
 use Rattle.sheets.specs.Writing.{seriesNamed, movedBy, movedSheet}
 use Rattle.sheets.specs.FirstWrong.{areLines, hasNoLf, lineN, isLined, NoneBegins, FirstWrong, Tells, wrong-line, no-list}
+use Rattle.sheets.specs.Keeping.{isOf}
 use Rattle.sheets.specs.declared.forms.Form.{Form}
 use Rattle.sheets.specs.declared.forms.Form.the-variants.{One, Two}
 use Rattle.sheets.specs.declared.answers.Sheeted.the-variants as answer
 use Rattle.sheets.proofs.Partwise.{starts-parted}
-use Rattle.sheets.proofs.Sheets.{bodyBy, tailBy, sheetBy, Lined, entriesIn, sheet-one, sheet-by, form-in, sheet-loads-of, series-apart, one-series}
-use Rattle.sheets.proofs.Sheets.{sheet-back, Parted, Ways, other-form, other-series, setting, value, count, entry, surplus, no-list as unlisted, through}
-use Rattle.sheets.proofs.Sheets.{wrong-right, ways, loads-sheet}
+use Rattle.sheets.proofs.Sheets.{bodyBy, tailBy, sheetBy, four, sheet-one, sheet-by, form-in, sheet-loads-of, series-apart, one-series}
+use Rattle.sheets.proofs.Sheets.{sheet-back, Parted, parted-all, parted-within, Ways, other-form, other-series, setting, value, count, entry, surplus, no-list as unlisted}
+use Rattle.sheets.proofs.Sheets.{through, wrong-right, ways, loads-sheet}
 use Rattle.sheets.proofs.Images.{LoadsAs, lent-none, lent-wrong, lent-right, loads-as}
 use Rattle.sheets.proofs.Moves.{move-takes}
+use Rattle.sheets.proofs.Moved.{form-of, of-own, not-of-form}
 use Rattle.sheets.proofs.Sizes.{series-long}
-use Rattle.sheets.proofs.Lined.{lined-as, shown-lined}
+use Rattle.sheets.proofs.Lined.{Lined, entriesIn, lined-as, shown-lined}
 use Rattle.sheets.proofs.Ended.{OneLf, one-line, first-line, lines-more, one-lines, lines-lf, lines-end, lines-start, form-line}
 use Rattle.sheets.proofs.Broken.{Apart, over, on, form-off, no-more, sheet-lines, Broken}
 use Rattle.sheets.proofs.Broken.{broken-series, broken-setting, broken-value, broken-count, broken-entry, broken-surplus}
@@ -70,9 +71,6 @@ as-lined f k s e of =
       sheet-by f s ∙ ap (λ (t : Series). sheetBy f t settings (s .values) (entriesIn f s)) of,
     )
 
-after-series : (a b c d : List ℕ) → ((a ++ b) ++ c) ++ d ≡ a ++ (b ++ (c ++ d))
-after-series a b c d = simp append-assoc
-
 -- where the first sheet is the beginning of the second
 begins-series : (f : Form) (s : State) (k : Series) (settings : List ℕ) (values : List Value) (entries : List Entry) (more : List ℕ)
     → sheetAs f s ++ more ≡ sheetBy f k settings values entries → s .series ≡ k
@@ -81,7 +79,7 @@ begins-series f s k settings values entries more e =
     let body = bodyBy t (held t (s .settings)) (s .values) in
     let tail = tailBy f t (entriesIn f s) in
     series-apart t k _ _
-    (sym (after-series (seriesLine t) _ tail more)
+    (sym (four (seriesLine t) _ tail more)
     ∙ form-off f _ _ (sym (append-assoc (formLine f) (body ++ tail) more) ∙ ap (λ (l : List ℕ). l ++ more) (sym (sheet-by f s)) ∙ e)
     ∙ append-assoc (seriesLine k) _ (tailBy f k entries))
 
@@ -97,9 +95,6 @@ module _ (k : Series) (input : List ℕ) (at : ℕ) (b : Broken (formIn input) k
 
   front-is : take at input ≡ front
   front-is = ap (take at) (b .parted .is) ∙ take-at front rest at (sym (b .parted .here))
-
-  inside : at ≤ length input
-  inside = omega (arith, b .parted .here, ap length (b .parted .is), length-append front rest)
 
   -- a sheet that begins with the bytes before the place goes on otherwise
   goes-on : (s : State) → isLined s ≡ true → s .series ≡ k → (x : List ℕ) → front ++ x ≡ sheetAs own s → Apart x rest
@@ -117,17 +112,13 @@ module _ (k : Series) (input : List ℕ) (at : ℕ) (b : Broken (formIn input) k
       let same : f ≡ own = sym (form-in f s) ∙ ap formIn is in
       let as-own : sheetAs own s ≡ input = subst (λ (g : Form). sheetAs g s ≡ input) same is in
       let whole : areLines input ≡ true = ap areLines (sym is ∙ sheet-by f s) ∙ sheet-lines (s .series) f _ _ _ (lined-as f s e) in
-      by-test (ltb 0 (length rest))
+      by-test (eqb at (length input))
       (λ y.
-      let some = ltb-true 0 (length rest) y in
-      false≢true (sym (lines-lf rest some (lines-end front rest some (ap areLines (sym (b .parted .is)) ∙ whole))) ∙ none))
-      (λ y.
-      let all : input ≡ front = b .parted .is ∙ ap (λ (l : List ℕ). front ++ l) (empty rest (omega (arith, ltb-false 0 (length rest) y))) ∙ append-nil front in
+      let all : input ≡ front = parted-all (b .parted) (eqb-true at (length input) y) in
       no-own s e (begins-series own s k _ _ _ (b .more) (ap (λ (l : List ℕ). l ++ b .more) (as-own ∙ all) ∙ b .whole)) as-own)
-    where
-      empty : (l : List ℕ) → length l ≡ 0 → l ≡ []
-      empty [] h = refl
-      empty (x ∷ l) h = absurd (omega arith)
+      (λ y.
+      let some : 0 < length rest = omega (arith, length-drop at input, parted-within (b .parted), eqb-false at (length input) y) in
+      false≢true (sym (lines-lf rest some (lines-end front rest some (ap areLines (sym (b .parted .is)) ∙ whole))) ∙ none))
 
   no-line : hasNoLf rest ≡ false → NoneBegins k (take (at + lineN rest) input)
   no-line some f s e of =
@@ -173,7 +164,7 @@ module _ (k : Series) (input : List ℕ) (at : ℕ) (b : Broken (formIn input) k
       (λ y.
       let byte = getD input at 0 ∷ [] in
       let more = drop (length bytes) (sheetAs g t) in
-      let below : at < length input = omega (arith, inside, eqb-false at (length input) q) in
+      let below : at < length input = omega (arith, parted-within (b .parted), eqb-false at (length input) q) in
       let split : bytes ≡ front ++ byte = take-suc input at 0 below ∙ ap (λ (l : List ℕ). l ++ byte) front-is in
       let whole : front ++ (byte ++ more) ≡ sheetAs g t =
       sym (append-assoc front byte more) ∙ ap (λ (l : List ℕ). l ++ more) (sym split) ∙ sym (starts-parted bytes (sheetAs g t) y) in
@@ -187,7 +178,7 @@ module _ (k : Series) (input : List ℕ) (at : ℕ) (b : Broken (formIn input) k
 
   pub first-wrong : FirstWrong k input at
   first-wrong = record {
-    within = inside;
+    within = parted-within (b .parted);
     lines = ap areLines front-is ∙ b .lined;
     before = record {
       form = own;
@@ -247,18 +238,6 @@ tells k input at e = by (ways own k input)
         })
     by (through g v es q all l is) = absurd (wrong-right at g v es (sym e ∙ q))
 
--- as a sheet of the form that it doesn't start as, an input is wrong at its first line
-pub other-form-wrong : (f : Form) (k : Series) (input : List ℕ) → (formIn input ≡ f → ⊥) → loadingAs f k input ≡ wrong 0
-unfolding firstLines startsWith
-other-form-wrong f k input apart = by f k (startsWith (formLine Two) input) refl apart
-  where
-    by : (g : Form) (t : Series) (b : Bool) → startsWith (formLine Two) input ≡ b → (formIn input ≡ g → ⊥) → loadingAs g t input ≡ wrong 0
-    by One Tps100 true y not = ap (loadingAs One Tps100) (starts-parted (formLine Two) input y)
-    by One Tps300 true y not = ap (loadingAs One Tps300) (starts-parted (formLine Two) input y)
-    by One t false y not = absurd (not (rw y))
-    by Two t true y not = absurd (not (rw y))
-    by Two t false y not = rw y
-
 -- so of a load that 40 refuses
 pub loaded-tells : (image sheet : List ℕ) (at : ℕ) → loaded image sheet .answer ≡ answer.Wrong at → Tells (seriesIn image) sheet at
 loaded-tells image sheet at e = by (loads-as image sheet)
@@ -273,12 +252,6 @@ pub data MoveTells (f : Form) (sheet : List ℕ) (at : ℕ) : Type 0 where
   of-form : formIn sheet ≡ f → Tells (seriesNamed f sheet) sheet at → MoveTells f sheet at
   of-other : (formIn sheet ≡ f → ⊥) → at ≡ 0 → MoveTells f sheet at
 
-either-form : {P : Type 0} (f g : Form) → (f ≡ g → P) → ((f ≡ g → ⊥) → P) → P
-either-form One One same apart = same refl
-either-form One Two same apart = apart (λ e. clash (cc e))
-either-form Two One same apart = apart (λ e. clash (cc e))
-either-form Two Two same apart = same refl
-
 pub moved-tells : (f : Form) (sheet room : List ℕ) (at : ℕ) → movedSheet f sheet room .answer ≡ answer.Wrong at → MoveTells f sheet at
 moved-tells f sheet room at e = by (loadingAs f k sheet) refl
   where
@@ -289,11 +262,12 @@ moved-tells f sheet room at e = by (loadingAs f k sheet) refl
     by (wrong n) q =
         let come : answer.Wrong n ≡ answer.Wrong at = sym (ap (λ (l : Loading). movedBy f k room l .answer) q) ∙ e in
         let same : n ≡ at = cc in
-        either-form (formIn sheet) f (λ is. of-form is (tells k sheet at (ap (λ (g : Form). loadingAs g k sheet) is ∙ q ∙ ap wrong same)))
-        (λ apart.
-        let first : wrong n ≡ wrong 0 = sym q ∙ other-form-wrong f k sheet apart in
+        by-test (isOf f sheet)
+        (λ y. let is = form-of f sheet y in of-form is (tells k sheet at (ap (λ (g : Form). loadingAs g k sheet) is ∙ q ∙ ap wrong same)))
+        (λ y.
+        let first : wrong n ≡ wrong 0 = sym q ∙ not-of-form f k sheet y in
         let start : n ≡ 0 = cc in
-        of-other apart (sym same ∙ start))
+        of-other (λ is. false≢true (sym y ∙ ap (λ (g : Form). isOf g sheet) (sym is) ∙ of-own sheet)) (sym same ∙ start))
     by (right settings values entries) q =
         let t = loads-sheet f k sheet settings values entries q in
         absurd (move-takes f sheet room .0 (loadedState k settings values entries, t .0, t .1) at e)

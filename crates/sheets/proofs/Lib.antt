@@ -5,8 +5,8 @@ pub mod Says
 pub mod Takes
 pub mod UndoTakes
 pub mod Ended
-pub mod Sheets
 pub mod Lined
+pub mod Sheets
 pub mod Sizes
 pub mod Images
 pub mod Moves

@@ -1,31 +1,48 @@
--- A state that is right line by line, whether or not a state has that list: what it names and lists, and that what may be named and listed is one's. Every
--- state is right so.
+-- What a sheet can show, each line right, whether or not a state has that list: a state that is right line by line shows it, and what can be shown is one's.
+-- Every state is right so.
 use Prim.Native.Nat.{ℕ, _+_}
 use mathlib.Core.Path.{_≡_, refl, sym, ap, _∙_}
 use mathlib.Core.Bool.{Bool, true, _&&_}
 use mathlib.Core.List.{List, [], _∷_, _++_}
 use native.Mathlib.Omega.{arith}
-use borrow.Author.Tests.{le-leb, leb-true}
+use borrow.Author.Tests.{eq-eqb, le-leb, leb-true}
 use lib.Dec.{leb}
 use lib.ListN.{length}
+use lib.Seq.{take-append-seam}
 use Rattle.figures.proofs.Tests.{both}
 use Rattle.instrument.specs.Settings.{held}
+use Rattle.instrument.specs.Values.{valuesN}
 use Rattle.instrument.specs.declared.settings.Series.{Series}
 use Rattle.instrument.specs.declared.values.Value.{Value}
 use Rattle.state.specs.Entries.{entriesN, contentsOf, contentsRight, entryRight, isState}
 use Rattle.state.specs.declared.entries.Entry.{Entry}
 use Rattle.state.specs.declared.entries.State.{State}
-use Rattle.state.proofs.Images.{held-right, held-long}
+use Rattle.state.proofs.Images.{held-right, held-long, padded-right}
 use Rattle.state.proofs.Steps.{all-of, state-parts, back-now}
 use Rattle.lines.proofs.Deeds.{right-parts}
 use Rattle.sheets.specs.Undo.{entryLines, entriesOf}
-use Rattle.sheets.specs.Loading.{loadedState}
+use Rattle.sheets.specs.Loading.{loadedState, contentsNamed}
 use Rattle.sheets.specs.FirstWrong.{eachRight, isLined}
 use Rattle.sheets.specs.declared.forms.Form.{Form}
 use Rattle.sheets.specs.declared.forms.Form.the-variants.{One, Two}
 use Rattle.sheets.proofs.Partwise.{rightBy}
 use Rattle.sheets.proofs.Says.{ranges-right, values-right, Named, Listed, state-listed}
-use Rattle.sheets.proofs.Sheets.{Lined, entriesIn, named-contents, entries-back}
+
+-- entries that a form can show: form 1 shows none
+
+abbrev pub Shows : Form → List Entry → Type 0
+Shows One entries = entries ≡ []
+Shows Two entries = Unit {0}
+
+-- what a sheet can show: each line is right, whether or not a state has that list
+pub record Lined (f : Form) (k : Series) (settings : List ℕ) (values : List Value) (entries : List Entry) : Type 0 where
+  pub named : Named k settings values
+  pub listed : Listed k entries
+  pub shows : Shows f entries
+
+abbrev pub entriesIn : Form → State → List Entry
+entriesIn One s = []
+entriesIn Two s = entriesOf s
 
 each-by : (k : Series) (got : List Entry) (i : ℕ) (entries : List Entry) → eachRight k entries ≡ rightBy (entryLines k) got i entries
 unfolding eachRight rightBy
@@ -74,6 +91,16 @@ lined-as Two s e = record { named = lined-named s e; listed = lined-listed s e; 
 pub unlisted : (f : Form) (k : Series) (settings : List ℕ) (values : List Value) → Named k settings values → Lined f k settings values []
 unlisted One k settings values n = record { named = n; listed = none-listed k; shows = refl }
 unlisted Two k settings values n = record { named = n; listed = none-listed k; shows = tt }
+
+pub named-contents : (k : Series) (settings : List ℕ) (values : List Value) → Named k settings values → contentsRight (contentsNamed k settings values) ≡ true
+named-contents k settings values n =
+    let ranges = ranges-right k settings (n .settings-long) ∙ n .settings-right in
+    let judged = values-right [] 0 values ∙ n .values-right in
+    all-of (padded-right k settings ranges) (all-of (eq-eqb (length values) valuesN (n .values-long)) judged)
+
+-- the entries of a state that has them
+pub entries-back : (k : Series) (settings : List ℕ) (values : List Value) (entries : List Entry) → entriesOf (loadedState k settings values entries) ≡ entries
+entries-back k settings values entries = take-append-seam entries _
 
 pub shown-lined : (f : Form) (k : Series) (settings : List ℕ) (values : List Value) (entries : List Entry) → Lined f k settings values entries
     → isLined (loadedState k settings values entries) ≡ true

@@ -41,7 +41,8 @@ use Rattle.sheets.specs.declared.undo.Undo.{Undo}
 use Rattle.sheets.specs.declared.answers.Sheeted.the-variants as answer
 use Rattle.sheets.proofs.Partwise.{came, wrong-came, starts-parted, TakenLines, taken-within, part-taken}
 use Rattle.sheets.proofs.Says.{setting-said, value-said, Named}
-use Rattle.sheets.proofs.Sheets.{bodyBy, four, named-contents, Parted, parted-as, parted-on, parted-starts}
+use Rattle.sheets.proofs.Lined.{named-contents}
+use Rattle.sheets.proofs.Sheets.{bodyBy, four, Parted, parted-as, parted-on, parted-starts, parted-within}
 
 -- what the code keeps of a part that came to its end
 
@@ -87,7 +88,6 @@ module _ (k : Series) (sheet : List ℕ) (start : ℕ) (there : start ≤ length
 -- the form's line and the first form's lines stand before a place
 pub record FirstTaken (f : Form) (k : Series) (sheet : List ℕ) (at : ℕ) (settings : List ℕ) (values : List Value) : Type 0 where
   pub named : Named k settings values
-  pub within : at ≤ length sheet
   pub parted : Parted (formLine f ++ bodyBy k settings values) at sheet
 
 pub wrong-to : {a to : ℕ} → Wrong a ≡ To to → ⊥
@@ -122,7 +122,6 @@ module _ (f : Form) (k : Series) (sheet : List ℕ) where
         let lines = parted-on ((formLine f ++ series) ++ g) (parted-on (formLine f ++ series) head t) u in
         record {
           named = record { settings-long = t .long; settings-right = t .judged; values-long = u .long; values-right = u .judged };
-          within = taken-within u (settings-taken k sheet start form-within a (ap (λ (p : Part ℕ). p .came) q));
           parted = parted-as (four (formLine f) series g (linesBy valueLines 0 values)) lines;
         }
 
@@ -208,7 +207,7 @@ module _ (f : Form) (k : Series) (sheet : List ℕ) where
           ap (λ (x : First). contentsBy k (x .settings) (x .values)) is ∙ (λ j. contentsBy k (padded (first .settings)) (all j .values))
 
       pub kept-right : (contentsRight (contentsBy k (r .settings) (r .values)) ≡ true) × (at ≤ length sheet)
-      kept-right = (rw first-kept contents-right, first-taken f k sheet at came .within)
+      kept-right = (rw first-kept contents-right, parted-within (first-taken f k sheet at came .parted))
 
       pub undo-kept : f ≡ Two → (u : Undo) → u ≡ listAs (listFrom (contentsBy k (r .settings) (r .values)) sheet at) → u ≡ listAs (undoIn f k sheet at)
       undo-kept two u e =

@@ -5,10 +5,9 @@ use mathlib.Core.Bool.{Bool, true, false, cond}
 use mathlib.Core.List.{List, _++_}
 use native.Mathlib.Omega.{arith}
 use borrow.Author.Tests.{not-true, not-false, eq-eqb, ne-eqb}
-use lib.ListN.{length, replicate, length-append, length-replicate}
+use lib.ListN.{length, drop, replicate, length-append, length-replicate}
 use Rattle.figures.specs.Bytes.{startsWith}
-use Rattle.figures.proofs.Bytes.{starts-append}
-use Rattle.figures.proofs.Tests.{clash}
+use Rattle.figures.proofs.Tests.{clash, by-test}
 use Rattle.instrument.specs.declared.settings.Series.{Series}
 use Rattle.instrument.specs.declared.settings.Series.the-variants.{Tps100, Tps300}
 use Rattle.instrument.specs.declared.values.Value.{Value}
@@ -19,15 +18,13 @@ use Rattle.state.specs.declared.entries.Entry.{Entry}
 use Rattle.state.specs.declared.entries.State.{State}
 use Rattle.state.proofs.Images.{encoded-fits, image-back, image-series, image-is, factory-is-state}
 use Rattle.state.proofs.Places.{count-read}
-use Rattle.sheets.specs.Lines.{wrongAt}
-use Rattle.sheets.specs.Sheet.{seriesLine, sheetOf}
+use Rattle.sheets.specs.Sheet.{sheetOf}
 use Rattle.sheets.specs.Undo.{formLine, sheetAs}
-use Rattle.sheets.specs.Loading.{Loading, wrong, right, loadedState, settingsFrom, FirstLines, loadingAs, formIn, Loaded·image, loadedBy, loaded, Loads}
+use Rattle.sheets.specs.Loading.{Loading, wrong, right, loadedState, firstLines, loadingAs, formIn, Loaded·image, loadedBy, loaded, Loads}
 use Rattle.sheets.specs.Writing.{Sheet·room, Leaves, unwritten, sheetInRoom, writtenSheet, WritesSheet, otherForm, movedBy}
 use Rattle.sheets.specs.Keeping.{isOf, sheetMost}
 use Rattle.sheets.specs.declared.forms.Form.{Form}
 use Rattle.sheets.specs.declared.forms.Form.the-variants.{One, Two}
-use Rattle.sheets.specs.declared.loading.Came.the-variants as part
 use Rattle.sheets.specs.declared.answers.Sheeted.{Sheeted}
 use Rattle.sheets.specs.declared.answers.Sheeted.the-variants.{Wrong, Standing, Written}
 use Rattle.sheets.proofs.Partwise.{starts-parted}
@@ -35,27 +32,24 @@ use Rattle.sheets.proofs.Sheets.{sheet-one, loads-sheet}
 use Rattle.sheets.proofs.Sizes.{sheet-below}
 use Rattle.sheets.proofs.Images.{image-writes, fits, image-loads}
 use Rattle.sheets.proofs.Moves.{movedOf}
-use Rattle.sheets.proofs.Loads.{first-formless, first-settings, first-wrong}
 
 -- a sheet of the form loads as one, and any other is wrong from its start on
 
-of-form : (f : Form) (sheet : List ℕ) → isOf f sheet ≡ true → formIn sheet ≡ f
-of-form One sheet e = ap (λ (b : Bool). cond b Two One) (not-true (startsWith (formLine Two) sheet) e)
-of-form Two sheet e = ap (λ (b : Bool). cond b Two One) e
+pub form-of : (f : Form) (sheet : List ℕ) → isOf f sheet ≡ true → formIn sheet ≡ f
+form-of One sheet e = ap (λ (b : Bool). cond b Two One) (not-true (startsWith (formLine Two) sheet) e)
+form-of Two sheet e = ap (λ (b : Bool). cond b Two One) e
 
-series-starts : (k : Series) (l : List ℕ) → startsWith (seriesLine k) (formLine Two ++ l) ≡ false
-unfolding startsWith
-series-starts Tps100 l = refl
-series-starts Tps300 l = refl
+pub of-own : (sheet : List ℕ) → isOf (formIn sheet) sheet ≡ true
+of-own sheet = by-test (startsWith (formLine Two) sheet) (λ e. rw (e, e)) (λ e. rw (e, e))
 
 pub not-of-form : (f : Form) (k : Series) (sheet : List ℕ) → isOf f sheet ≡ false → loadingAs f k sheet ≡ wrong 0
-not-of-form One k sheet e =
-    let two = starts-parted (formLine Two) sheet (not-false (startsWith (formLine Two) sheet) e) in
-    let none = ap (startsWith (seriesLine k)) two ∙ series-starts k _ in
-    let at = length (formLine One) + length (seriesLine k) in
-    let came = ap (λ (b : Bool). cond b (settingsFrom k sheet at) (wrongAt 0) .came) none in
-    first-wrong One k sheet 0 (ap (λ (p : FirstLines). p .came) (first-settings One k sheet (starts-append (formLine One) sheet) (part.Wrong 0) came))
-not-of-form Two k sheet e = first-wrong Two k sheet 0 (ap (λ (p : FirstLines). p .came) (first-formless Two k sheet e))
+unfolding firstLines startsWith
+not-of-form One k sheet e = by k (starts-parted (formLine Two) sheet (not-false (startsWith (formLine Two) sheet) e))
+  where
+    by : (t : Series) → sheet ≡ formLine Two ++ drop (length (formLine Two)) sheet → loadingAs One t sheet ≡ wrong 0
+    by Tps100 two = ap (loadingAs One Tps100) two
+    by Tps300 two = ap (loadingAs One Tps300) two
+not-of-form Two k sheet e = rw e
 
 -- the image is that of the state that the sheet loads to
 pub record Holds (f : Form) (k : Series) (sheet image : List ℕ) : Type 0 where
@@ -75,7 +69,7 @@ module _ (f : Form) (k : Series) (sheet : List ℕ) (of : isOf f sheet ≡ true)
       let so : loaded first sheet ≡ loadedBy k i m =
       ap (λ (b : List ℕ). loaded b sheet) (laid ∙ encoded-fits (factoryState k) image long)
       ∙ image-loads (factoryState k) sheet (factory-is-state k)
-      ∙ ap (λ (g : Form). loadedBy k i (loadingAs g k sheet)) (of-form f sheet of)
+      ∙ ap (λ (g : Form). loadedBy k i (loadingAs g k sheet)) (form-of f sheet of)
       ∙ ap (loadedBy k i) e in
       (l .0 ∙ ap (λ (o : Loaded·image). o .answer) so, l .1 ∙ ap (λ (o : Loaded·image). o .image) so)
 

@@ -29,8 +29,9 @@ use Rattle.sheets.specs.Writing.{Sheet·room, unwritten, sheetInRoom, se
 use Rattle.sheets.specs.declared.forms.Form.{Form}
 use Rattle.sheets.specs.declared.forms.Form.the-variants.{One, Two}
 use Rattle.sheets.specs.declared.answers.Sheeted.the-variants.{Wrong, Standing, Written}
-use Rattle.sheets.proofs.Sheets.{entriesIn, shownIn, sheet-one, sheet-contents, past-form, sheet-by, sheet-loads, shown-back}
+use Rattle.sheets.proofs.Sheets.{shownIn, sheet-one, sheet-contents, past-form, sheet-by, sheet-loads, shown-back}
 use Rattle.sheets.proofs.Sheets.{wrong-right, loads-sheet}
+use Rattle.sheets.proofs.Lined.{entriesIn}
 use Rattle.sheets.proofs.Images.{Stands, fitted}
 
 -- a state's sheet names its series

@@ -15,20 +15,18 @@ use Rattle.figures.proofs.Tests.{by-test}
 use Rattle.instrument.specs.Settings.{held}
 use Rattle.instrument.specs.declared.settings.Series.{Series}
 use Rattle.instrument.specs.declared.values.Value.{Value}
-use Rattle.state.specs.Image.{seriesIn, isImage}
 use Rattle.state.specs.declared.entries.Entry.{Entry}
 use Rattle.state.specs.declared.entries.State.{State}
 use Rattle.sheets.specs.Sheet.{sheetOf}
 use Rattle.sheets.specs.Undo.{formLine, undoText, sheetAs}
-use Rattle.sheets.specs.Loading.{Loading, wrong, right, loadedState, formIn, loadingAs, loadingOf, loaded}
-use Rattle.sheets.specs.Writing.{unwritten, seriesNamed, movedBy, movedSheet}
+use Rattle.sheets.specs.Loading.{Loading, wrong, right, loadedState, formIn, loadingOf}
 use Rattle.sheets.specs.FirstWrong.{areLines, hasNoLf, lineN, isLined, FirstWrong, NoList, Tells, wrong-line, no-list}
 use Rattle.sheets.specs.declared.forms.Form.{Form}
 use Rattle.sheets.specs.declared.forms.Form.the-variants.{Two}
-use Rattle.sheets.specs.declared.answers.Sheeted.the-variants as answer
 use Rattle.sheets.proofs.Partwise.{starts-parted}
-use Rattle.sheets.proofs.Sheets.{bodyBy, tailBy, entriesIn, form-in, loads-sheet-of}
-use Rattle.sheets.proofs.Lined.{state-lined}
+use Rattle.sheets.proofs.Sheets.{bodyBy, tailBy, form-in, loads-sheet-of}
+use Rattle.sheets.proofs.Lined.{entriesIn, state-lined}
+use Rattle.sheets.proofs.UndoWrites.{sheet-long}
 use Rattle.sheets.proofs.Ended.{lines-lf, lines-end}
 use Rattle.sheets.proofs.Broken.{body-off}
 use Rattle.sheets.proofs.FirstWrong.{as-lined, tells}
@@ -92,11 +90,9 @@ not-both k input a b w n = lined-nowhere k input Two (n .shown) (n .lined) (n .o
 
 -- how long a sheet is up to its `undo=` line, and from there on
 pub undo-at : (k : Series) (s : State) → s .series ≡ k → length (sheetAs Two s) ≡ length (formLine Two ++ sheetOf s) + length (tailBy Two k (entriesIn Two s))
-unfolding sheetAs undoText
+unfolding undoText
 undo-at k s of =
-    ap length (sym (append-assoc (formLine Two) (sheetOf s) (tailBy Two (s .series) (entriesIn Two s))))
-    ∙ length-append (formLine Two ++ sheetOf s) (tailBy Two (s .series) (entriesIn Two s))
-    ∙ ap (λ (t : Series). length (formLine Two ++ sheetOf s) + length (tailBy Two t (entriesIn Two s))) of
+    omega (arith, sheet-long Two s, length-append (formLine Two) (sheetOf s), ap (λ (t : Series). length (tailBy Two t (entriesIn Two s))) of)
 
 pub one-list : (k : Series) (input : List ℕ) (a b : ℕ) → NoList k input a → NoList k input b → a ≡ b
 one-list k input a b one two =
@@ -132,17 +128,3 @@ told k input at t = by (loadingOf k input) refl t
 
 pub first-wrong-told : (k : Series) (input : List ℕ) (at : ℕ) → FirstWrong k input at → loadingOf k input ≡ wrong at
 first-wrong-told k input at w = told k input at (wrong-line w)
-
-pub no-list-told : (k : Series) (input : List ℕ) (at : ℕ) → NoList k input at → loadingOf k input ≡ wrong at
-no-list-told k input at n = told k input at (no-list n)
-
--- so of a load into an image, and of a move
-pub told-loaded : (image sheet : List ℕ) (at : ℕ) → isImage image ≡ true → Tells (seriesIn image) sheet at
-    → loaded image sheet ≡ record { answer = answer.Wrong at; image = image }
-told-loaded image sheet at i t = rw (i, told (seriesIn image) sheet at t)
-
-pub told-moved : (f : Form) (sheet room : List ℕ) (at : ℕ) → formIn sheet ≡ f → Tells (seriesNamed f sheet) sheet at
-    → movedSheet f sheet room ≡ unwritten (answer.Wrong at) room
-told-moved f sheet room at is t =
-    let k = seriesNamed f sheet in
-    ap (movedBy f k room) (ap (λ (g : Form). loadingAs g k sheet) (sym is) ∙ told k sheet at t)

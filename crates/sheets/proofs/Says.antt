@@ -18,7 +18,7 @@ use Rattle.figures.proofs.Decimal.{digits-length, digits-are, number-digits}
 use Rattle.figures.proofs.Tests.{both, by-test, Even, along}
 use Rattle.units.proofs.Positions.{sign-on}
 use Rattle.instrument.specs.Rows.{seek}
-use Rattle.instrument.specs.Settings.{noRow, rows100, rows300, rowsOf, rowAt, settingNumber, settingPlace, isAsked, inRange, held, inRanges, settingsN}
+use Rattle.instrument.specs.Settings.{noRow, rows100, rows300, rowsOf, rowAt, settingNumber, settingPlace, isAsked, inRange, inRanges, settingsN}
 use Rattle.instrument.specs.Values.{valuesN, stored, storedAt, indexNumber, valuePlace, putRight, putKept, keptRight, valueWord}
 use Rattle.state.specs.Entries.{entriesN, entryOf, blankEntry, isNever, settable, itemRight, entryRight, valueOf, valuesRight, isState}
 use Rattle.instrument.specs.declared.settings.Series.{Series}
@@ -32,10 +32,8 @@ use Rattle.state.specs.declared.entries.Item.{Item}
 use Rattle.state.specs.declared.entries.Item.the-variants.{Free, Setting, Stored}
 use Rattle.state.specs.declared.entries.Entry.{Entry}
 use Rattle.state.specs.declared.entries.State.{State}
-use Rattle.state.proofs.Images.{held-right, held-long}
 use Rattle.state.proofs.Listed.{EachRight, entries-right}
 use Rattle.state.proofs.Steps.{state-parts}
-use Rattle.lines.proofs.Deeds.{state-right}
 use Rattle.instrument.proofs.Ranges.{range-byte}
 use Rattle.sheets.specs.Sheet.{settingKey, saidBy, settingLines, charactersOf, valueKey, valueLines}
 use Rattle.sheets.specs.Undo.{countKey, countLines, itemKey, entryLine, settingSaid, storedSaid, numberSaid, entrySaid, entryLines, entriesOf}
@@ -76,9 +74,6 @@ digits-until (suc k) [] b rest none h e = rw none
 digits-until (suc k) (x ∷ l) b rest none h e =
     let parts = both (isDigit x) (every isDigit l) e in
     rw (parts .0) (ap suc (digits-until k l b rest none (omega arith) (parts .1)))
-
-pub digits-counted : (k : ℕ) (l rest : List ℕ) → length l ≤ k → every isDigit l ≡ true → digitsFirst k (l ++ (10 ∷ rest)) ≡ length l
-digits-counted k l rest = digits-until k l 10 rest refl
 
 said-digits : (k n : ℕ) (l : List ℕ) (b : ℕ) (rest : List ℕ) → isDigit b ≡ false → length l ≤ k → every isDigit l ≡ true
     → saidBy k n (l ++ (b ∷ rest)) ≡ numberFrom n l
@@ -227,18 +222,6 @@ pub record Named (k : Series) (settings : List ℕ) (values : List Value) : Type
   pub settings-right : rightBy (settingLines k) [] 0 settings ≡ true
   pub values-long : length values ≡ valuesN
   pub values-right : rightBy valueLines [] 0 values ≡ true
-
-pub state-named : (s : State) → isState s ≡ true → Named (s .series) (held (s .series) (s .settings)) (s .values)
-state-named s e =
-    let k = s .series in
-    let r = state-right s e in
-    let many = held-long k (s .settings) (r .ranges) in
-    record {
-      settings-long = many;
-      settings-right = sym (ranges-right k (held k (s .settings)) many) ∙ held-right k (s .settings) (r .ranges);
-      values-long = r .values-long;
-      values-right = sym (values-right [] 0 (s .values)) ∙ r .values-right;
-    }
 
 -- entries that are each right by themselves, and no more than a state has
 

@@ -7,21 +7,21 @@ use native.Mathlib.Omega.{arith}
 use borrow.Author.Tests.{eq-eqb, eqb-true, eqb-false, leb-true, le-leb}
 use lib.Dec.{eqb, leb}
 use lib.ListN.{length, getD, drop, length-append, drop-of-length-le}
-use lib.Seq.{drop-drop, drop-at, take-append-seam, drop-append-seam}
+use lib.Seq.{drop-drop, drop-at, drop-append-seam}
 use Rattle.figures.specs.Bytes.{startsWith}
 use Rattle.figures.proofs.Bytes.{starts-append}
 use Rattle.figures.proofs.Tests.{both, by-test}
 use Rattle.instrument.specs.Settings.{held, padded, settingsN}
-use Rattle.state.specs.Entries.{entriesN, withEntries, noEntries, contentsOf, contentsRight, isState}
+use Rattle.state.specs.Entries.{entriesN, withEntries, noEntries, contentsOf, isState}
 use Rattle.instrument.specs.Values.{valuesN}
 use Rattle.instrument.specs.declared.settings.Series.{Series}
 use Rattle.instrument.specs.declared.settings.Series.the-variants.{Tps100, Tps300}
 use Rattle.instrument.specs.declared.values.Value.{Value}
 use Rattle.state.specs.declared.entries.Entry.{Entry}
 use Rattle.state.specs.declared.entries.State.{State}
-use Rattle.state.proofs.Images.{shaped, padded-held, padded-right}
+use Rattle.state.proofs.Images.{shaped, padded-held}
 use Rattle.state.proofs.Listed.{entries-of}
-use Rattle.state.proofs.Steps.{all-of, state-parts, back-now, none-state}
+use Rattle.state.proofs.Steps.{state-parts, back-now, none-state}
 use Rattle.sheets.specs.Lines.{LinesOf, linesBy, Part, wrongAt, partBy}
 use Rattle.sheets.specs.Sheet.{seriesLine, settingLines, valueLines, sheetOf}
 use Rattle.sheets.specs.Undo.{formLine, countLine, countLines, entryLines, entriesOf, listText, undoText, sheetAs}
@@ -32,7 +32,8 @@ use Rattle.sheets.specs.declared.forms.Form.{Form}
 use Rattle.sheets.specs.declared.forms.Form.the-variants.{One, Two}
 use Rattle.sheets.specs.declared.loading.Came.the-variants.{To}
 use Rattle.sheets.proofs.Partwise.{rightBy, Said, came, starts-parted, TakenLines, NoLine, Went, finished, stopped, part-load, part-went}
-use Rattle.sheets.proofs.Says.{setting-said, ranges-right, value-said, values-right, Named, state-named, count-said, entry-said, Listed, state-listed}
+use Rattle.sheets.proofs.Says.{setting-said, value-said, Named, count-said, entry-said}
+use Rattle.sheets.proofs.Lined.{Lined, entriesIn, state-lined, lined-as, unlisted, named-contents, entries-back}
 
 -- a sheet by its parts
 
@@ -55,23 +56,7 @@ pub sheet-contents : (s : State) → sheetOf s ≡ sheetOf (noEntries (s .series
 unfolding sheetOf
 sheet-contents s = refl
 
--- entries that a form can show: form 1 shows none
-
-abbrev pub Shows : Form → List Entry → Type 0
-Shows One entries = entries ≡ []
-Shows Two entries = Unit {0}
-
--- what a sheet can show: each line is right, whether or not a state has that list
-pub record Lined (f : Form) (k : Series) (settings : List ℕ) (values : List Value) (entries : List Entry) : Type 0 where
-  pub named : Named k settings values
-  pub listed : Listed k entries
-  pub shows : Shows f entries
-
 -- what it shows of a state
-
-abbrev pub entriesIn : Form → State → List Entry
-entriesIn One s = []
-entriesIn Two s = entriesOf s
 
 abbrev pub shownIn : Form → State → State
 shownIn One s = noEntries (s .series) (s .settings) (s .values)
@@ -81,14 +66,6 @@ pub sheet-by : (f : Form) (s : State) → sheetAs f s ≡ sheetBy f (s .series) 
 unfolding sheetAs sheetOf undoText
 sheet-by One s = sym (append-nil (bodyBy (s .series) (held (s .series) (s .settings)) (s .values)))
 sheet-by Two s = refl
-
-none-listed : (k : Series) → Listed k []
-unfolding rightBy
-none-listed k = record { few = omega arith; each = refl }
-
-pub state-lined : (f : Form) (s : State) → isState s ≡ true → Lined f (s .series) (held (s .series) (s .settings)) (s .values) (entriesIn f s)
-state-lined One s e = record { named = state-named s e; listed = none-listed (s .series); shows = refl }
-state-lined Two s e = record { named = state-named s e; listed = state-listed s e; shows = tt }
 
 -- the first line tells the form
 
@@ -212,7 +189,7 @@ module _ (f : Form) (s : State) (e : isState s ≡ true) where
   pub sheet-loads : loadingAs f (s .series) (sheetAs f s) ≡ right (held (s .series) (s .settings)) (s .values) (entriesIn f s)
   sheet-loads =
       ap (loadingAs f (s .series)) (sheet-by f s)
-      ∙ lines-load f (s .series) (held (s .series) (s .settings)) (s .values) (entriesIn f s) (state-lined f s e) (ap isState (shown-back f s e) ∙ shown-state f s e)
+      ∙ lines-load f (s .series) (held (s .series) (s .settings)) (s .values) (entriesIn f s) (lined-as f s (state-lined s e)) (ap isState (shown-back f s e) ∙ shown-state f s e)
 
   pub sheet-loads-of : loadingOf (s .series) (sheetAs f s) ≡ right (held (s .series) (s .settings)) (s .values) (entriesIn f s)
   sheet-loads-of = ap (λ (g : Form). loadingAs g (s .series) (sheetAs f s)) (form-in f s) ∙ sheet-loads
@@ -284,16 +261,6 @@ other-sheet f k s apart =
 
 -- what loads is what would be written
 
-pub named-contents : (k : Series) (settings : List ℕ) (values : List Value) → Named k settings values → contentsRight (contentsNamed k settings values) ≡ true
-named-contents k settings values n =
-    let ranges = ranges-right k settings (n .settings-long) ∙ n .settings-right in
-    let judged = values-right [] 0 values ∙ n .values-right in
-    all-of (padded-right k settings ranges) (all-of (eq-eqb (length values) valuesN (n .values-long)) judged)
-
--- the entries of a state that has them
-pub entries-back : (k : Series) (settings : List ℕ) (values : List Value) (entries : List Entry) → entriesOf (loadedState k settings values entries) ≡ entries
-entries-back k settings values entries = take-append-seam entries _
-
 pub sheet-back : (f : Form) (k : Series) (settings : List ℕ) (values : List Value) (entries : List Entry) → length settings ≡ settingsN k
     → sheetAs f (loadedState k settings values entries) ≡ sheetBy f k settings values entries
 unfolding sheetAs sheetOf undoText
@@ -333,8 +300,8 @@ pub parted-all : {front : List ℕ} {at : ℕ} {sheet : List ℕ} → Parted fro
 parted-all {front = front} {at = at} {sheet = sheet} p end =
     p .is ∙ ap (λ (l : List ℕ). front ++ l) (drop-of-length-le sheet {i = at} (omega arith)) ∙ append-nil front
 
-parted-within : {front : List ℕ} {at : ℕ} {sheet : List ℕ} → Parted front at sheet → (at ≡ length sheet → ⊥) → at < length sheet
-parted-within {front = front} {at = at} {sheet = sheet} p more = omega (arith, p .here, ap length (p .is), length-append front (drop at sheet), more)
+pub parted-within : {front : List ℕ} {at : ℕ} {sheet : List ℕ} → Parted front at sheet → at ≤ length sheet
+parted-within {front = front} {at = at} {sheet = sheet} p = omega (arith, p .here, ap length (p .is), length-append front (drop at sheet))
 
 -- how far the lines of a sheet are right, and what loading it comes to by that
 pub data Ways (f : Form) (k : Series) (sheet : List ℕ) (l : Loading) : Type 0 where
@@ -392,7 +359,7 @@ module _ (k : Series) (sheet : List ℕ) where
           by-test is
           (λ b. through settings values entries (ap listed e ∙ rw (y, b)) all lined b)
           (λ b. no-list at settings values entries refl (ap listed e ∙ rw (y, b)) (p .here) all lined b))
-          (λ y. surplus end settings values entries (ap listed e ∙ rw y) parted (parted-within parted (eqb-false end (length sheet) y)) lined)
+          (λ y. surplus end settings values entries (ap listed e ∙ rw y) parted (omega (arith, parted-within parted, eqb-false end (length sheet) y)) lined)
       entries-went {m} c few q (stopped end entries e t less none) =
           let lines = linesBy (entryLines k) 0 entries in
           let parted = parted-as (four (formLine Two) (bodyBy k settings values) (countLine m) lines) (parted-on (front ++ countLine m) c t) in
@@ -418,12 +385,12 @@ module _ (k : Series) (sheet : List ℕ) where
   tail-went One at settings values n p =
       let body = bodyBy k settings values in
       let parted = parted-as (sym (append-nil body)) p in
-      let lined : Lined One k settings values [] = record { named = n; listed = none-listed k; shows = refl } in
+      let lined = unlisted One k settings values n in
       by-test (eqb at (length sheet))
       (λ y.
       through settings values [] (rw y) (parted-all parted (eqb-true at (length sheet) y)) lined
       (none-state k (padded settings) values (named-contents k settings values n)))
-      (λ y. surplus at settings values [] (rw y) parted (parted-within parted (eqb-false at (length sheet) y)) lined)
+      (λ y. surplus at settings values [] (rw y) parted (omega (arith, parted-within parted, eqb-false at (length sheet) y)) lined)
   tail-went Two at settings values n p = list-went at settings values n p (countFrom sheet at) (part-went countLines count-said 1 0 at sheet [])
 
 -- form 1's lines

@@ -4,19 +4,16 @@ use mathlib.Core.Path.{_≡_, refl, ap, _∙_}
 use mathlib.Core.Bool.{true, false, cond, not, false≢true}
 use mathlib.Core.List.{List, [], _∷_, _++_, map}
 use native.Mathlib.Omega.{arith}
-use borrow.Author.Tests.{lt-ltb, le-ltb, leb-true, ltb-false}
-use lib.Dec.{leb, ltb}
+use borrow.Author.Tests.{lt-ltb, le-ltb, ltb-false}
+use lib.Dec.{ltb}
 use lib.ListN.{length, replicate, length-append}
-use Rattle.figures.specs.Text.{codes}
 use Rattle.figures.specs.Bytes.{among, every}
-use Rattle.figures.specs.Decimal.{digitsOf, digitsNBy, digitsN, decimalOf, numberFrom}
-use Rattle.figures.proofs.Decimal.{digits-length}
+use Rattle.figures.specs.Decimal.{digitsOf, digitsNBy, digitsN, numberFrom}
 use Rattle.figures.proofs.Tests.{both, by-test}
-use Rattle.instrument.specs.Rows.{nameOf}
-use Rattle.instrument.specs.Settings.{noRow, rows100, rows300, rowsOf, rowAt, settingNumber, isAsked, held, inRange, inRanges, settingsN}
+use Rattle.instrument.specs.Settings.{rows100, rows300, rowAt, isAsked, held, inRange, inRanges, settingsN}
 use Rattle.instrument.specs.Settings as rows
-use Rattle.instrument.specs.Values.{noStored, stored, storedAt, indexNumber, isPut, valuesN}
-use Rattle.state.specs.Entries.{entriesN, valueOf, entryOf, withEntries, factoryState, isNever, allBlank, valuesRight, settable, itemRight, entryRight}
+use Rattle.instrument.specs.Values.{stored, isPut, valuesN}
+use Rattle.state.specs.Entries.{entriesN, valueOf, entryOf, withEntries, factoryState, isNever, allBlank, valuesRight, settable, entryRight}
 use Rattle.state.specs.Entries.{rightBack, isState}
 use Rattle.instrument.specs.declared.settings.Row.{Row}
 use Rattle.instrument.specs.declared.settings.Series.{Series}
@@ -27,22 +24,22 @@ use Rattle.instrument.specs.declared.values.Stored.{Stored}
 use Rattle.instrument.specs.declared.values.Value.{Value}
 use Rattle.state.specs.declared.entries.Item.{Item}
 use Rattle.state.specs.declared.entries.Item.the-variants as item
-use Rattle.state.specs.declared.entries.Former.{Former}
 use Rattle.state.specs.declared.entries.Entry.{Entry}
 use Rattle.state.specs.declared.entries.State.{State}
 use Rattle.instrument.proofs.Ranges.{range-high, rows-high, range-byte}
-use Rattle.instrument.proofs.Seek.{eachRow, row-tested}
 use Rattle.sheets.specs.Lines.{LinesOf, linesBy}
-use Rattle.sheets.specs.Sheet.{seriesLine, settingKey, settingLines, charactersN, charactersOf, valueKey, valueLines, sheetOf}
-use Rattle.sheets.specs.Undo.{formLine, countKey, countLine, itemKey, formerText, entryLine, entryLines, entriesOf, listText, undoText, sheetAs}
+use Rattle.sheets.specs.Sheet.{seriesLine, settingKey, settingLines, charactersN, valueKey, valueLines, sheetOf}
+use Rattle.sheets.specs.Undo.{formLine, countLine, entryLine, entryLines, entriesOf, listText, undoText, sheetAs}
 use Rattle.sheets.specs.FirstWrong.{isLined}
 use Rattle.sheets.specs.Keeping.{sheetMost}
 use Rattle.sheets.specs.declared.forms.Form.{Form}
 use Rattle.sheets.specs.declared.forms.Form.the-variants.{One, Two}
+use Rattle.sheets.proofs.Keyed.{keyHeld, key-most}
 use Rattle.sheets.proofs.Linewise.{short-decimal, setting-long, kept-long}
 use Rattle.sheets.proofs.Partwise.{rightBy}
 use Rattle.sheets.proofs.Says.{Listed}
 use Rattle.sheets.proofs.Lined.{lined-named, lined-listed, state-lined}
+use Rattle.sheets.proofs.UndoWrites.{sheet-long, count-long, setting-line-long, stored-line-long}
 
 -- a size of each thing, added up
 unfoldable pub totalOf : {A : Type 0} → (A → ℕ) → List A → ℕ
@@ -66,14 +63,14 @@ lines-size l here k own long i (x ∷ xs) =
 abbrev pub putsN : List Value → ℕ
 putsN = totalOf (λ (v : Value). cond (isPut (v .kept)) 1 0)
 
+put-few : (w : Kept) → cond (isPut w) 1 0 ≤ 1
+put-few Never = omega arith
+put-few (Put u m d) = omega arith
+
 puts-few : (vs : List Value) → putsN vs ≤ length vs
 unfolding totalOf
 puts-few [] = omega arith
-puts-few (v ∷ vs) = by (v .kept) (puts-few vs)
-  where
-    by : (w : Kept) → putsN vs ≤ length vs → cond (isPut w) 1 0 + putsN vs ≤ length (v ∷ vs)
-    by Never h = omega arith
-    by (Put u m d) h = omega arith
+puts-few (v ∷ vs) = omega (arith, put-few (v .kept), puts-few vs)
 
 -- a setting's line: its key, LF, and the digits of its parameter, one at least and at most those of the highest
 
@@ -216,53 +213,22 @@ sheet-size s e is =
 abbrev pub entryMost : ℕ
 entryMost = 22
 
--- the names of a setting and of a value have at most four bytes and three
-names-short : (k : Series) → (leb (length (nameOf "s" (settingNumber noRow))) 4 ≡ true)
-    × (eachRow (λ (r : Row). leb (length (nameOf "s" (settingNumber r))) 4) (rowsOf k) ≡ true)
-unfolding eachRow rows100 rows300 digitsOf digitsNBy
-names-short Tps100 = (refl, refl)
-names-short Tps300 = (refl, refl)
-
-name-short : (k : Series) (i : ℕ) → length (nameOf "s" (settingNumber (rowAt k i))) ≤ 4
-name-short k i =
-    let t = names-short k in leb-true _ 4 (row-tested (λ (r : Row). leb (length (nameOf "s" (settingNumber r))) 4) (rowsOf k) noRow (t .0) (t .1) i)
-
-index-short : (i : ℕ) → length (nameOf "v" (indexNumber (storedAt i))) ≤ 3
-unfolding eachRow stored digitsOf digitsNBy
-index-short i = leb-true _ 3 (row-tested (λ (r : Stored). leb (length (nameOf "v" (indexNumber r))) 3) stored noStored refl refl i)
-
-characters-few : (i : ℕ) (w : Kept) → length (charactersOf i w) ≤ charactersN
-characters-few i Never = omega arith
-characters-few i (Put u m d) = omega arith
-
--- a key of at most so many bytes between `u=` and the colon, and what was there
-entry-long : (name text : List ℕ) → length ((codes "u=" ++ (name ++ codes ":")) ++ (text ++ codes "\n")) ≡ length name + length text + 4
-entry-long name text =
-    omega (arith, length-append (codes "u=" ++ (name ++ codes ":")) (text ++ codes "\n"), length-append name (codes ":"), length-append text (codes "\n"))
-
 entry-sized : (k : Series) (e : Entry) → entryRight k e ≡ true → length (entryLine k e) ≤ entryMost
-entry-sized k e r = by (e .item) (e .former) r
+entry-sized k e r = by (e .item) refl
   where
-    by : (x : Item) (f : Former) → itemRight k x (f .parameter) (f .kept) ≡ true → length (itemKey k x ++ (formerText x f ++ codes "\n")) ≤ entryMost
-    by item.Free f r = absurd (false≢true r)
-    by (item.Setting i) f r =
-        let p = f .parameter in
-        let name = nameOf "s" (settingNumber (rowAt k i)) in
-        let settled = both (settable k i p) (isNever (f .kept)) r .0 in
+    by : (x : Item) → e .item ≡ x → length (entryLine k e) ≤ entryMost
+    by item.Free is = absurd (false≢true (rw is at r))
+    by (item.Setting i) is =
+        let p = e .former .parameter in
+        let settled = both (settable k i p) (isNever (e .former .kept)) (rw is at r) .0 in
         let ranged = both (not (isAsked (rowAt k i))) (inRange (rowAt k i) p) (both (ltb i (settingsN k)) _ settled .1) .1 in
-        let small : p < 1000 = omega (arith, range-byte k i p ranged) in
-        omega (arith, entry-long name (decimalOf p), name-short k i, digits-length (digitsN p) p, short-decimal p small .0)
-    by (item.Stored i) f r =
-        let name = nameOf "v" (indexNumber (storedAt i)) in
-        omega (arith, entry-long name (charactersOf i (f .kept)), index-short i, characters-few i (f .kept))
+        omega (arith, setting-line-long k e i is, key-most (keyHeld k i), short-decimal p (omega (arith, range-byte k i p ranged)) .0)
+    by (item.Stored i) is = omega (arith, stored-line-long k e i r is, put-few (e .former .kept))
 
 total-same : (m i n : ℕ) → totalFrom (λ j. m) i n ≡ m * n
 unfolding totalFrom
 total-same m i zero = omega arith
 total-same m i (suc n) = omega (arith, total-same m (i + 1) n)
-
-count-long : (n : ℕ) → length (countLine n) ≡ digitsN n + 6
-count-long n = omega (arith, length-append countKey (decimalOf n ++ codes "\n"), length-append (decimalOf n) (codes "\n"), digits-length (digitsN n) n)
 
 -- a list's text: with none and with all
 abbrev pub listLeast : ℕ
@@ -304,18 +270,12 @@ pub sizes-two-300 : (leastAs Two Tps300 ≡ 277) × (greatestAs Two Tps300 ≡ s
 unfolding digitsOf digitsNBy
 sizes-two-300 = (omega (arith, sizes-300), omega (arith, sizes-300))
 
-two-long : (s : State) → length (sheetAs Two s) ≡ length (formLine Two) + length (sheetOf s) + length (listText (s .series) (entriesOf s))
-unfolding sheetAs undoText
-two-long s =
-    let text = listText (s .series) (entriesOf s) in
-    omega (arith, length-append (formLine Two) (sheetOf s ++ text), length-append (sheetOf s) text)
-
 lined-between : (f : Form) (s : State) → isLined s ≡ true → (leastAs f (s .series) ≤ length (sheetAs f s)) × (length (sheetAs f s) ≤ greatestAs f (s .series))
-unfolding sheetAs
+unfolding sheetAs undoText
 lined-between One s e = (lined-least s e, lined-most s e)
 lined-between Two s e =
     let list = list-between (s .series) (entriesOf s) (lined-listed s e) in
-    (omega (arith, two-long s, lined-least s e, list .0), omega (arith, two-long s, lined-most s e, list .1))
+    (omega (arith, sheet-long Two s, lined-least s e, list .0), omega (arith, sheet-long Two s, lined-most s e, list .1))
 
 pub least-as : (f : Form) (s : State) → isState s ≡ true → leastAs f (s .series) ≤ length (sheetAs f s)
 least-as f s e = lined-between f s (state-lined s e) .0
@@ -368,11 +328,11 @@ greatest-reached Tps100 = refl
 greatest-reached Tps300 = refl
 
 pub least-reached-as : (f : Form) (k : Series) → length (sheetAs f (factoryState k)) ≡ leastAs f k
-unfolding sheetAs linesBy digitsOf digitsNBy
+unfolding sheetAs undoText linesBy digitsOf digitsNBy
 least-reached-as One k = least-reached k
-least-reached-as Two k = two-long (factoryState k) ∙ ap (λ n. length (formLine Two) + n + listLeast) (least-reached k)
+least-reached-as Two k = sheet-long Two (factoryState k) ∙ ap (λ n. length (formLine Two) + n + listLeast) (least-reached k)
 
 pub greatest-reached-as : (f : Form) (k : Series) → length (sheetAs f (fullest k)) ≡ greatestAs f k
-unfolding sheetAs linesBy stored digitsOf digitsNBy
+unfolding sheetAs undoText linesBy stored digitsOf digitsNBy
 greatest-reached-as One k = greatest-reached k
-greatest-reached-as Two k = two-long (fullest k) ∙ ap (λ n. length (formLine Two) + n + listGreatest) (greatest-reached k)
+greatest-reached-as Two k = sheet-long Two (fullest k) ∙ ap (λ n. length (formLine Two) + n + listGreatest) (greatest-reached k)

@@ -102,44 +102,37 @@ standing-within : (f : Form) (s : State) → shownIn f s ≡ s → (s .count ≡
 standing-within One s shown stand = absurd (stand (sym (ap (λ (t : State). t .count) shown)))
 standing-within Two s shown stand = undo-within s
 
-abbrev Bounds : Form → Sheeted → List ℕ → Type 0
-Bounds f a sheet =
-    (0 < sheetNumber a → sheetTells a ≤ length sheet) × (sheetNumber a ≡ 0 → sheetTells a ≤ sheetMost (otherForm f)) × (sheetTells a ≤ sheetMost Two)
+abbrev Bounds : Sheeted → List ℕ → Type 0
+Bounds a sheet = (0 < sheetNumber a → sheetTells a ≤ length sheet) × (sheetTells a ≤ sheetMost Two)
 
-moved-state : (f : Form) (s : State) (room : List ℕ) → isState s ≡ true → shownIn f s ≡ s → Bounds f (movedOf f s room .answer) (sheetAs f s)
+moved-state : (f : Form) (s : State) (room : List ℕ) → isState s ≡ true → shownIn f s ≡ s → Bounds (movedOf f s room .answer) (sheetAs f s)
 moved-state f s room e shown =
     let text = sheetAs (otherForm f) s in
-    let below = sheet-below (otherForm f) s e in
     by-test (eqb (s .count) 0)
     (λ y.
-    by-test (leb (length text) (length room)) (λ h. rw (y, h) (λ n. absurd (omega arith), λ n. below, omega (arith, below, most-two (otherForm f))))
-    (λ h. rw (y, h) (λ n. omega arith, λ n. omega arith, omega arith)))
+    by-test (leb (length text) (length room)) (λ h. rw (y, h) (λ n. absurd (omega arith), omega (arith, sheet-below (otherForm f) s e, most-two (otherForm f))))
+    (λ h. rw (y, h) (λ n. omega arith, omega arith)))
     (λ y.
     let within = standing-within f s shown (eqb-false (s .count) 0 y) in
-    rw y (λ n. within, λ n. absurd (omega arith), omega (arith, within, sheet-below f s e, most-two f)))
+    rw y (λ n. within, omega (arith, within, sheet-below f s e, most-two f)))
 
-moved-bounds : (f : Form) (sheet room : List ℕ) → Bounds f (movedSheet f sheet room .answer) sheet
+moved-bounds : (f : Form) (sheet room : List ℕ) → Bounds (movedSheet f sheet room .answer) sheet
 moved-bounds f sheet room = by (moves-as f sheet room)
   where
-    by : MovesAs f sheet room (movedSheet f sheet room) → Bounds f (movedSheet f sheet room .answer) sheet
+    by : MovesAs f sheet room (movedSheet f sheet room) → Bounds (movedSheet f sheet room .answer) sheet
     by (no-sheet at q not) = rw q (place (moved-tells f sheet room at (ap (λ (o : Sheet·room). o .answer) q)))
       where
-        place : MoveTells f sheet at → Bounds f (answer.Wrong at) sheet
-        place (of-form is t) = let b = tells-within (seriesNamed f sheet) sheet at t in (λ n. b .0, λ n. absurd (omega arith), b .1)
-        place (of-other apart start) = (λ n. omega arith, λ n. absurd (omega arith), omega arith)
+        place : MoveTells f sheet at → Bounds (answer.Wrong at) sheet
+        place (of-form is t) = let b = tells-within (seriesNamed f sheet) sheet at t in (λ n. b .0, b .1)
+        place (of-other apart start) = (λ n. omega arith, omega arith)
     by (of-state s is shown has q) = rw (q, ← has) (moved-state f s room is shown)
 
 pub moved-within : (f : Form) (sheet room : List ℕ) → let a = movedSheet f sheet room .answer in
     0 < sheetNumber a → sheetTells a ≤ length sheet
 moved-within f sheet room = moved-bounds f sheet room .0
 
--- what is written is no longer than the longest sheet of the other form
-pub moved-written : (f : Form) (sheet room : List ℕ) → let a = movedSheet f sheet room .answer in
-    sheetNumber a ≡ 0 → sheetTells a ≤ sheetMost (otherForm f)
-moved-written f sheet room = moved-bounds f sheet room .1
-
 pub moved-most : (f : Form) (sheet room : List ℕ) → sheetTells (movedSheet f sheet room .answer) ≤ sheetMost Two
-moved-most f sheet room = moved-bounds f sheet room .2
+moved-most f sheet room = moved-bounds f sheet room .1
 
 -- 40, 41 and 30: nothing is written
 pub moved-refused : (f : Form) (sheet room : List ℕ) → 0 < sheetNumber (movedSheet f sheet room .answer) → movedSheet f sheet room .room ≡ room

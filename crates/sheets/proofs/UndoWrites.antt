@@ -40,6 +40,10 @@ unfolding sheetAs undoText
 sheet-parts One s = sym (append-nil (sheetOf s))
 sheet-parts Two s = refl
 
+pub sheet-long : (f : Form) (s : State) → length (sheetAs f s) ≡ length (formLine f) + length (sheetOf s) + length (undoText f s)
+sheet-long f s =
+    omega (arith, ap length (sheet-parts f s), length-append (formLine f) (sheetOf s ++ undoText f s), length-append (sheetOf s) (undoText f s))
+
 pub undo-one : (s : State) → undoText One s ≡ []
 unfolding undoText
 undo-one s = refl

@@ -74,15 +74,9 @@ module _ {k : Series} {l : List ℕ} (im : Imaged k l) where
   lines-few = sheet-below One s (is-state im)
 
   -- and the sheet of a form by those
-
-  module _ (f : Form) where
-    pub sheet-text : (formLine f ++ ((seriesLine k ++ settingsText s) ++ valuesText s)) ++ undoText f s ≡ sheetAs f s
-    sheet-text =
-        ap (λ (t : List ℕ). (formLine f ++ t) ++ undoText f s) lines-text ∙ append-assoc (formLine f) (sheetOf s) (undoText f s) ∙ sym (sheet-parts f s)
-
-    pub sheet-long : length (sheetAs f s) ≡ length (formLine f) + length (sheetOf s) + length (undoText f s)
-    sheet-long =
-        omega (arith, ap length (sheet-parts f s), length-append (formLine f) (sheetOf s ++ undoText f s), length-append (sheetOf s) (undoText f s))
+  pub sheet-text : (f : Form) → (formLine f ++ ((seriesLine k ++ settingsText s) ++ valuesText s)) ++ undoText f s ≡ sheetAs f s
+  sheet-text f =
+      ap (λ (t : List ℕ). (formLine f ++ t) ++ undoText f s) lines-text ∙ append-assoc (formLine f) (sheetOf s) (undoText f s) ∙ sym (sheet-parts f s)
 
 -- the answer
 

@@ -79,7 +79,8 @@ digitsFirst (suc k) (b ∷ t) = cond (isDigit b) (suc (digitsFirst k t)) 0
 abbrev pub saidOf : List ℕ → Digits
 saidOf t = record { number = saidBy 3 0 t; digits = digitsFirst 3 t }
 
--- a line is taken as `partBy` (Lines.antt) judges it: its length and what it holds, or nothing; `setting-turned` and `value-turned`, in proofs/Takes.antt, show it
+-- a line is taken as `partBy` (Lines.antt) judges it: its length and what it holds, or nothing; `setting-turned` and `value-turned`, in proofs/Takes.antt, and
+-- `count-turned` and `entry-turned`, in UndoTakes.antt, show it
 abbrev pub lineStands : {A : Type 0} → LinesOf A → ℕ → List ℕ → Bool
 lineStands l i rest = let x = l .says i rest in l .may [] i x && startsWith (l .write i x) rest
 

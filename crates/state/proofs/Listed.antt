@@ -2,7 +2,7 @@
 use Prim.Native.Nat.{ℕ, zero, suc, _+_, _-_, _<_, _≤_}
 use mathlib.Core.Path.{_≡_, refl, sym, ap, _∙_}
 use mathlib.Core.Bool.{true, _&&_, and-true}
-use mathlib.Core.List.{List, [], _++_}
+use mathlib.Core.List.{List, _++_}
 use mathlib.Core.Logic.{⊎-elim}
 use native.Mathlib.Nat.{eq-or-lt-of-le}
 use native.Mathlib.Numerals.{add-one}
@@ -95,10 +95,6 @@ with-entries-state k settings values entries now few each =
 abbrev pub listedTo : Series → List ℕ → List Value → List Entry → ℕ → State
 listedTo k settings values entries i =
     record { series = k; settings = settings; values = values; undo = take i entries ++ replicate (entriesN - i) blankEntry; count = 0 }
-
-pub listed-none : (k : Series) (settings : List ℕ) (values : List Value) (entries : List Entry)
-    → listedTo k settings values entries 0 ≡ withEntries k settings values []
-listed-none k settings values entries = refl
 
 module _ (k : Series) (settings : List ℕ) (values : List Value) (h : Shaped (noEntries k settings values)) (entries : List Entry)
     (few : length entries ≤ entriesN) where

@@ -130,8 +130,8 @@ listed s = entriesBytes (s .undo)
 abbrev pub withContents : State → List ℕ → List Value → State
 withContents s settings values = record { series = s .series; settings = settings; values = values; undo = s .undo; count = s .count }
 
-abbrev pub withEntries : State → List Entry → ℕ → State
-withEntries s undo count = record { series = s .series; settings = s .settings; values = s .values; undo = undo; count = count }
+abbrev pub withUndo : State → List Entry → ℕ → State
+withUndo s undo count = record { series = s .series; settings = s .settings; values = s .values; undo = undo; count = count }
 
 -- with a parameter of the series stored, what lies past its own is nought as before
 pub stored-held : (k : Series) (l : List ℕ) (i p : ℕ) → length l ≡ settingsMost → padded (held k l) ≡ l → i < settingsN k
@@ -155,7 +155,7 @@ module _ (s : State) (h : Shaped s) where
   contents-shaped settings values ls back lv =
       record { settings-long = ls; settings-held = back; values-long = lv; undo-long = h .undo-long; few = h .few }
 
-  pub entries-shaped : (undo : List Entry) (n : ℕ) → length undo ≡ entriesN → n < 65536 → Shaped (withEntries s undo n)
+  pub entries-shaped : (undo : List Entry) (n : ℕ) → length undo ≡ entriesN → n < 65536 → Shaped (withUndo s undo n)
   entries-shaped undo n lu few =
       record { settings-long = h .settings-long; settings-held = h .settings-held; values-long = h .values-long; undo-long = lu; few = few }
 
@@ -167,7 +167,7 @@ module _ (s : State) (h : Shaped s) where
   pub value-shaped : (i : ℕ) (v : Value) → Shaped (withContents s (s .settings) (set (s .values) i v))
   value-shaped i v = contents-shaped (s .settings) (set (s .values) i v) (h .settings-long) (h .settings-held) (length-set (s .values) i v ∙ h .values-long)
 
-  pub entry-shaped : (n : ℕ) (e : Entry) → Shaped (withEntries s (set (s .undo) n e) (s .count))
+  pub entry-shaped : (n : ℕ) (e : Entry) → Shaped (withUndo s (set (s .undo) n e) (s .count))
   entry-shaped n e = entries-shaped (set (s .undo) n e) (s .count) (length-set (s .undo) n e ∙ h .undo-long) (h .few)
 
   -- laid down past its first parts
@@ -217,7 +217,7 @@ module _ (s : State) (h : Shaped s) where
       ∙ ap (λ (t : List ℕ). front s ++ t)
       (laid-before (i * valueN) (keptBytes w) (stored s) r (omega (arith, kept-back w .0, stored-long)) ∙ ap (λ (t : List ℕ). t ++ r) row)
 
-  pub entry-laid : (n : ℕ) (e : Entry) → n < entriesN → entryLaid (s .series) n e (imageOf s) ≡ imageOf (withEntries s (set (s .undo) n e) (s .count))
+  pub entry-laid : (n : ℕ) (e : Entry) → n < entriesN → entryLaid (s .series) n e (imageOf s) ≡ imageOf (withUndo s (set (s .undo) n e) (s .count))
   unfolding imageOf
   entry-laid n e lt =
       let row = row-laid entryBytes entryN (λ x. entry-back x .0) (s .undo) n e (omega (arith, h .undo-long)) in
@@ -225,7 +225,7 @@ module _ (s : State) (h : Shaped s) where
       ∙ past-count (n * entryN) (entryBytes e)
       ∙ ap (λ (t : List ℕ). front s ++ (stored s ++ (countBytes (s .count) ++ t))) row
 
-  pub count-laid : (n : ℕ) → countLaid (s .series) n (imageOf s) ≡ imageOf (withEntries s (s .undo) n)
+  pub count-laid : (n : ℕ) → countLaid (s .series) n (imageOf s) ≡ imageOf (withUndo s (s .undo) n)
   unfolding imageOf
   count-laid n =
       past-values 0 (countBytes n) (countBytes (s .count) ++ listed s)
@@ -287,14 +287,14 @@ list-cleared s h few past =
     let said : countIn k (imageOf s) ≡ n =
     ap (λ (t : Series). countIn t (imageOf s)) (sym (ap (λ (t : State). t .series) back)) ∙ ap (λ (t : State). t .count) back in
     let here : at ≡ at + 0 = omega arith in
-    let blank : laidAt at zeros (imageOf s) ≡ imageOf (withEntries s blanks n) =
+    let blank : laidAt at zeros (imageOf s) ≡ imageOf (withUndo s blanks n) =
     ap (λ (j : ℕ). laidAt j zeros (imageOf s)) here
     ∙ past-count s h 0 zeros
     ∙ ap (λ (t : List ℕ). front s ++ (stored s ++ (countBytes n ++ t))) (entries-cleared (s .undo) n (h .undo-long) few past) in
     chosen (imageOf s) (le-leb (at + countIn k (imageOf s) * entryN) (length (imageOf s)) (omega (arith, imaged s h .0)))
     ∙ ap (λ (j : ℕ). countLaid k 0 (laidAt at (replicate (j * entryN) 0) (imageOf s))) said
     ∙ ap (countLaid k 0) blank
-    ∙ count-laid (withEntries s blanks n) (entries-shaped s h blanks n (length-replicate {A = Entry} entriesN blankEntry) (h .few)) 0
+    ∙ count-laid (withUndo s blanks n) (entries-shaped s h blanks n (length-replicate {A = Entry} entriesN blankEntry) (h .few)) 0
 
 pub all-cleared : (s : State) → isState s ≡ true → cleared (s .series) (imageOf s) ≡ imageOf (noEntries (s .series) (s .settings) (s .values))
 all-cleared s e = let p = state-parts entriesN s e in list-cleared s (shaped s e) (p .few) (p .past)

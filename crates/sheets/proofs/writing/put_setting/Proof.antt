@@ -1,10 +1,10 @@
 -- `put_setting` meets its contract: the key, and then the parameter and LF.
 use Prim.Native.Nat.{ℕ}
-use mathlib.Core.Path.{_≡_, refl, sym, ap, _∙_}
+use mathlib.Core.Path.{refl, sym, ap, _∙_}
 use mathlib.Core.List.{List, _++_}
 use native.Mathlib.Omega.{arith}
 use borrow.Author.Needs.{needs}
-use lib.ListN.{take, length, length-append}
+use lib.ListN.{take, length-append}
 use Rattle.figures.specs.Text.{codes}
 use Rattle.figures.specs.Decimal.{decimalOf}
 use Rattle.figures.specs.Rooms.{Puts}

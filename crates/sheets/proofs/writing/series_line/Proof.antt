@@ -1,5 +1,4 @@
 -- `series_line` meets its contract.
-use mathlib.Core.Path.{refl}
 use borrow.Author.Needs.{needs}
 use Rattle.sheets.proofs.writing.series_line.Statement.{statement}
 use Rattle.sheets.proofs.writing.series_line.Tie as tie

@@ -11,8 +11,8 @@ use Rattle.state.specs.Image.{stateIn}
 use Rattle.sheets.specs.Sheet.{seriesLine, sheetOf}
 use Rattle.sheets.specs.Undo.{formLine, undoText, sheetAs}
 use Rattle.sheets.specs.Keeping.{settingsText, valuesText}
-use Rattle.sheets.proofs.UndoWrites.{form-few}
-use Rattle.sheets.proofs.Writes.{lines-long, lines-few, sheet-text, sheet-long, writes-room, writes-sheet}
+use Rattle.sheets.proofs.UndoWrites.{sheet-long, form-few}
+use Rattle.sheets.proofs.Writes.{lines-long, lines-few, sheet-text, writes-room, writes-sheet}
 use Rattle.sheets.proofs.writing.write_as.Statement.{statement}
 use Rattle.sheets.proofs.writing.write_as.Tie as tie
 
@@ -49,7 +49,7 @@ sized : (c : tie.After-undo-length) → let form = c .before in
 sized c =
     let form = c .before in
     let start = begun form in
-    omega (arith, form .form-length .ensures, lined (form .before), c .undo-length .ensures .0, sheet-long (start .pre) (start .args .form))
+    omega (arith, form .form-length .ensures, lined (form .before), c .undo-length .ensures .0, sheet-long (start .args .form) (stateIn (start .args .image .now)))
 
 returns : tie.Need-returns
 returns c =
