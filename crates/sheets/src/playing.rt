@@ -1,8 +1,4 @@
 // The work of the program sheet: an input cut into lines, each played from the factory state, and the sheet of what comes of it.
-ghost use mathlib.Core.Path.{_≡_};
-ghost use Prim.Native.Nat.{_≤_, _<_};
-ghost use lib.ListN.{length, drop};
-ghost use Rattle.state.specs.Image.{imageN};
 ghost use Rattle.sheets.specs.Playing.{Prints};
 ghost use Rattle.sheets.specs.Keeping.{Runs};
 use crate::answers::Sheeted;

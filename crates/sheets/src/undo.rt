@@ -2,9 +2,8 @@
 ghost use mathlib.Core.Path.{_≡_};
 ghost use mathlib.Core.Bool.{true};
 ghost use Prim.Native.Nat.{_≤_, _<_};
-ghost use lib.ListN.{length, drop, replicate};
+ghost use lib.ListN.{length, replicate};
 ghost use Rattle.figures.specs.Bytes.{startsWith};
-ghost use Rattle.figures.specs.Text.{codes};
 ghost use Rattle.instrument.specs.Values.{valuesN, valuePlace};
 ghost use Rattle.state.specs.Entries.{entriesN, entryOf, blankEntry, contentsRight};
 ghost use Rattle.state.specs.Keeping.{putsOf, goesBack};

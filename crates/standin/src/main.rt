@@ -8,7 +8,6 @@ ghost use Rattle.io.specs.Counts.{Counts};
 use asking::Asked;
 use asking::ask;
 use figures::same;
-use figures::starts;
 use instrument::settings::Series;
 use keeping::keep;
 use libc::STDERR_FILENO;
