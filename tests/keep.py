@@ -358,13 +358,17 @@ def moves():
         ("move", b"", b"move: refused=40 place=0 line=1\n"),
     ]:
         check(f"{program} of {text[:30]!r} ..", (b"", told), run([], text, program))
+    with open(os.path.join(HERE, "examples", "trial.lines"), "rb") as lines, open(os.path.join(HERE, "examples", "trial.sheet"), "rb") as sheet:
+        played, example = run([], lines.read(), "sheet"), sheet.read()
+    check("the example's sheet", (example, b""), played)
+    check("the example's sheet, there and back", (example, b""), run([], run([], example, "move")[0], "back"))
     check("move with an argument more", (b"", MOVES), run(["x"], first, "move"))
     check("back with an argument more", (b"", MOVES), run(["back"], first, "back"))
 
 
 def main():
     # The first run of a program builds it, and that takes its time.
-    for program in ["standin", "move"]:
+    for program in ["standin", "sheet", "move"]:
         subprocess.run([GSI, program], stdin=subprocess.DEVNULL, stdout=subprocess.DEVNULL, stderr=subprocess.DEVNULL, check=True)
     with tempfile.TemporaryDirectory() as folder:
         trial(folder)
