@@ -59,7 +59,8 @@ fn write_new(path: &[u8], sheet: &[u8]) -> bool {
     libc::close(fd) == 0
 }
 
-// Puts the sheet into the file, and tells on standard error where that couldn't be done: nothing is left then of the new file, and the old one is as it was.
+// Puts the sheet into the file, and tells on standard error where that couldn't be done: nothing is left then of the new file, and the old one is as it was,
+// unless only the folder couldn't be synced.
 fn save(path: &[u8], sheet: &[u8]) -> bool {
     let mut name = [0u8; NAME];
     let n = path.len();
