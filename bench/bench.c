@@ -195,7 +195,12 @@ static void add_block(struct file *f, unsigned words, int wide, int crlf)
 
 /* The file of all lengths, and one file for each of these lengths, of each family. */
 static struct file mixed[2];
+#ifdef EVERY_LENGTH
+static const unsigned lengths[] = {1,  2,  3,  4,  5,  6,  7,  8,  9,  10, 11, 12, 13, 14, 15, 16,
+                                   17, 18, 19, 20, 21, 22, 23, 24, 25, 26, 27, 28, 29, 30, 31, 32};
+#else
 static const unsigned lengths[] = {1, 2, 4, 8, 16, 32};
+#endif
 enum { LENGTHS = COUNT_OF(lengths), ALIKE = 32 };
 static struct file alike[2][LENGTHS];
 
@@ -697,8 +702,10 @@ int main(int words, char **word)
         print_row("whole", wholes[c].name, 0, times[c][0], times[c][1]);
     grow("a block read, by its words", READ_ALIKE, lengths, LENGTHS);
     grow("a block written, by its words", WRITE_ALIKE, lengths, LENGTHS);
-    if (families == 2)
+    if (families == 2) {
         beside("a level's block read, by its words", READ_ALIKE);
+        beside("a level's block written, by its words", WRITE_ALIKE);
+    }
     if (mends)
         beside_reading("a block mended, by its words");
     grow("a line, by the entries in the undo list", PLAY_DEPTH, depths, DEPTHS);

@@ -32,12 +32,12 @@ static const struct {
     {"gsi_sheet_back", AS_ANY(gsi_sheet_back), 8192},
     {"gsi_factory", AS_ANY(gsi_factory), 6144},
     {"gsi_factory_300", AS_ANY(gsi_factory_300), 6144},
-    {"gsi_read", AS_ANY(gsi_read), 8192},
-    {"gsi_write", AS_ANY(gsi_write), 8192},
-    {"gsi_read_level", AS_ANY(gsi_read_level), 8192},
-    {"gsi_write_level", AS_ANY(gsi_write_level), 8192},
-    {"gsi_mend", AS_ANY(gsi_mend), 8192},
-    {"gsi_mend_level", AS_ANY(gsi_mend_level), 8192},
+    {"gsi_read", AS_ANY(gsi_read), 1024},
+    {"gsi_write", AS_ANY(gsi_write), 1024},
+    {"gsi_read_level", AS_ANY(gsi_read_level), 1024},
+    {"gsi_write_level", AS_ANY(gsi_write_level), 1024},
+    {"gsi_mend", AS_ANY(gsi_mend), 3072},
+    {"gsi_mend_level", AS_ANY(gsi_mend_level), 3072},
 };
 
 #define COUNT_OF(array) (sizeof(array) / sizeof *(array))

@@ -8,7 +8,8 @@ ghost use lib.ListN.{length};
 use blocks::answers::Answer;
 use blocks::answers::refusal_number;
 use blocks::answers::refusal_tells;
-use blocks::judging::judge;
+use blocks::judging::answer_of;
+use blocks::judging::start_of;
 use figures::run_before;
 use instrument::settings::Series;
 use libc::STDOUT_FILENO;
@@ -21,6 +22,8 @@ use lines::verdicts::verdict_which;
 use state::image::IMAGE_100;
 use state::laying::put_factory;
 use units::kinds::Family;
+use words::reading::read_word;
+use words::reading::width_of;
 use words::records::Word;
 
 fn put(text: &[u8]) {
@@ -41,12 +44,23 @@ fn put_value(word: Word) {
     }
 }
 
-fn put_values(words: [Word; 32], n: usize) {
+fn put_value_at(family: Family, block: &[u8], wide: bool, place: usize) {
+    if place <= block.len() {
+        let one = read_word(&block[place..], family, wide);
+        put_value(one.word);
+    }
+}
+
+// Shows the values of the n words of a block that was read.
+fn put_values(family: Family, block: &[u8], wide: bool, n: usize) {
+    let size = width_of(wide) + 8;
+    let mut place = start_of(wide);
     let mut i = 0;
     while i < 32 {
         if i < n {
-            put_value(words[i]);
+            put_value_at(family, block, wide, place);
         }
+        place += size;
         i += 1;
     }
 }
@@ -78,12 +92,11 @@ fn put_accepted(n: u64) {
 }
 
 fn judge_block(family: Family, block: &[u8]) {
-    let judgement = judge(block, family, 32);
-    let answer = judgement.answer;
+    let answer = answer_of(block, family);
     put_answer(answer);
-    let kept = judgement.block;
-    let words = kept.words;
-    put_values(words, kept.n);
+    if let Answer::Read(reading) = answer {
+        put_values(family, block, reading.wide, reading.words);
+    }
     put(b"\n");
 }
 

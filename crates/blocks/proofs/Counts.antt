@@ -1,14 +1,11 @@
 -- What the walks over a lent list know of the records that they store or copy: how many they are, and what the list or the block then is.
 use mathlib.Core.Path.{_≡_, refl}
-use mathlib.Core.Bool.{Bool, true, false, cond, _||_}
+use mathlib.Core.Bool.{Bool, true, false}
 use mathlib.Core.List.{List, [], _∷_, _++_}
 use Prim.Native.Nat.{ℕ, zero, suc, _+_, _*_, _≤_, zero-le}
-use native.Mathlib.Nat.{le-refl}
 use native.Mathlib.Omega.{arith}
-use lib.Dec.{eqb, ltb}
+use lib.Dec.{eqb}
 use lib.ListN.{length, drop, length-append}
-use lib.Seq.{take-length, take-append-seam}
-use borrow.Author.Tests.{ltb-false, le-leb}
 use Rattle.words.specs.Reading.{wordSize, wordOf}
 use Rattle.units.specs.declared.kinds.Family.{Family}
 use Rattle.words.specs.declared.records.Word.{Word}
@@ -19,11 +16,7 @@ use Rattle.words.proofs.Told.{told-within}
 use Rattle.blocks.specs.declared.answers.Refusal.{Refusal}
 use Rattle.blocks.specs.declared.answers.Refusal.the-variants.{Empty, Wrong, NoWord, NoEnd, NoPlace}
 use Rattle.blocks.specs.Answers.{refusalTells}
-use Rattle.blocks.specs.declared.judging.Block.{Block}
-use Rattle.blocks.specs.Judging.{Judgement, isAt, isWide, firstAt, refusedBy, endedAt, afterWord, blockFrom, judged, filled}
-use Rattle.blocks.specs.Keeping.{noBlock, blockOf, listOf, begunOf, gathered}
-use Rattle.blocks.specs.Composing.{written}
-use Rattle.blocks.proofs.Row.{mix}
+use Rattle.blocks.specs.Judging.{Judgement, isAt, isWide, firstAt, refusedBy, endedAt, afterWord, blockFrom, judged}
 use Rattle.blocks.proofs.Steps.{cond-by, start-by, start-small}
 
 -- so many records go into a block, and into a list of so many places
@@ -70,44 +63,3 @@ module _ (f : Family) (places : ℕ) (P : Judgement → Type 0) (refuses : (r : 
 
 pub judged-few : (f : Family) (places : ℕ) (s : List ℕ) → Few (length (judged f s places .words)) places
 judged-few f places s = judged-by f places (λ j. Few (length (j .words)) places) (λ r h. none-few places) (λ wide at rest ws h few. few) s
-
--- the list l once a block's records are stored in it
-abbrev pub stored : Block → List Word → List Word
-stored b l = mix (b .words) l (b .n)
-
-pub stored-all : (ws l : List Word) → stored (blockOf ws) l ≡ filled ws l
-stored-all ws l = rw take-append-seam
-
--- what `gather` makes of the list l and the block that it starts from
-abbrev pub taken : List Word → Block → Block
-taken l b = record { words = mix l (b .words) (b .n); n = b .n }
-
-abbrev begunBy : Bool → ℕ → Block
-begunBy many n = cond many noBlock (record { words = noBlock .words; n = n })
-
-few-by : (many : Bool) (n : ℕ) → ltb 32 n ≡ many → Few (begunBy many n .n) n
-few-by true n e = none-few n
-few-by false n e = (ltb-false 32 n e, le-refl n)
-
-pub begun-few : (n : ℕ) → Few (begunOf n .n) n
-begun-few n = few-by (ltb 32 n) n refl
-
-taken-by : (many : Bool) (l : List Word) → taken l (begunBy many (length l)) ≡ cond many noBlock (blockOf l)
-taken-by true l = refl
-taken-by false l = rw take-length
-
-pub taken-all : (l : List Word) → taken l (begunOf (length l)) ≡ gathered l
-taken-all l = taken-by (ltb 32 (length l)) l
-
-or-true : (t : Bool) → t || true ≡ true
-or-true true = refl
-or-true false = refl
-
-module _ (f : Family) (l : List Word) (wide crlf : Bool) (room : List ℕ) where
-  written-by : (many : Bool) → ltb 32 (length l) ≡ many → written f (listOf (cond many noBlock (blockOf l))) wide crlf room ≡ written f l wide crlf room
-  written-by true e = rw (e, or-true)
-  written-by false e = rw (le-leb (length l) 32 (ltb-false 32 (length l) e), take-append-seam)
-
-  -- a list and the block that is gathered from it are written alike
-  pub gathered-written : written f (listOf (gathered l)) wide crlf room ≡ written f l wide crlf room
-  gathered-written = written-by (ltb 32 (length l)) refl

@@ -8,7 +8,14 @@ pub mod Typed
 pub mod Determined
 pub mod Steps
 pub mod Rooms
-pub mod Composes
 pub mod Refused
 pub mod Wrong
 pub mod Enough
+pub mod Fit
+pub mod Runs
+pub mod Taken
+pub mod Takes
+pub mod Again
+pub mod Puts
+pub mod Sound
+pub mod Writing

@@ -1,31 +1,27 @@
 -- Laws of the walk through a block: whether a byte stands at a place, what one step finds, and what the block is after it.
 use Prim.Native.Nat.{ℕ, zero, suc, _+_, _-_, _<_, _≤_}
-use mathlib.Core.Path.{_≡_, refl, sym, ap, _∙_}
+use mathlib.Core.Path.{_≡_, refl}
 use mathlib.Core.Bool.{Bool, true, false, cond}
 use mathlib.Core.List.{List, [], _∷_, _++_}
 use native.Mathlib.Nat.{add-zero}
-use native.Mathlib.Numerals.{add-one}
 use native.Mathlib.Omega.{arith}
 use borrow.Author.Tests.{lt-ltb, le-ltb, le-leb, lt-leb, eq-eqb, ne-eqb, ltb-true, ltb-false, leb-false}
 use lib.Dec.{eqb, leb, ltb}
-use lib.ListN.{length, getD, set, take, drop, length-drop, drop-of-length-le, take-append-drop}
-use lib.Seq.{getD-drop, drop-drop, drop-set-lt, take-suc-set, length-take-le}
-use Rattle.words.specs.Records.{width, blank}
+use lib.ListN.{length, getD, drop, length-drop, drop-of-length-le}
+use lib.Seq.{getD-drop, drop-drop}
+use Rattle.words.specs.Records.{width}
 use Rattle.words.specs.Reading.{wordSize, wordOf}
 use Rattle.units.specs.declared.kinds.Family.{Family}
 use Rattle.words.specs.declared.records.Word.{Word}
 use Rattle.words.specs.declared.reading.Fault.the-variants.{Short}
 use Rattle.words.specs.declared.reading.Judged as one
-use Rattle.words.specs.declared.reading.OneWord.{OneWord}
 use Rattle.blocks.specs.declared.answers.Refusal.{Refusal}
 use Rattle.blocks.specs.declared.answers.Refusal.the-variants.{Empty, Wrong, NoWord, NoEnd, NoPlace}
 use Rattle.blocks.specs.declared.answers.Answer.the-variants.{Read}
 use Rattle.blocks.specs.declared.judging.Next.{Next}
 use Rattle.blocks.specs.declared.judging.Next.the-variants.{Ends, Stops, Goes}
-use Rattle.blocks.specs.declared.judging.Stepped.{Stepped}
-use Rattle.blocks.specs.declared.judging.JudgedBlock.{JudgedBlock}
 use Rattle.blocks.specs.Judging.{Judgement, isAt, isWide, firstAt, endedAt, refusedBy, afterWord, atStart, blockFrom, judged}
-use Rattle.blocks.specs.Keeping.{stopsBy, stepOf, nextOf, noBlock, blockOf, keptOf}
+use Rattle.blocks.specs.Keeping.{stepOf, nextOf}
 
 -- no two constructors are equal, so nothing is left to show
 pub apart : {A : Type 0} → _≡_ {A = ℕ} 0 1 → A
@@ -74,53 +70,49 @@ start-by P full size places n at rest refuse ended word ends no-end short no-pla
 -- what a step finds
 
 module _ (f : Family) (wide : Bool) (places n at : ℕ) (rest : List ℕ) where
-  pub next-ends : isAt 13 rest ≡ true → nextOf f wide places n at rest ≡ record { next = Ends; word = blank }
+  pub next-ends : isAt 13 rest ≡ true → nextOf f wide places n at rest ≡ Ends
   next-ends e = rw e
 
   module _ (e : isAt 13 rest ≡ false) where
-    pub next-full : 32 ≤ n → nextOf f wide places n at rest ≡ stopsBy (NoEnd at)
+    pub next-full : 32 ≤ n → nextOf f wide places n at rest ≡ Stops (NoEnd at)
     next-full h = rw (e, le-leb 32 n h)
 
-    pub next-short : n < 32 → length rest < wordSize wide → nextOf f wide places n at rest ≡ stopsBy (Wrong Short at)
+    pub next-short : n < 32 → length rest < wordSize wide → nextOf f wide places n at rest ≡ Stops (Wrong Short at)
     next-short h hl = rw (e, lt-leb 32 n h, lt-ltb (length rest) (wordSize wide) hl)
 
-    pub next-no-place : n < 32 → wordSize wide ≤ length rest → places ≤ n → nextOf f wide places n at rest ≡ stopsBy (NoPlace at)
+    pub next-no-place : n < 32 → wordSize wide ≤ length rest → places ≤ n → nextOf f wide places n at rest ≡ Stops (NoPlace at)
     next-no-place h hl hp = rw (e, lt-leb 32 n h, le-ltb (length rest) (wordSize wide) hl, le-leb places n hp)
 
-    pub next-word : n < 32 → wordSize wide ≤ length rest → n < places
-        → nextOf f wide places n at rest ≡ stepOf at (wordOf f wide rest) (wordOf f wide rest .answer)
+    pub next-word : n < 32 → wordSize wide ≤ length rest → n < places → nextOf f wide places n at rest ≡ stepOf at (wordOf f wide rest .answer)
     next-word h hl hp = rw (e, lt-leb 32 n h, le-ltb (length rest) (wordSize wide) hl, lt-leb places n hp)
 
 -- what the block is after a step
 
-abbrev pub wentBy : Judgement → (Word → Judgement) → Next → Word → Judgement
-wentBy ended more Ends w = ended
-wentBy ended more (Stops r) w = refusedBy r
-wentBy ended more Goes w = more w
+abbrev pub went : Judgement → Judgement → Next → Judgement
+went ended more Ends = ended
+went ended more (Stops r) = refusedBy r
+went ended more Goes = more
 
-abbrev pub went : Judgement → (Word → Judgement) → Stepped → Judgement
-went ended more s = wentBy ended more (s .next) (s .word)
-
-went-last : (t : Bool) (ended : Judgement) (more : Word → Judgement) (r : Refusal)
-    → cond t ended (refusedBy r) ≡ went ended more (cond t (record { next = Ends; word = blank }) (stopsBy r))
+went-last : (t : Bool) (ended more : Judgement) (r : Refusal) → cond t ended (refusedBy r) ≡ went ended more (cond t Ends (Stops r))
 went-last true ended more r = refl
 went-last false ended more r = refl
 
-went-more : (t u v : Bool) (ended : Judgement) (more : Word → Judgement) (r s : Refusal) (at : ℕ) (o : OneWord) (a : one.Judged)
-    → cond t ended (cond u (refusedBy r) (cond v (refusedBy s) (afterWord at a (more (o .word)))))
-    ≡ went ended more (cond t (record { next = Ends; word = blank }) (cond u (stopsBy r) (cond v (stopsBy s) (stepOf at o a))))
-went-more true u v ended more r s at o a = refl
-went-more false true v ended more r s at o a = refl
-went-more false false true ended more r s at o a = refl
-went-more false false false ended more r s at o one.Judged.Right = refl
-went-more false false false ended more r s at o (one.Judged.Wrong fault byte) = refl
+went-more : (t u v : Bool) (ended more : Judgement) (r s : Refusal) (at : ℕ) (a : one.Judged)
+    → cond t ended (cond u (refusedBy r) (cond v (refusedBy s) (afterWord at a more)))
+    ≡ went ended more (cond t Ends (cond u (Stops r) (cond v (Stops s) (stepOf at a))))
+went-more true u v ended more r s at a = refl
+went-more false true v ended more r s at a = refl
+went-more false false true ended more r s at a = refl
+went-more false false false ended more r s at one.Judged.Right = refl
+went-more false false false ended more r s at (one.Judged.Wrong fault byte) = refl
 
 module _ (f : Family) (wide : Bool) (places n at : ℕ) (rest : List ℕ) (ws : List Word) where
   abbrev pub done : Judgement
   done = record { answer = endedAt wide at rest n; words = ws }
 
-  abbrev pub further : Word → Judgement
-  further w = blockFrom f (32 - (n + 1)) wide places (at + wordSize wide) (drop (wordSize wide) rest) (ws ++ (w ∷ []))
+  abbrev pub further : Judgement
+  further =
+      blockFrom f (32 - (n + 1)) wide places (at + wordSize wide) (drop (wordSize wide) rest) (ws ++ (wordOf f wide rest .word ∷ []))
 
   -- the walk's order is the step's
   pub block-walk : n ≤ 32 → length ws ≡ n → blockFrom f (32 - n) wide places at rest ws ≡ went done further (nextOf f wide places n at rest)
@@ -133,53 +125,34 @@ module _ (f : Family) (wide : Bool) (places n at : ℕ) (rest : List ℕ) (ws : 
           let left : 32 - (n + 1) ≡ m = omega arith in
           rw (hn, lt-leb 32 n (omega arith), ← left)
           (went-more (isAt 13 rest) (ltb (length rest) (wordSize wide)) (leb places n) done further (Wrong Short at) (NoPlace at) at
-          (wordOf f wide rest) (wordOf f wide rest .answer))
+          (wordOf f wide rest .answer))
 
--- what comes next as the walk goes: a list of which n records are kept, and a place that moves by size
-pub walk-on : (f : Family) (m n at size : ℕ) (wide : Bool) (places : ℕ) (s : List ℕ) (words : List Word) (w : Word) → n < length words → size ≡ wordSize wide
-    → blockFrom f m wide places (at + wordSize wide) (drop (wordSize wide) (drop at s)) (take n words ++ (w ∷ []))
-    ≡ blockFrom f m wide places (at + size) (drop (at + size) s) (take (n + 1) (set words n w))
-walk-on f m n at size wide places s words w h e = rw (e, drop-drop (wordSize wide) at s, add-one n, take-suc-set words n w h)
+-- after a word the walk goes on where the word has ended
+pub walk-on : (f : Family) (more at size : ℕ) (wide : Bool) (places : ℕ) (s : List ℕ) (ws : List Word) → size ≡ wordSize wide
+    → blockFrom f more wide places (at + wordSize wide) (drop (wordSize wide) (drop at s)) ws ≡ blockFrom f more wide places (at + size) (drop (at + size) s) ws
+walk-on f more at size wide places s ws e = rw (e, drop-drop (wordSize wide) at s)
 
 -- what a step that found the end, or a word, tells of its place
 
-module _ (f : Family) (wide : Bool) (places n at : ℕ) (s : List ℕ) (r : Stepped) (found : r ≡ nextOf f wide places n at (drop at s)) where
-  abbrev o : OneWord
-  o = wordOf f wide (drop at s)
+module _ (f : Family) (wide : Bool) (places n at : ℕ) (s : List ℕ) (r : Next) (found : r ≡ nextOf f wide places n at (drop at s)) where
+  abbrev judged-there : one.Judged
+  judged-there = wordOf f wide (drop at s) .answer
 
-  pub ends-inside : r .next ≡ Ends → at < length s
+  pub ends-inside : r ≡ Ends → at < length s
   ends-inside e =
-      start-by (λ (t : Stepped). t .next ≡ Ends → at < length s) (leb 32 n) (wordSize wide) places n at (drop at s) stopsBy _ _
+      start-by (λ (t : Next). t ≡ Ends → at < length s) (leb 32 n) (wordSize wide) places n at (drop at s) Stops _ _
       (λ cr _. is-inside 13 s at cr)
-      (λ q. apart cc) (λ _ _ q. apart cc) (λ q. apart cc) (λ _ _ _ _. by (o .answer)) (rw found at e)
+      (λ q. apart cc) (λ _ _ q. apart cc) (λ q. apart cc) (λ _ _ _ _. by judged-there) (rw found at e)
     where
-      by : (a : one.Judged) → stepOf at o a .next ≡ Ends → at < length s
+      by : (a : one.Judged) → stepOf at a ≡ Ends → at < length s
       by one.Judged.Right q = apart cc
       by (one.Judged.Wrong fault byte) q = apart cc
 
-  pub goes-inside : at ≤ length s → r .next ≡ Goes → (n < 32) × (at + wordSize wide ≤ length s)
+  pub goes-inside : at ≤ length s → r ≡ Goes → (n < 32) × (at + wordSize wide ≤ length s)
   goes-inside h e =
-      start-by (λ (t : Stepped). t .next ≡ Goes → (n < 32) × (at + wordSize wide ≤ length s)) (leb 32 n) (wordSize wide) places n at (drop at s)
-      stopsBy _ _ (λ _ q. apart cc) (λ q. apart cc) (λ _ _ q. apart cc) (λ q. apart cc)
+      start-by (λ (t : Next). t ≡ Goes → (n < 32) × (at + wordSize wide ≤ length s)) (leb 32 n) (wordSize wide) places n at (drop at s)
+      Stops _ _ (λ _ q. apart cc) (λ q. apart cc) (λ _ _ q. apart cc) (λ q. apart cc)
       (λ _ more long _ _. (leb-false 32 n more, omega (arith, length-drop at s))) (rw found at e)
-
--- the records kept: those of a list up to n, and then those that were there first
-
-module _ {A : Type 0} (words first : List A) (n : ℕ) where
-  pub kept-all : n ≤ length words → drop n words ≡ drop n first → take n words ++ drop (length (take n words)) first ≡ words
-  kept-all h e = rw (length-take-le n words h, ← e) (take-append-drop n words)
-
-  pub kept-more : (w : A) → drop n words ≡ drop n first → drop (n + 1) (set words n w) ≡ drop (n + 1) first
-  kept-more w e = drop-set-lt (n + 1) words n w (omega arith) ∙ (sym (drop-drop 1 n words) ∙ (ap (drop 1) e ∙ drop-drop 1 n first))
-
--- a judgement that keeps them is the block's
-pub kept-judged : (j : JudgedBlock) (words : List Word) (n : ℕ) → n ≤ length words → drop n words ≡ drop n (noBlock .words)
-    → j .block ≡ record { words = words; n = n } → j ≡ keptOf (record { answer = j .answer; words = take n words })
-kept-judged j words n h e eb =
-    let all = kept-all words (noBlock .words) n h e in
-    let size = length-take-le n words h in
-    let block : j .block ≡ blockOf (take n words) = eb ∙ (λ i. record { words = sym all i; n = sym size i }) in
-    λ i. record { answer = j .answer; block = block i }
 
 -- the block's start
 

@@ -11,9 +11,8 @@ use Rattle.units.specs.declared.kinds.Family.{Family}
 use Rattle.words.specs.declared.records.Word.{Word}
 use Rattle.blocks.specs.Judging.{judged, filled}
 use Rattle.blocks.specs.Composing.{written}
-use Rattle.blocks.specs.Keeping.{listOf}
 use Rattle.blocks.specs.declared.answers.Answer.{Answer}
-use Rattle.blocks.specs.declared.judging.Block.{Block}
+use Rattle.blocks.specs.declared.answers.Wrote.{Wrote}
 use Rattle.listings.specs.declared.edits.Edit.{Edit}
 use Rattle.listings.specs.declared.mending.Mended.{Mended}
 use Rattle.listings.specs.Outcome.{outcome, listed}
@@ -32,13 +31,11 @@ use Rattle.host.specs.Machine.{toldLine, toldSheet, LaysFactory, CallsC,
 pub told-read-determined : Determined Answer ℕ (λ i r. r ≡ readTold i)
 told-read-determined = by-equation Answer ℕ readTold
 
+pub told-wrote-determined : Determined Wrote ℕ (λ i r. r ≡ wroteTold i)
+told-wrote-determined = by-equation Wrote ℕ wroteTold
+
 pub told-mended-determined : Determined Mended ℕ (λ i r. r ≡ mendedTold i)
 told-mended-determined = by-equation Mended ℕ mendedTold
-
-pub put-told-determined : (f : Family) → Determined (Block × ℕ × ℕ × List ℕ) (ℕ × List ℕ) (λ i o. WritesC f (listOf (i .0)) (i .1) (i .2) (i .3) (o .0) (o .1))
-put-told-determined f =
-    by-two (Block × ℕ × ℕ × List ℕ) ℕ (List ℕ) (λ i. wroteTold (written f (listOf (i .0)) (isYes (i .1)) (isYes (i .2)) (i .3) .answer))
-    (λ i. written f (listOf (i .0)) (isYes (i .1)) (isYes (i .2)) (i .3) .room)
 
 -- of either family: `gsi_read` and `gsi_read_level`
 pub gsi-read-determined : (f : Family) → Determined (List ℕ × List Word) (ℕ × List Word) (λ i o. ReadsC f (i .0) (i .1) (o .0) (o .1))

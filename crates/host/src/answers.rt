@@ -1,18 +1,14 @@
 // An answer as one number: its own number in the high 32 bits, what it tells in the low ones.
 ghost use mathlib.Core.Path.{_≡_};
 ghost use Prim.Native.Nat.{_≤_};
-ghost use Rattle.blocks.specs.Keeping.{listOf};
-ghost use Rattle.host.specs.Answers.{packed, bitOf, refusedTold, readingTold, readTold, wroteTold, mendedTold, WritesC};
+ghost use Rattle.host.specs.Answers.{packed, bitOf, refusedTold, readingTold, readTold, wroteTold, mendedTold};
 use blocks::answers::Answer;
 use blocks::answers::Reading;
 use blocks::answers::Refusal;
 use blocks::answers::Wrote;
 use blocks::answers::refusal_number;
 use blocks::answers::refusal_tells;
-use blocks::composing::emit;
-use blocks::judging::Block;
 use listings::mending::Mended;
-use units::kinds::Family;
 
 // Packs an answer: the number over what is told; what would be more than 2^32 - 1 is told as that.
 pub(crate) fn pack(number: u64, told: usize) -> u64
@@ -59,7 +55,7 @@ pub fn told_read(a: Answer) -> u64
 }
 
 // Gives the answer of a writing.
-fn told_wrote(w: Wrote) -> u64
+pub fn told_wrote(w: Wrote) -> u64
     ensures { λ r. ⌜ r ≡ wroteTold w ⌝ }
 {
     match w {
@@ -76,12 +72,4 @@ pub fn told_mended(m: Mended) -> u64
         Mended::Refused(refusal) => refused(refusal),
         Mended::Done(bytes, edits) => bytes as u64 % 65536 + edits as u64 % 65536 * 65536,
     }
-}
-
-// Writes a block's records into the room, as a block of the family; wide and crlf: 0 is no, any other number is yes.
-pub fn put_told(b: Block, family: Family, wide: u64, crlf: u64, out: &mut [u8]) -> u64
-    ensures { λ r. ⌜ WritesC family (listOf b) wide crlf (now (out .entry)) r (now (out .exit)) ⌝ }
-{
-    let w = emit(b, family, wide != 0, crlf != 0, out);
-    told_wrote(w)
 }

@@ -6,10 +6,10 @@ pub mod sheet;
 
 ghost use Rattle.units.specs.declared.kinds.Family.the-variants.{Station, Level};
 ghost use Rattle.host.specs.Answers.{ReadsC, WritesC};
-use crate::answers::put_told;
 use crate::answers::told_read;
-use blocks::lists::gather;
+use crate::answers::told_wrote;
 use blocks::lists::read;
+use blocks::lists::write;
 use units::kinds::Family;
 use words::records::Word;
 
@@ -19,6 +19,14 @@ fn read_told(block: &[u8], family: Family, list: &mut [Word]) -> u64
 {
     let a = read(block, family, list);
     told_read(a)
+}
+
+// Writes the list's records as one block of the family; wide and crlf: 0 is no, any other number is yes. One function for both writers likewise.
+fn write_told(list: &[Word], family: Family, wide: u64, crlf: u64, block: &mut [u8]) -> u64
+    ensures { λ r. ⌜ WritesC family (now (list .entry)) wide crlf (now (block .entry)) r (now (block .exit)) ⌝ }
+{
+    let w = write(list, family, wide != 0, crlf != 0, block);
+    told_wrote(w)
 }
 
 // Reads the total station's block at the start of the input into the list.
@@ -34,8 +42,7 @@ pub extern "C" fn gsi_read(block: &[u8], list: &mut [Word]) -> u64
 pub extern "C" fn gsi_write(list: &[Word], wide: u64, crlf: u64, block: &mut [u8]) -> u64
     ensures { λ r. ⌜ WritesC Station (now (list .entry)) wide crlf (now (block .entry)) r (now (block .exit)) ⌝ }
 {
-    let b = gather(list);
-    put_told(b, Family::Station, wide, crlf, block)
+    write_told(list, Family::Station, wide, crlf, block)
 }
 
 // Reads the level's block at the start of the input into the list.
@@ -51,6 +58,5 @@ pub extern "C" fn gsi_read_level(block: &[u8], list: &mut [Word]) -> u64
 pub extern "C" fn gsi_write_level(list: &[Word], wide: u64, crlf: u64, block: &mut [u8]) -> u64
     ensures { λ r. ⌜ WritesC Level (now (list .entry)) wide crlf (now (block .entry)) r (now (block .exit)) ⌝ }
 {
-    let b = gather(list);
-    put_told(b, Family::Level, wide, crlf, block)
+    write_told(list, Family::Level, wide, crlf, block)
 }

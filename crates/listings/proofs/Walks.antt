@@ -9,8 +9,8 @@ use native.Mathlib.Omega.{arith}
 use borrow.Author.Tests.{leb-true, leb-false}
 use lib.Dec.{eqb, leb, ltb}
 use lib.ListN.{length, getD, set, take, drop, replicate, length-append, length-take, length-drop, length-set, length-replicate, getD-replicate}
-use lib.ListN.{drop-of-length-le}
-use lib.Seq.{drop-drop, drop-cons, take-suc-set, take-set-le, drop-set-add, take-at, drop-at, length-take-le}
+use lib.ListN.{drop-of-length-le, take-append-drop}
+use lib.Seq.{drop-drop, drop-set-lt, drop-cons, take-suc-set, take-set-le, drop-set-add, take-at, drop-at, length-take-le}
 use Rattle.figures.specs.Text.{cr, lf, starBytes}
 use Rattle.figures.specs.Bytes.{laid}
 use Rattle.figures.specs.Rooms.{Puts}
@@ -19,7 +19,7 @@ use Rattle.figures.proofs.Putting.{puts-long, puts-more, puts-nothing}
 use Rattle.figures.proofs.Tests.{by-test}
 use Rattle.words.specs.Records.{width}
 use Rattle.blocks.specs.Judging.{isAt, isWide}
-use Rattle.blocks.proofs.Steps.{cond-by, width-small, kept-all, kept-more}
+use Rattle.blocks.proofs.Steps.{cond-by, width-small}
 use Rattle.blocks.proofs.Rooms.{star-length}
 use Rattle.listings.specs.declared.edits.Edit.{Edit}
 use Rattle.listings.specs.Edits.{dotKind, blankKind, crKind, edit}
@@ -35,6 +35,15 @@ editsIf is place kind = cond is (edit place kind ∷ []) []
 
 abbrev pub none : List Edit
 none = replicate 34 noEdit
+
+-- what is kept: the elements of a list up to n, and then those that were there first
+
+module _ {A : Type 0} (list first : List A) (n : ℕ) where
+  kept-all : n ≤ length list → drop n list ≡ drop n first → take n list ++ drop (length (take n list)) first ≡ list
+  kept-all h e = rw (length-take-le n list h, ← e) (take-append-drop n list)
+
+  kept-more : (x : A) → drop n list ≡ drop n first → drop (n + 1) (set list n x) ≡ drop (n + 1) first
+  kept-more x e = drop-set-lt (n + 1) list n x (omega arith) ∙ (sym (drop-drop 1 n list) ∙ (ap (drop 1) e ∙ drop-drop 1 n first))
 
 -- the list after an edit, or none, is stored at the count
 

@@ -1,4 +1,5 @@
 pub mod Words
+pub mod Standing
 pub mod Enough
 pub mod Reporting
 pub mod Example

@@ -1,7 +1,10 @@
 // The lines that are printed of a piece of a file.
 ghost use mathlib.Core.Path.{_≡_};
 ghost use Prim.Native.Nat.{_≤_};
-ghost use lib.ListN.{take, length};
+ghost use lib.ListN.{length, drop};
+ghost use Rattle.words.specs.Reading.{wordOf};
+ghost use Rattle.blocks.specs.Judging.{judged};
+ghost use Rattle.blocks.specs.declared.answers.Answer.the-variants.{Read};
 ghost use Rattle.figures.specs.Rooms.{Puts};
 ghost use Rattle.reports.specs.Piece.{fieldText, lineText, nameText, wordText, wordsText, headText, formText, readingText};
 ghost use Rattle.reports.specs.Keeping.{endSize};
@@ -11,7 +14,8 @@ use blocks::answers::Reading;
 use blocks::answers::Refusal;
 use blocks::answers::refusal_number;
 use blocks::answers::refusal_tells;
-use blocks::judging::judge;
+use blocks::judging::answer_of;
+use blocks::judging::start_of;
 use figures::casts::wide_count;
 use figures::pointing::put_caret;
 use figures::pointing::put_shown;
@@ -21,6 +25,7 @@ use figures::run_before;
 use measures::put_index;
 use measures::put_value;
 use units::kinds::Family;
+use words::reading::read_word;
 use words::reading::width_of;
 use words::records::Word;
 
@@ -72,22 +77,38 @@ fn put_word(room: &mut [u8], at: usize, number: usize, w: Word, family: Family, 
     put(room, after_value, b"\n")
 }
 
-// Puts the lines of the first n words.
-fn put_words(
+// Puts the line of the word that stands at a place of the piece.
+fn put_word_at(
     room: &mut [u8],
     at: usize,
-    words: [Word; 32],
-    n: usize,
+    number: usize,
+    piece: &[u8],
+    place: usize,
     family: Family,
     wide: bool,
 ) -> usize
-    requires { ⌜ (at ≤ length (now room)) × (n ≤ 32) ⌝ }
-    ensures { λ r. ⌜ Puts (now (room .entry)) at (wordsText family 1 wide (take n words)) r (now (room .exit)) ⌝ }
+    requires { ⌜ place ≤ length (now piece) ⌝ }
+    ensures { λ r. ⌜ Puts (now (room .entry)) at (wordText family number wide (wordOf family wide (drop place (now (piece .entry))) .word)) r (now (room .exit)) ⌝ }
 {
+    let one = read_word(&piece[place..], family, wide);
+    let word = one.word;
+    put_word(room, at, number, word, family, wide)
+}
+
+// Puts the lines of the words of a piece that was read so, each from where it stands.
+fn put_words(room: &mut [u8], at: usize, piece: &[u8], reading: Reading, family: Family) -> usize
+    requires { ⌜ (at ≤ length (now room)) × (judged family (now piece) 32 .answer ≡ Read reading) ⌝ }
+    ensures { λ r. ⌜ Puts (now (room .entry)) at (wordsText family 1 (reading .wide) (judged family (now (piece .entry)) 32 .words)) r (now (room .exit)) ⌝ }
+{
+    let wide = reading.wide;
+    let n = reading.words;
+    let size = width_of(wide) + 8;
+    let mut place = start_of(wide);
     let mut next = at;
     let mut i = 0;
     while i < n {
-        next = put_word(room, next, i + 1, words[i], family, wide);
+        next = put_word_at(room, next, i + 1, piece, place, family, wide);
+        place += size;
         i += 1;
     }
     next
@@ -166,9 +187,7 @@ fn put_where(room: &mut [u8], at: usize, piece: &[u8], place: usize) -> usize
 pub fn report(family: Family, number: u64, place: u64, piece: &[u8], room: &mut [u8]) -> Reported
     ensures { λ r. ⌜ Reports family number place (now (piece .entry)) (now (room .entry)) r (now (room .exit)) ⌝ }
 {
-    let judgement = judge(piece, family, 32);
-    let answer = judgement.answer;
-    let block = judgement.block;
+    let answer = answer_of(piece, family);
     let at = put_head(room, number, place);
     match answer {
         Answer::Refused(refusal) => {
@@ -181,8 +200,7 @@ pub fn report(family: Family, number: u64, place: u64, piece: &[u8], room: &mut 
         }
         Answer::Read(reading) => {
             let start = put_reading(room, at, reading);
-            let words = block.words;
-            let end = put_words(room, start, words, block.n, family, reading.wide);
+            let end = put_words(room, start, piece, reading, family);
             Reported {
                 count: end,
                 accepted: true,

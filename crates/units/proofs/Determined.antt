@@ -1,14 +1,15 @@
 -- The promises of this crate's public functions determine what comes out.
 use mathlib.Core.Path.{_≡_, sym, _∙_}
-use mathlib.Core.Bool.{Bool}
+use mathlib.Core.Bool.{Bool, cond}
 use Prim.Native.Nat.{ℕ, _≤_}
 use Rattle.figures.specs.Promises.{Determined}
 use Rattle.figures.proofs.Determined.{by-equation}
-use Rattle.units.specs.Kinds.{kindOf, isTextual, namedBy, indexAt}
+use Rattle.units.specs.Kinds.{stationKind, kindOf, isTextual, namedBy, indexAt}
 use Rattle.units.specs.Information.{infoMarks, infoRight, firstWrong, informedOf, leadOf, signByte, signAt}
 use Rattle.units.specs.Counts.{angleAt, angleOf, lengthOf, constantOf, valueAt, firstOf, secondOf}
 use Rattle.units.specs.declared.kinds.Family.{Family}
 use Rattle.units.specs.declared.kinds.Kind.{Kind}
+use Rattle.units.specs.declared.kinds.Kind.the-variants.{Missing}
 use Rattle.units.specs.declared.kinds.Named.{Named}
 use Rattle.units.specs.declared.kinds.Indexed.{Indexed}
 use Rattle.units.specs.declared.information.Informed.{Informed}
@@ -21,6 +22,9 @@ use Rattle.units.specs.declared.counts.Valued.{Valued}
 pub kind-of-determined : Determined (Family × ℕ) Kind (λ i r. r ≡ kindOf (i .0) (i .1))
 kind-of-determined = by-equation (Family × ℕ) Kind (λ i. kindOf (i .0) (i .1))
 
+pub number-kind-determined : Determined ℕ Kind (λ n r. r ≡ cond (isTextual (stationKind n)) Missing (stationKind n))
+number-kind-determined = by-equation ℕ Kind (λ n. cond (isTextual (stationKind n)) Missing (stationKind n))
+
 pub textual-determined : Determined Kind Bool (λ k r. r ≡ isTextual k)
 textual-determined = by-equation Kind Bool isTextual
 
@@ -32,6 +36,9 @@ indexedBy i = indexAt (i .0) (i .1 .0) (i .1 .1 .0) (i .1 .1 .1)
 
 pub index-at-determined : Determined (Family × (ℕ × (ℕ × ℕ))) Indexed (λ i r. r ≡ indexedBy i)
 index-at-determined = by-equation (Family × (ℕ × (ℕ × ℕ))) Indexed indexedBy
+
+pub index-read-determined : Determined (Family × (ℕ × (ℕ × ℕ))) Indexed (λ i r. r ≡ indexedBy i)
+index-read-determined = index-at-determined
 
 -- family, index, kind and the four bytes
 abbrev Information : Type 0
@@ -54,6 +61,9 @@ informedBy i = informedOf (i .0) (i .1 .0) (i .1 .1 .0) (i .1 .1 .1 .0) (i .1 .1
 
 pub informed-by-determined : Determined Information Informed (λ i r. r ≡ informedBy i)
 informed-by-determined = by-equation Information Informed informedBy
+
+pub info-read-determined : Determined Information Informed (λ i r. r ≡ informedBy i)
+info-read-determined = informed-by-determined
 
 pub lead-of-determined : Determined (ℕ × ℕ) ℕ (λ i r. r ≡ leadOf (i .0) (i .1))
 lead-of-determined = by-equation (ℕ × ℕ) ℕ (λ i. leadOf (i .0) (i .1))

@@ -1,22 +1,28 @@
--- Positions 1-7: an index and its two digits, and a sign and its byte, say each other; four marks are equal where each is.
+-- Positions 1-7: an index and its two digits, and a sign and its byte, say each other; four marks are equal where each is, and a level's are all wrong at
+-- a kind that it doesn't have.
 use Prim.Native.Nat.{ℕ, _+_, _/_, _%_, _<_, _≤_}
 use mathlib.Core.Path.{_≡_, refl, sym, ap, _∙_}
 use mathlib.Core.Bool.{Bool, true, false, cond, not, _&&_, false≢true}
 use mathlib.Core.List.{List, [], _∷_}
 use native.Mathlib.Omega.{arith}
+use types.Run.{OneOf, miss}
+use denote.Enum.Declared.{tagOf}
 use borrow.Author.Tests.{eqb-true, eqb-false, leb-true, leb-false}
 use lib.Dec.{eqb, leb}
 use Rattle.figures.specs.Bytes.{among, every}
-use Rattle.figures.specs.Decimal.{isDigit, digitsOf}
+use Rattle.figures.specs.Decimal.{isDigit, areDigits, digitsOf}
 use Rattle.figures.proofs.Bytes.{within-bounds, bounds-within, above-within}
-use Rattle.units.specs.Kinds.{stationKind, isListed, isTextual, indexOf, namedBy}
-use Rattle.units.specs.Information.{marks, firstWrong, signByte, signOf, isSign, signRight}
+use Rattle.units.specs.Kinds.{stationKind, isListed, isTextual, indexOf, namedBy, listedAt, indexAt}
+use Rattle.units.specs.Information.{marks, levelMarks, allRight, firstWrong, signByte, signOf, isSign, signRight}
 use Rattle.units.specs.declared.information.Marks.{Marks}
+use Rattle.units.specs.declared.kinds.Family.{Family}
 use Rattle.units.specs.declared.kinds.Kind.{Kind}
-use Rattle.units.specs.declared.kinds.Kind.the-variants.{Missing}
+use Rattle.units.specs.declared.kinds.Kind.the-variants.{Missing, Numbered, Text, Angle, Length, Constant, Pair}
+use Rattle.units.specs.declared.kinds.Indexed.{Indexed}
 use Rattle.units.specs.declared.kinds.Named.{Named}
 use Rattle.units.specs.declared.kinds.Named.the-variants as named
 use Rattle.figures.proofs.Tests.{clash, both, by-test, among-above}
+use Rattle.units.proofs.kinds.Kind.{the-type}
 
 -- the index
 
@@ -68,6 +74,14 @@ two-digits tens ones et eo =
     let t = within-bounds 48 57 tens et in
     let o = within-bounds 48 57 ones eo in
     omega arith
+
+pub said-below : (tens ones : ℕ) {two : ℕ} → areDigits tens ones ≡ true → two ≡ indexOf tens ones → two < 100
+said-below tens ones digits is = let (t, o) = both (isDigit tens) (isDigit ones) digits in rw is (two-digits tens ones t o)
+
+-- of the calls that find the index of two digits
+pub index-said : (f : Family) (tens ones third : ℕ) {two : ℕ} {r : Indexed} → areDigits tens ones ≡ true → two ≡ indexOf tens ones → r ≡ listedAt f two third
+    → r ≡ indexAt f tens ones third
+index-said f tens ones third digits is e = rw (digits, ← is) e
 
 -- the two digits of an index of the table
 abbrev pub tensOf : ℕ → ℕ
@@ -133,3 +147,17 @@ sign-right k m h = by-test (eqb m 0) (λ q. rw q) (λ q. by-test (isTextual k) (
 
 pub four-marks : {a b c d a′ b′ c′ d′ : Bool} → a ≡ a′ → b ≡ b′ → c ≡ c′ → d ≡ d′ → marks a b c d ≡ marks a′ b′ c′ d′
 four-marks p q r s i = marks (p i) (q i) (r i) (s i)
+
+-- all of the marks that a call answers
+pub all-marks : {m m′ : Marks} {b : Bool} → m ≡ m′ → b ≡ allRight m → b ≡ allRight m′
+all-marks p e = e ∙ ap allRight p
+
+-- the kinds that a level doesn't have, as the last arm of a match has them
+pub no-marks : (i : ℕ) (k : Kind) (a b c d : ℕ) → OneOf (0 ∷ 3 ∷ 5 ∷ 6 ∷ []) (tagOf the-type k) → marks false false false false ≡ levelMarks i k a b c d
+no-marks i Missing a b c d h = refl
+no-marks i Numbered a b c d h = absurd (miss (0 ∷ 3 ∷ 5 ∷ 6 ∷ []) 1 tt h)
+no-marks i Text a b c d h = absurd (miss (0 ∷ 3 ∷ 5 ∷ 6 ∷ []) 2 tt h)
+no-marks i Angle a b c d h = refl
+no-marks i Length a b c d h = absurd (miss (0 ∷ 3 ∷ 5 ∷ 6 ∷ []) 4 tt h)
+no-marks i Constant a b c d h = refl
+no-marks i Pair a b c d h = refl

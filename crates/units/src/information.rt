@@ -4,6 +4,7 @@ ghost use mathlib.Core.Bool.{cond};
 ghost use Prim.Native.Nat.{_≤_};
 ghost use Rattle.units.specs.Information.{isDot, isMode, isDotOrDigit, isAngleMark, isAngleUnit, isLengthUnit};
 ghost use Rattle.units.specs.Information.{isFlag, isLevelMode, isLevelUnit, isLead, numberedMarks, stationMarks, levelMarks, infoMarks};
+ghost use Rattle.units.specs.declared.kinds.Kind as Kind;
 ghost use Rattle.units.specs.Information.{allRight, infoRight, firstWrong, leadOf, informedOf, signByte, signAt};
 use crate::kinds::Family;
 use crate::kinds::Kind;
@@ -124,10 +125,10 @@ fn lead(index: u16, b: u8) -> bool
 }
 
 // Tells whether all four are right.
-fn all(m: Marks) -> bool
+pub(crate) fn all(m: Marks) -> bool
     ensures { λ r. ⌜ r ≡ allRight m ⌝ }
 {
-    m.0 && m.1 && m.2 && m.3
+    m.0 & m.1 & m.2 & m.3
 }
 
 // Gives the first that isn't right, from 0; it is the last where the first three are.
@@ -147,7 +148,7 @@ fn first_wrong(m: Marks) -> usize
 }
 
 // Judges four digits or four dots, as the first byte chooses.
-fn numbered(a: u8, b: u8, c: u8, d: u8) -> Marks
+pub(crate) fn numbered(a: u8, b: u8, c: u8, d: u8) -> Marks
     ensures { λ r. ⌜ r ≡ numberedMarks a b c d ⌝ }
 {
     if figures::digit(a) {
@@ -161,17 +162,61 @@ fn numbered(a: u8, b: u8, c: u8, d: u8) -> Marks
     Marks(dot(a), dot(b), dot(c), dot(d))
 }
 
+// The marks of a total station's words and then of a level's, kind by kind. Each is small enough for the compiler to join it with every caller.
+
+pub(crate) fn text_marks(a: u8, b: u8, c: u8, d: u8) -> Marks
+    ensures { λ r. ⌜ r ≡ stationMarks Kind.Text a b c d ⌝ }
+{
+    Marks(dot(a), free(b), free(c), free(d))
+}
+
+pub(crate) fn angle_marks(a: u8, b: u8, c: u8, d: u8) -> Marks
+    ensures { λ r. ⌜ r ≡ stationMarks Kind.Angle a b c d ⌝ }
+{
+    Marks(dot(a), angle_mark(b), mode(c), angle_unit(d))
+}
+
+pub(crate) fn length_marks(a: u8, b: u8, c: u8, d: u8) -> Marks
+    ensures { λ r. ⌜ r ≡ stationMarks Kind.Length a b c d ⌝ }
+{
+    Marks(dot(a), dot(b), mode(c), length_unit(d))
+}
+
+pub(crate) fn constant_marks(a: u8, b: u8, c: u8, d: u8) -> Marks
+    ensures { λ r. ⌜ r ≡ stationMarks Kind.Constant a b c d ⌝ }
+{
+    Marks(dot(a), dot(b), mode(c), d == b'6')
+}
+
+pub(crate) fn pair_marks(a: u8, b: u8, c: u8, d: u8) -> Marks
+    ensures { λ r. ⌜ r ≡ stationMarks Kind.Pair a b c d ⌝ }
+{
+    Marks(dot(a), dot(b), mode(c), dot(d))
+}
+
+pub(crate) fn level_text_marks(index: u16, a: u8, b: u8, c: u8, d: u8) -> Marks
+    ensures { λ r. ⌜ r ≡ levelMarks index Kind.Text a b c d ⌝ }
+{
+    Marks(lead(index, a), free(b), free(c), free(d))
+}
+
+pub(crate) fn level_number_marks(index: u16, a: u8, b: u8, c: u8, d: u8) -> Marks
+    ensures { λ r. ⌜ r ≡ levelMarks index Kind.Length a b c d ⌝ }
+{
+    Marks(lead(index, a), flag(b), level_mode(c), level_unit(d))
+}
+
 fn station_marks(kind: Kind, a: u8, b: u8, c: u8, d: u8) -> Marks
     ensures { λ r. ⌜ r ≡ stationMarks kind a b c d ⌝ }
 {
     match kind {
         Kind::Missing => Marks(false, false, false, false),
         Kind::Numbered => numbered(a, b, c, d),
-        Kind::Text => Marks(dot(a), free(b), free(c), free(d)),
-        Kind::Angle => Marks(dot(a), angle_mark(b), mode(c), angle_unit(d)),
-        Kind::Length => Marks(dot(a), dot(b), mode(c), length_unit(d)),
-        Kind::Constant => Marks(dot(a), dot(b), mode(c), d == b'6'),
-        Kind::Pair => Marks(dot(a), dot(b), mode(c), dot(d)),
+        Kind::Text => text_marks(a, b, c, d),
+        Kind::Angle => angle_marks(a, b, c, d),
+        Kind::Length => length_marks(a, b, c, d),
+        Kind::Constant => constant_marks(a, b, c, d),
+        Kind::Pair => pair_marks(a, b, c, d),
     }
 }
 
@@ -180,8 +225,8 @@ fn level_marks(index: u16, kind: Kind, a: u8, b: u8, c: u8, d: u8) -> Marks
 {
     match kind {
         Kind::Numbered => numbered(a, b, c, d),
-        Kind::Text => Marks(lead(index, a), free(b), free(c), free(d)),
-        Kind::Length => Marks(lead(index, a), flag(b), level_mode(c), level_unit(d)),
+        Kind::Text => level_text_marks(index, a, b, c, d),
+        Kind::Length => level_number_marks(index, a, b, c, d),
         _ => Marks(false, false, false, false),
     }
 }
@@ -195,11 +240,42 @@ fn info_marks(family: Family, index: u16, kind: Kind, a: u8, b: u8, c: u8, d: u8
     }
 }
 
-// Tells whether a word of that index and kind can have the information.
+// Tells whether a record of that kind can have a total station's information.
+fn station_holds(kind: Kind, a: u8, b: u8, c: u8, d: u8) -> bool
+    ensures { λ r. ⌜ r ≡ allRight (stationMarks kind a b c d) ⌝ }
+{
+    match kind {
+        Kind::Missing => false,
+        Kind::Numbered => all(numbered(a, b, c, d)),
+        Kind::Text => all(text_marks(a, b, c, d)),
+        Kind::Angle => all(angle_marks(a, b, c, d)),
+        Kind::Length => all(length_marks(a, b, c, d)),
+        Kind::Constant => all(constant_marks(a, b, c, d)),
+        Kind::Pair => all(pair_marks(a, b, c, d)),
+    }
+}
+
+// Tells the same of a level's.
+fn level_holds(index: u16, kind: Kind, a: u8, b: u8, c: u8, d: u8) -> bool
+    ensures { λ r. ⌜ r ≡ allRight (levelMarks index kind a b c d) ⌝ }
+{
+    match kind {
+        Kind::Numbered => all(numbered(a, b, c, d)),
+        Kind::Text => all(level_text_marks(index, a, b, c, d)),
+        Kind::Length => all(level_number_marks(index, a, b, c, d)),
+        _ => false,
+    }
+}
+
+// Tells whether a record of that index and kind can have the information. The writer asks it of each record, and it shares no choice of the kind with
+// `informed_by` or with the reader's (reader.rt), so that the compiler joins it with the writer (docs/BENCHMARK.md).
 pub fn info_right(family: Family, index: u16, kind: Kind, a: u8, b: u8, c: u8, d: u8) -> bool
     ensures { λ r. ⌜ r ≡ infoRight family index kind a b c d ⌝ }
 {
-    all(info_marks(family, index, kind, a, b, c, d))
+    match family {
+        Family::Station => station_holds(kind, a, b, c, d),
+        Family::Level => level_holds(index, kind, a, b, c, d),
+    }
 }
 
 // Tells which of the four, from 0, is the first that a word of that index and kind can't have.
@@ -209,7 +285,7 @@ pub fn info_at(family: Family, index: u16, kind: Kind, a: u8, b: u8, c: u8, d: u
     first_wrong(info_marks(family, index, kind, a, b, c, d))
 }
 
-fn answer(right: bool) -> Informed
+pub(crate) fn answer(right: bool) -> Informed
     ensures { λ r. ⌜ r ≡ cond right Informed.Right Informed.Not ⌝ }
 {
     if right {
@@ -219,8 +295,7 @@ fn answer(right: bool) -> Informed
     }
 }
 
-// Judges the information of a word of that index and kind. It doesn't call `info_right`, so that the compiler joins the choice of the family with the reader
-// (docs/BENCHMARK.md).
+// Judges the information of a word of that index and kind.
 pub fn informed_by(family: Family, index: u16, kind: Kind, a: u8, b: u8, c: u8, d: u8) -> Informed
     ensures { λ r. ⌜ r ≡ informedOf family index kind a b c d ⌝ }
 {

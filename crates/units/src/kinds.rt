@@ -1,8 +1,9 @@
 // The index of a word and its kind, by the family of instruments that a block is from.
 ghost use mathlib.Core.Path.{_≡_};
 ghost use Prim.Native.Nat.{_<_};
-ghost use mathlib.Core.Bool.{true};
+ghost use mathlib.Core.Bool.{true, cond};
 ghost use Rattle.figures.specs.Decimal.{areDigits};
+ghost use Rattle.units.specs.declared.kinds.Kind as Kind;
 ghost use Rattle.units.specs.Kinds.{stationKind, levelKind, classKind, kindOf, isTextual, indexOf, namedBy, ofKind, levelAt, indexAt};
 use crate::classes::class_of;
 use figures::casts::figure;
@@ -36,15 +37,13 @@ pub enum Indexed {
     Listed(u16, Kind),
 }
 
-// Gives the kind of a total station's index.
-fn station_kind(index: u16) -> Kind
-    ensures { λ r. ⌜ r ≡ stationKind index ⌝ }
+// The kinds of a total station's indexes in two parts, each small enough for the compiler to join it with every caller (docs/BENCHMARK.md).
+
+// Gives the kind of a total station's index whose words hold numbers; Missing for any other.
+pub fn number_kind(index: u16) -> Kind
+    ensures { λ r. ⌜ r ≡ cond (isTextual (stationKind index)) Kind.Missing (stationKind index) ⌝ }
 {
     match index {
-        11 | 41 => Kind::Numbered,
-        12 | 13 | 16 | 18 | 19 | 52 | 53 => Kind::Text,
-        42..=49 => Kind::Text,
-        71..=79 => Kind::Text,
         21 | 22 | 24 => Kind::Angle,
         31..=34 => Kind::Length,
         81..=88 => Kind::Length,
@@ -54,13 +53,37 @@ fn station_kind(index: u16) -> Kind
     }
 }
 
+// Gives the kind of a total station's index whose words hold text; Missing for any other.
+fn text_kind(index: u16) -> Kind
+    ensures { λ r. ⌜ r ≡ cond (isTextual (stationKind index)) (stationKind index) Kind.Missing ⌝ }
+{
+    match index {
+        11 | 41 => Kind::Numbered,
+        12 | 13 | 16 | 18 | 19 | 52 | 53 => Kind::Text,
+        42..=49 => Kind::Text,
+        71..=79 => Kind::Text,
+        _ => Kind::Missing,
+    }
+}
+
+// Gives the kind of a total station's index.
+pub(crate) fn station_kind(index: u16) -> Kind
+    ensures { λ r. ⌜ r ≡ stationKind index ⌝ }
+{
+    let number = number_kind(index);
+    if let Kind::Missing = number {
+        return text_kind(index);
+    }
+    number
+}
+
 // Gives the kind of a level's index of two digits.
 fn level_kind(index: u16) -> Kind
     ensures { λ r. ⌜ r ≡ levelKind index ⌝ }
 {
     match index {
-        11 => station_kind(index),
-        41..=49 => station_kind(index),
+        11 | 41 => Kind::Numbered,
+        42..=49 => Kind::Text,
         52 | 57 => Kind::Text,
         32 | 83 => Kind::Length,
         _ => Kind::Missing,
@@ -108,7 +131,7 @@ pub fn textual(kind: Kind) -> bool
 }
 
 // Gives the index that two digits say.
-fn index_of(tens: u8, ones: u8) -> u16
+pub(crate) fn index_of(tens: u8, ones: u8) -> u16
     requires { ⌜ areDigits tens ones ≡ true ⌝ }
     ensures { λ r. ⌜ r ≡ indexOf tens ones ⌝ }
 {
@@ -129,7 +152,7 @@ pub fn named_by(tens: u8, ones: u8) -> Named
 }
 
 // Answers an index that has a kind.
-fn listed_as(index: u16, kind: Kind) -> Indexed
+pub(crate) fn listed_as(index: u16, kind: Kind) -> Indexed
     ensures { λ r. ⌜ r ≡ ofKind index kind ⌝ }
 {
     if let Kind::Missing = kind {
@@ -139,7 +162,7 @@ fn listed_as(index: u16, kind: Kind) -> Indexed
 }
 
 // Finds a level's index: position 3 decides whether two digits or three are looked up.
-fn level_at(two: u16, third: u8) -> Indexed
+pub(crate) fn level_at(two: u16, third: u8) -> Indexed
     requires { ⌜ two < 100 ⌝ }
     ensures { λ r. ⌜ r ≡ levelAt two third ⌝ }
 {

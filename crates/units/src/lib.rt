@@ -3,3 +3,4 @@ mod classes;
 pub mod counts;
 pub mod information;
 pub mod kinds;
+pub mod reader;

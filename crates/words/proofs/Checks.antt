@@ -1,13 +1,13 @@
 -- What a check says of the rule that it tests: from its answer, and from the test of that answer.
 use Prim.Native.Nat.{ℕ, _+_, _-_, _≤_, _<_}
-use mathlib.Core.Path.{_≡_, refl, sym, _∙_}
+use mathlib.Core.Path.{_≡_, refl, sym, ap, _∙_}
 use mathlib.Core.Bool.{Bool, true, false, cond, _&&_, and-true, and-assoc}
 use mathlib.Core.List.{List}
 use native.Mathlib.Omega.{arith}
 use borrow.Author.Tests.{le-leb, lt-leb, leb-true, leb-false}
 use borrow.Rule.Slice.PartMut.{midOf}
 use lib.Dec.{leb}
-use lib.ListN.{length, take, drop, length-drop, drop-of-length-le}
+use lib.ListN.{length, take, drop, length-drop, drop-of-length-le, take-append-drop}
 use lib.Seq.{take-all, length-take-le}
 use Rattle.figures.specs.Bytes.{every, runOf}
 use Rattle.figures.specs.Decimal.{isDigit, numberOf, numberIn, areDigits}
@@ -19,7 +19,7 @@ use Rattle.units.proofs.Levels.{listed-kind, no-other}
 use Rattle.units.specs.Information.{isSign, signRight, signOf, signAt}
 use Rattle.words.specs.Records.{width, textRight, isGraphic, isZero}
 use Rattle.words.specs.Reading.{wordSize, pos, dataIn, indexIn, kindAt, dataRight, dataAt, ppmIn, underIn, mmIn, figuresIn, wordOf}
-use Rattle.figures.proofs.Bytes.{run-every, run-other}
+use Rattle.figures.proofs.Bytes.{run-every, run-other, every-append}
 use Rattle.figures.proofs.Tests.{clash, both, by-test}
 use Rattle.words.specs.Keeping.{pairAt, spelledAt, listedWord}
 use Rattle.words.proofs.Letters.{one-right, missing-right, pair-at, pair-right}
@@ -194,9 +194,13 @@ all-data : (p q : ℕ → Bool) (n : ℕ) (t : List ℕ) → length t ≤ n → 
 unfolding every
 all-data p q n t h = rw (take-all n t h, drop-of-length-le t {i = n} h, and-true)
 
-pub text-wide : (k : Kind) (t : List ℕ) → isTextual k ≡ true → length t ≡ 16 → textRight true k t ≡ every isGraphic t
-text-wide k t e h = rw e (all-data isGraphic isZero 16 t (omega arith))
-
-pub text-narrow : (k : Kind) (t : List ℕ) → isTextual k ≡ true → length t ≡ 16
-    → textRight false k t ≡ every isGraphic (take 8 t) && every isZero (take 8 (drop 8 t))
-text-narrow k t e h = rw (e, take-all 8 (drop 8 t) (omega (arith, length-drop 8 t)))
+-- a text in two halves, as it is judged
+pub text-halves : (wide : Bool) (k : Kind) (t : List ℕ) → isTextual k ≡ true → length t ≡ 16
+    → textRight wide k t ≡ every isGraphic (take 8 t) && every (cond wide isGraphic isZero) (take 8 (drop 8 t))
+text-halves wide k t e h = rw (e, take-all 8 (drop 8 t) (omega (arith, length-drop 8 t))) (by-width wide)
+  where
+    by-width : (wide : Bool) → every isGraphic (take (width wide) t) && every isZero (drop (width wide) t)
+        ≡ every isGraphic (take 8 t) && every (cond wide isGraphic isZero) (drop 8 t)
+    by-width true =
+        all-data isGraphic isZero 16 t (omega arith) ∙ ap (every isGraphic) (sym (take-append-drop 8 t)) ∙ every-append isGraphic (take 8 t) (drop 8 t)
+    by-width false = refl

@@ -9,5 +9,4 @@ pub mod Apart
 pub mod Typed
 pub mod Signs
 pub mod Told
-pub mod Writes
 pub mod Determined

@@ -1,15 +1,15 @@
--- How the code keeps what the other files define: the answers of the checks on data and separator, and a word's bytes in their room.
-use Prim.Native.Nat.{ℕ, _+_, _-_}
+-- How the code keeps what the other files define: the answers of the checks on data and separator.
+use Prim.Native.Nat.{ℕ, _+_}
 use mathlib.Core.Bool.{Bool, cond, _&&_}
-use mathlib.Core.List.{List, [], _∷_, _++_}
+use mathlib.Core.List.{List, [], _∷_}
 use lib.Dec.{eqb, leb}
-use lib.ListN.{length, getD, replicate}
+use lib.ListN.{length, getD}
 use Rattle.figures.specs.Text.{byte}
 use Rattle.figures.specs.Bytes.{every}
 use Rattle.figures.specs.Decimal.{isDigit, numberOf}
 use Rattle.units.specs.Information.{infoMarks, allRight, firstWrong, leadOf, signOf, signRight}
 use Rattle.units.specs.Counts.{valueAt}
-use Rattle.words.specs.Records.{width, recordOf, isGraphic, isRight}
+use Rattle.words.specs.Records.{width, recordOf, isGraphic}
 use Rattle.units.specs.declared.kinds.Family.{Family}
 use Rattle.units.specs.declared.kinds.Kind.{Kind}
 use Rattle.units.specs.declared.kinds.Kind.the-variants as kind
@@ -20,11 +20,7 @@ use Rattle.words.specs.declared.reading.Parted.{Parted}
 use Rattle.words.specs.declared.reading.Parted.the-variants as parted
 use Rattle.words.specs.declared.reading.Fault.the-variants.{Information, Sign, Characters, Separator, Value}
 use Rattle.words.specs.declared.reading.OneWord.{OneWord}
-use Rattle.words.specs.Reading.{wordSize, pos, dataIn, dataRight, dataAt, figuresIn, textField, isCounted, countOr, rightWord, unless}
-use Rattle.words.specs.declared.records.Word.{Word}
-use Rattle.words.specs.declared.writing.Spelt.the-variants.{Not, Right}
-use Rattle.words.specs.declared.writing.Spelling.{Spelling}
-use Rattle.words.specs.Writing.{bytesOf}
+use Rattle.words.specs.Reading.{pos, dataIn, dataRight, dataAt, figuresIn, textField, isCounted, countOr, rightWord, unless}
 
 -- the answers of the checks on data and separator
 abbrev pub digitsAt : List ℕ → Spelled
@@ -65,11 +61,3 @@ listedWord f wide i k s =
     unless (allRight m) Information (2 + firstWrong m)
     (unless (signRight k (pos 7 s)) Sign 6
     (dataWord i k (lead ∷ pos 4 s ∷ pos 5 s ∷ pos 6 s ∷ []) (pos 6 s) (signOf (pos 7 s)) (dataIn wide s) (getD s (7 + width wide) 0)))
-
--- from the start of 24 bytes, the rest 0
-abbrev pub bytesIn : Family → Bool → Word → List ℕ
-bytesIn f wide w = bytesOf f wide w ++ replicate (24 - wordSize wide) 0
-
-abbrev pub spellingOf : Family → Bool → Word → Spelling
-spellingOf f wide w =
-    cond (isRight f wide w) (record { answer = Right; bytes = bytesIn f wide w }) (record { answer = Not; bytes = replicate 24 0 })

@@ -2,4 +2,3 @@
 // this crate.
 pub mod reading;
 pub mod records;
-pub mod writing;

@@ -176,7 +176,8 @@ fn data_wrong(kind: Kind, s: &[u8]) -> usize
     }
 }
 
-fn parted_at(b: u8) -> Parted
+// Judges the byte after a word's data.
+pub fn parted_at(b: u8) -> Parted
     ensures { λ r. ⌜ r ≡ partedAt b ⌝ }
 {
     if b == b' ' {

@@ -1,6 +1,5 @@
 // The record that a word gives, as a host in C lends it, and the count that a record holds.
 ghost use mathlib.Core.Path.{_≡_};
-ghost use Rattle.figures.specs.Bytes.{within, every};
 ghost use Rattle.words.specs.Records.{blank, recordOf, countBy, countOf, tenTo, wholeRight, limitOf, countRight, textRight, sameWhole, isRight, typedOf};
 use units::counts::Count;
 use units::counts::DEGREE_LIMIT;
@@ -50,7 +49,7 @@ pub fn blank_word() -> Word
 }
 
 // Makes the record of a count.
-pub(crate) fn record_of(index: u16, info: [u8; 4], count: Count, text: [u8; 16]) -> Word
+pub fn record_of(index: u16, info: [u8; 4], count: Count, text: [u8; 16]) -> Word
     ensures { λ r. ⌜ r ≡ recordOf index info count text ⌝ }
 {
     let first = first_of(count);
@@ -156,28 +155,20 @@ fn count_right(count: Count, wide: bool) -> bool
     }
 }
 
-// Tells whether every byte is from low to high, and leaves at the first that isn't. With `figures::all_within`, which judges all at once, a block took longer to
-// write (docs/changes/003.md).
-fn each_within(s: &[u8], low: u8, high: u8) -> bool
-    ensures { λ r. ⌜ r ≡ every (within low high) (now (s .entry)) ⌝ }
-{
-    figures::run_within(s, low, high) == s.len()
-}
-
 // Tells whether a word of that kind and width can have the text.
 fn text_right(kind: Kind, text: [u8; 16], wide: bool) -> bool
     ensures { λ r. ⌜ r ≡ textRight wide kind text ⌝ }
 {
     if !textual(kind) {
-        return each_within(&text, 0, 0);
+        return figures::all_within(&text, 0, 0);
     }
-    if wide {
-        return each_within(&text, 33, 126);
-    }
-    if !each_within(&text[0..8], 33, 126) {
+    if !figures::all_within(&text[0..8], 33, 126) {
         return false;
     }
-    each_within(&text[8..16], 0, 0)
+    if wide {
+        return figures::all_within(&text[8..16], 33, 126);
+    }
+    figures::all_within(&text[8..16], 0, 0)
 }
 
 fn same_whole(w: Whole, minus: u8, size: u64) -> bool

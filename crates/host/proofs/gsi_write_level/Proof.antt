@@ -8,4 +8,4 @@ use Rattle.host.proofs.LentWrite.{writes}
 pub gsi-write-level-spec : {M : Type 1} → statement M
 unfolding code.routine
 gsi-write-level-spec 𝓤 H 𝓜 𝓖 𝓡 =
-    writes Level 𝓤 H 𝓜 𝓖 𝓡 code.env name (code.unfolded 𝓤 H 𝓜 𝓡) code.calls-blocks·lists·gather code.calls-host·answers·put-told
+    writes Level 𝓤 H 𝓜 𝓖 𝓡 code.env name (code.unfolded 𝓤 H 𝓜 𝓡) code.calls-host·write-told

@@ -1,5 +1,6 @@
 -- `judging::answer_of` meets its contract: each return is a law of the block's start.
-use mathlib.Core.Path.{sym, ap, _∙_}
+use mathlib.Core.Path.{refl, sym, ap, _∙_}
+use mathlib.Core.List.{[]}
 use native.Mathlib.Omega.{arith}
 use borrow.Author.Needs.{needs}
 use Rattle.blocks.specs.Judging.{Judgement, isWide}
@@ -24,7 +25,8 @@ returns-2 c =
 answer-from-requires : tie.Need-answer-from-requires
 answer-from-requires c κs =
     let start = c .before .before in
-    omega (arith, start-small (isWide (start .before .before .before .before .args .s .now)), start .start-of .ensures, start .before .before .if1 .left)
+    let small = start-small (isWide (start .before .before .before .before .args .s .now)) in
+    (omega (arith, small, start .start-of .ensures, start .before .before .if1 .left), omega arith)
 
 returns-3 : tie.Need-returns-3
 returns-3 c =
@@ -33,7 +35,7 @@ returns-3 c =
     let a = here .before .before .before .before .before .args in
     let byte = sym (here .is-at .ensures) ∙ c .before .if2 .left in
     let some = here .before .before .before .if1 .left in
-    c .answer-from .ensures
+    c .answer-from .ensures [] refl
     ∙ sym (ap (λ (j : Judgement). j .answer) (judged-words (a .family) (a .s .now) 32 (start .result) some (start .ensures) byte))
 
 pub answer-of-spec : {M : Type 1} → statement M

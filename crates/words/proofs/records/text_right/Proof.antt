@@ -1,34 +1,41 @@
--- `text_right` meets its contract. Of a wide text all 16 bytes are data; of a narrow one the part from 8 on is all that is left.
-use mathlib.Core.Path.{sym, _∙_}
+-- `text_right` meets its contract: a text is judged in halves, and the second holds data of a wide word and noughts of a narrow one.
+use mathlib.Core.Path.{_≡_}
+use mathlib.Core.Bool.{cond, _&&_}
 use borrow.Author.Needs.{needs}
-use Rattle.words.proofs.Checks.{text-wide, text-narrow}
+use lib.ListN.{take, drop}
+use Rattle.figures.specs.Bytes.{every}
 use Rattle.figures.proofs.Tests.{failed, passed}
+use Rattle.words.specs.Records.{textRight, isGraphic, isZero}
+use Rattle.words.proofs.Checks.{text-halves}
 use Rattle.words.proofs.records.text_right.Statement.{statement}
 use Rattle.words.proofs.records.text_right.Tie as tie
 
 returns : tie.Need-returns
 returns c =
-    rw (failed (c .before .before .before .textual .ensures) (c .before .before .if1 .taken)) (c .each-within .ensures)
+    rw (failed (c .before .before .before .textual .ensures) (c .before .before .if1 .taken)) (c .all-within .ensures)
+
+halves : (c : tie.Else1) → let a = c .before .before .args in
+    textRight (a .wide) (a .kind) (a .t2) ≡ every isGraphic (take 8 (a .t2)) && every (cond (a .wide) isGraphic isZero) (take 8 (drop 8 (a .t2)))
+halves c =
+    let a = c .before .before .args in
+    text-halves (a .wide) (a .kind) (a .t2) (passed (c .before .textual .ensures) (c .if1 .left)) (search needs)
 
 returns-2 : tie.Need-returns-2
 returns-2 c =
-    let a = c .before .before .before .before .before .args in
-    let text = passed (c .before .before .before .before .textual .ensures) (c .before .before .before .if1 .left) in
-    rw (c .before .before .if2 .taken) (c .each-within2 .ensures ∙ sym (text-wide (a .kind) (a .t2) text (search needs)))
+    let call = c .before in
+    rw (halves (call .before .before .before), failed (call .all-within2 .ensures) (c .if2 .taken))
 
 returns-3 : tie.Need-returns-3
 returns-3 c =
-    let text = passed (c .before .before .before .before .before .before .textual .ensures) (c .before .before .before .before .before .if1 .left) in
-    rw (c .before .before .before .before .if2 .left, text, failed (c .before .each-within3 .ensures) (c .if3 .taken))
+    let wide = c .before .before .before in
+    let call = wide .before .before in
+    rw (halves (call .before .before .before), passed (call .all-within2 .ensures) (wide .before .if2 .left), wide .if3 .taken) (c .all-within3 .ensures)
 
 returns-4 : tie.Need-returns-4
 returns-4 c =
-    let first = c .before .before .before in
-    let narrow = first .before .before .before .before in
-    let a = narrow .before .before .before .args in
-    let text = passed (narrow .before .before .textual .ensures) (narrow .before .if1 .left) in
-    let data-right = passed (first .before .each-within3 .ensures) (first .if3 .left) in
-    rw (narrow .if2 .left) (sym (text-narrow (a .kind) (a .t2) text (search needs) ∙ rw (data-right, c .each-within4 .ensures)))
+    let narrow = c .before .before .before in
+    let call = narrow .before .before in
+    rw (halves (call .before .before .before), passed (call .all-within2 .ensures) (narrow .before .if2 .left), narrow .if3 .left) (c .all-within4 .ensures)
 
 pub text-right-spec : {M : Type 1} → statement M
 text-right-spec =
@@ -38,6 +45,8 @@ text-right-spec =
     (λ c. search needs)
     (λ c κs. search needs)
     returns
+    (λ c. search needs)
+    (λ c. search needs)
     (λ c. search needs)
     (λ c κs. search needs)
     returns-2
