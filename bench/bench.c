@@ -3,7 +3,7 @@
    Usage: bench ROUNDS, which table.awk makes tables of; or bench CASE SIDE PASSES (SIDE is library or C), which plays a case
    so often and looks at no clock, for counters and profilers. Compiled with BEFORE, an earlier build of the library
    (before_gsi_*) stands in the place of the C; where it has no level's functions, a level's blocks are left out, and mending
-   and sheets of form 2 where it has none. */
+   and sheets of form 2 where it has none. Compiled with EVERY_LENGTH, the tables by words have each number from 1 to 32. */
 #include "../tests/reference.h"
 
 int printf(const char *, ...);

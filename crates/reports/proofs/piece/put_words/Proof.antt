@@ -10,7 +10,6 @@ use lib.ListN.{length, take, drop}
 use lib.Seq.{take-length}
 use Rattle.words.specs.Records.{blank}
 use Rattle.words.specs.Reading.{wordSize, wordOf}
-use Rattle.words.specs.declared.records.Word.{Word}
 use Rattle.blocks.specs.Judging.{judged, firstAt}
 use Rattle.blocks.specs.Rules.{wordStart}
 use Rattle.blocks.proofs.Steps.{width-small, start-small}
