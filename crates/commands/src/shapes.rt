@@ -6,7 +6,7 @@ use figures::{Said, digit, number, run_before, same, starts};
 
 // What a line of a right shape orders. PUT's word and GET's indexes stand in the line. WrongShape is a line whose keyword goes on wrongly, NoKeyword one
 // that starts with none.
-#[derive(Drop)]
+#[derive(Clone, Copy)]
 pub enum Order {
     WrongShape,
     Set(u64, u64),
@@ -42,6 +42,7 @@ pub fn end_of(line: &[u8]) -> usize
 }
 
 // Tells whether there is no CR and no LF.
+#[tactic(auto, using(crate::proofs::Plain::plain_more, crate::proofs::Plain::plain_cr, crate::proofs::Plain::plain_lf, crate::proofs::Plain::plain_end))]
 pub fn is_plain(s: &[u8]) -> bool
     ensures { result ≡ is_plain s.now }
 {

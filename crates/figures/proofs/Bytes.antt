@@ -80,6 +80,17 @@ is_other_lem x b h = rw (ne_eqb b x h)
 pub not_other : (x b : ℕ) → b ≡ x → is_other x b ≡ false
 not_other x b h = rw (eq-eqb b x h)
 
+-- a byte below, above and within ends the run or takes it on
+pub run_below : (low high : ℕ) (s : List ℕ) (i : ℕ) → i < length s → get_or s i 0 < low → run_of (within low high) (drop i s) ≡ 0
+run_below low high s i h below = run_here (within low high) s i h (below_within low high _ below)
+
+pub run_above : (low high : ℕ) (s : List ℕ) (i : ℕ) → i < length s → low ≤ get_or s i 0 → high < get_or s i 0 → run_of (within low high) (drop i s) ≡ 0
+run_above low high s i h from above = run_here (within low high) s i h (above_within low high _ from above)
+
+pub run_on : (low high : ℕ) (s : List ℕ) (i : ℕ) → i < length s → low ≤ get_or s i 0 → get_or s i 0 ≤ high
+    → i + run_of (within low high) (drop i s) ≡ i + 1 + run_of (within low high) (drop (i + 1) s)
+run_on low high s i h from to = run_more (within low high) s i h (bounds_within low high _ from to)
+
 pub run_most : (p : ℕ → Bool) (s : List ℕ) → run_of p s ≤ length s
 unfolding run_of
 run_most p [] = omega arith

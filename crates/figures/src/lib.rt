@@ -1,4 +1,6 @@
 // Decimal figures in bytes, and byte strings laid down or compared: what every layer above reads and writes with.
+#![tactic(auto)]
+
 pub mod casts;
 pub mod pointing;
 pub mod rooms;
@@ -10,7 +12,7 @@ ghost use Rattle.figures.specs.Bytes.{laid, starts_with, same_bytes, every, run_
 use crate::casts::wide;
 
 // The number that digits say; Not where a byte is no digit, or where there are more digits than a word can have.
-#[derive(Drop)]
+#[derive(Clone, Copy)]
 pub enum Said {
     Not,
     Number(u64),
@@ -60,6 +62,7 @@ pub fn put_number(n: u64, out: &mut [u8])
 }
 
 // Counts the bytes at the start that are from low to high: this is the place of the first that isn't, or the length.
+#[tactic(auto, using(crate::proofs::Bytes::run_below, crate::proofs::Bytes::run_above, crate::proofs::Bytes::run_on, crate::proofs::Bytes::run_none))]
 pub fn run_within(s: &[u8], low: u8, high: u8) -> usize
     ensures { (result ≡ run_of (within low high) s.now) × (result ≤ length s.now) }
 {
@@ -106,6 +109,7 @@ pub fn run_before(s: &[u8], b: u8) -> usize
 }
 
 // Writes w from the start of the room, as far as there is room; what lies beyond is as it was.
+#[tactic(auto, using(crate::proofs::Bytes::lay_more, crate::proofs::Bytes::lay_cut, crate::proofs::Bytes::lay_all))]
 pub fn lay(w: &[u8], room: &mut [u8])
     ensures { room.new ≡ laid w.now room.old }
 {
@@ -120,6 +124,7 @@ pub fn lay(w: &[u8], room: &mut [u8])
 }
 
 // Tells whether s starts with w.
+#[tactic(auto, using(crate::proofs::Bytes::starts_more, crate::proofs::Bytes::starts_not, crate::proofs::Bytes::starts_short, crate::proofs::Bytes::starts_all))]
 pub fn starts(s: &[u8], w: &[u8]) -> bool
     ensures { result ≡ starts_with w.now s.now }
 {
@@ -137,6 +142,7 @@ pub fn starts(s: &[u8], w: &[u8]) -> bool
 }
 
 // Tells whether the two are the same bytes. The loop never leaves early, so that many bytes are compared at once.
+#[tactic(auto, using(crate::proofs::Bytes::starts_on, crate::proofs::Bytes::starts_done))]
 pub fn same(a: &[u8], b: &[u8]) -> bool
     ensures { result ≡ same_bytes a.now b.now }
 {

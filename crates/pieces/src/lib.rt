@@ -1,9 +1,11 @@
 // An input cut into pieces: after each CR, with an LF that follows it; a last piece may have no CR.
+#![tactic(auto)]
+
 ghost use Rattle.std.specs.Prelude.{◌≡◌, ◌≤◌, length};
 ghost use Rattle.pieces.specs.Pieces.{cut_of, is_joined, mark_after};
 
 // How far the piece that comes in has got: no CR yet, a CR as its last byte, or both its CR and its LF.
-#[derive(Drop)]
+#[derive(Clone, Copy)]
 pub enum Mark {
     Open,
     Cr,

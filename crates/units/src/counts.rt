@@ -6,46 +6,46 @@ ghost use Rattle.units.specs.Counts.{gon_at, degree_at, tenth_at, mil_at, angle_
 use crate::kinds::Kind;
 
 // A whole number with a sign: minus is 0 or 1, before zero too.
-#[derive(Drop)]
+#[derive(Clone, Copy)]
 pub struct Whole {
     pub minus: u8,
     pub size: u64,
 }
 
 // 1/100,000 gon.
-#[derive(Drop)]
+#[derive(Clone, Copy)]
 pub struct Gon(pub Whole);
 
 // 1/100,000 degree.
-#[derive(Drop)]
+#[derive(Clone, Copy)]
 pub struct Degree(pub Whole);
 
 // A tenth of a second of arc.
-#[derive(Drop)]
+#[derive(Clone, Copy)]
 pub struct Tenth(pub Whole);
 
 // 1/10,000 mil.
-#[derive(Drop)]
+#[derive(Clone, Copy)]
 pub struct Mil(pub Whole);
 
 // The last of so many decimals of a metre: 3 for 1 mm, 4 for 1/10 mm, 5 for 1/100 mm.
-#[derive(Drop)]
+#[derive(Clone, Copy)]
 pub struct Metre(pub Whole, pub u8);
 
 // The last of so many decimals of a foot: 3 or 4.
-#[derive(Drop)]
+#[derive(Clone, Copy)]
 pub struct Feet(pub Whole, pub u8);
 
 // 1/2000 inch.
-#[derive(Drop)]
+#[derive(Clone, Copy)]
 pub struct Inch(pub Whole);
 
 // 1/10,000 ppm.
-#[derive(Drop)]
+#[derive(Clone, Copy)]
 pub struct Ppm(pub Whole);
 
 // What a word counts. Nothing is for a record that no word gives; a pair is ppm, then mm.
-#[derive(Drop)]
+#[derive(Clone, Copy)]
 pub enum Count {
     Nothing,
     Text,
@@ -61,14 +61,14 @@ pub enum Count {
 }
 
 // What the data say before they are counted: text, one number, or the two of a pair with the sign between them.
-#[derive(Drop)]
+#[derive(Clone, Copy)]
 pub enum Figures {
     Text,
     Number(u64),
     Pair(u64, u8, u64),
 }
 
-#[derive(Drop)]
+#[derive(Clone, Copy)]
 pub enum Valued {
     Not,
     Counted(Count),

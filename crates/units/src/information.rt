@@ -8,17 +8,17 @@ ghost use Rattle.units.specs.Information.{all_right, info_right, first_wrong, le
 use crate::kinds::{Family, Kind, textual};
 
 // Whether each of positions 3-6 is right.
-#[derive(Drop)]
+#[derive(Clone, Copy)]
 pub struct Marks(pub bool, pub bool, pub bool, pub bool);
 
-#[derive(Drop)]
+#[derive(Clone, Copy)]
 pub enum Informed {
     Not,
     Right,
 }
 
 // What position 7 says: 0 for a plus, 1 for a minus.
-#[derive(Drop)]
+#[derive(Clone, Copy)]
 pub enum Signed {
     Not,
     Sign(u8),

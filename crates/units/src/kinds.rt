@@ -8,13 +8,13 @@ use crate::classes::class_of;
 use figures::casts::figure;
 
 // Total stations and digital levels.
-#[derive(Drop)]
+#[derive(Clone, Copy)]
 pub enum Family {
     Station,
     Level,
 }
 
-#[derive(Drop)]
+#[derive(Clone, Copy)]
 pub enum Kind {
     Missing,
     Numbered,
@@ -26,14 +26,14 @@ pub enum Kind {
 }
 
 // The index that two characters name, or that they aren't two digits.
-#[derive(Drop)]
+#[derive(Clone, Copy)]
 pub enum Named {
     Not,
     Index(u16),
 }
 
 // What positions 1-3 say: a byte that is no digit, from 0; digits that the family doesn't have; or an index of it, with its kind.
-#[derive(Drop)]
+#[derive(Clone, Copy)]
 pub enum Indexed {
     Other(usize),
     Unlisted,
@@ -57,6 +57,7 @@ pub fn number_kind(index: u16) -> Kind
 }
 
 // Gives the kind of a total station's index whose words hold text; Missing for any other.
+#[tactic(auto, unfolding(figures::specs::Bytes::among))]
 fn text_kind(index: u16) -> Kind
     ensures { result ≡ cond (is_textual (station_kind index)) (station_kind index) Kind.Missing }
 {

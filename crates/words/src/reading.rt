@@ -11,7 +11,7 @@ use units::information::{Informed, Signed, info_at, informed_by, lead_of, sign_a
 use units::kinds::{Family, Indexed, Kind, index_at, textual};
 
 // Why a word is refused.
-#[derive(Drop)]
+#[derive(Clone, Copy)]
 pub enum Fault {
     Short,
     Index,
@@ -24,27 +24,27 @@ pub enum Fault {
 }
 
 // Wrong tells the byte of the word, from 0.
-#[derive(Drop)]
+#[derive(Clone, Copy)]
 pub enum Judged {
     Right,
     Wrong(Fault, usize),
 }
 
 // The answer, and the record: blank where the word is refused.
-#[derive(Drop)]
+#[derive(Clone, Copy)]
 pub struct OneWord {
     pub answer: Judged,
     pub word: Word,
 }
 
 // What the data say, or that a character of them is wrong.
-#[derive(Drop)]
+#[derive(Clone, Copy)]
 pub enum Spelled {
     Not,
     Says(Figures),
 }
 
-#[derive(Drop)]
+#[derive(Clone, Copy)]
 pub enum Parted {
     Not,
     Blank,

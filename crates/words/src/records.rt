@@ -12,7 +12,7 @@ use units::kinds::{Family, Kind, kind_of, textual};
 // A word's index, its information (whose first byte is 0 where position 3 belongs to the index), the sign and size of its value and of a pair's mm, and its
 // text. A sign is 0 or 1; what a word doesn't use is 0.
 #[repr(C)]
-#[derive(Drop)]
+#[derive(Clone, Copy)]
 pub struct Word {
     pub index: u16,
     pub info: [u8; 4],

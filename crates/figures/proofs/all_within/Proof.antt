@@ -9,22 +9,22 @@ use Rattle.figures.proofs.Bytes.{within_on, every_all}
 use Rattle.figures.proofs.all_within.Statement.{statement}
 use Rattle.figures.proofs.all_within.Tie as tie
 
-abbrev invariant-loop : tie.invariant-loop
+abbrev invariant-loop : tie.invariant-loop-i
 invariant-loop s low high all₀ i₀ all i = (i ≤ length s) × (every (within low high) s ≡ all && every (within low high) (drop i s))
 
-abbrev decreases-loop : tie.decreases-loop
+abbrev decreases-loop : tie.decreases-loop-i
 decreases-loop s low high all₀ i₀ all i = length s - i
 
-loop_again : tie.Need-loop-preserved invariant-loop decreases-loop
+loop_again : tie.Need-loop-i-preserved invariant-loop decreases-loop
 loop_again c =
-    let at = c.before.before.loop in
-    let a = c.before.before.before.args in
+    let at = c.loop-i in
+    let a = c.args in
     (omega arith, at.invariant.1 ∙ within_on a.low a.high a.s.now at.i at.all (omega arith))
 
 returns : tie.Need-returns invariant-loop decreases-loop
 returns c =
-    let at = c.before.loop in
-    let a = c.before.before.args in
+    let at = c.loop-i in
+    let a = c.args in
     sym (at.invariant.1 ∙ rw (every_all (within a.low a.high) a.s.now at.i (omega arith)) (and-true at.all))
 
 pub all_within_spec : {M : Type 1} → statement M

@@ -13,55 +13,55 @@ use Rattle.figures.proofs.Decimal.{number_more, number_all, number_in_lem, few_d
 use Rattle.figures.proofs.number.Statement.{statement}
 use Rattle.figures.proofs.number.Tie as tie
 
-abbrev invariant-loop : tie.invariant-loop
+abbrev invariant-loop : tie.invariant-loop-i
 invariant-loop s n₀ i₀ n i =
     (i ≤ length s) × (length s ≤ 16) × (n < 10 ^ i) × (number_of s ≡ number_from n (drop i s)) × (every is_digit s ≡ every is_digit (drop i s))
 
-abbrev decreases-loop : tie.decreases-loop
+abbrev decreases-loop : tie.decreases-loop-i
 decreases-loop s n₀ i₀ n i = length s - i
 
-returns : tie.Need-returns invariant-loop decreases-loop
-returns c = rw (lt-leb _ _ c.if1.true)
+returns : tie.Need-returns-then-s-gt16 invariant-loop decreases-loop
+returns c = rw (lt-leb _ _ c.if-s-gt16.true)
 
-loop_holds : tie.Need-loop-init invariant-loop decreases-loop
+loop_holds : tie.Need-loop-i-init invariant-loop decreases-loop
 loop_holds c = (omega arith, omega arith, omega arith, refl, refl)
 
-shared_slice_read_b : tie.Need-shared-slice-read-b invariant-loop decreases-loop
+shared_slice_read_b : tie.Need-bounds-s-i invariant-loop decreases-loop
 shared_slice_read_b c = omega arith
 
-returns_2 : tie.Need-returns-2 invariant-loop decreases-loop
+returns_2 : tie.Need-returns-then-not-digit invariant-loop decreases-loop
 returns_2 c =
-    let at = c.before.before.before.before.loop in
-    let s = c.before.before.before.before.before.before.before.args.s.now in
-    let bad : is_digit (get_or s at.i 0) ≡ false = sym c.before.digit.ensures ∙ not-true _ c.if2.true in
+    let at = c.loop-i in
+    let s = c.args.s.now in
+    let bad : is_digit (get_or s at.i 0) ≡ false = sym c.digit.ensures ∙ c.if-not-digit.true in
     rw (le-leb (length s) 16 at.invariant.1, at.invariant.4, every_not is_digit s at.i (omega arith) bad)
 
-mul_n : tie.Need-overflow-mul-n invariant-loop decreases-loop
+mul_n : tie.Need-overflow_mul-n invariant-loop decreases-loop
 mul_n c =
-    let at = c.before.before.before.before.loop in
+    let at = c.loop-i in
     omega (arith, few_digits at.n at.i (omega arith) at.invariant.2)
 
-sub_wide : tie.Need-overflow-sub-wide invariant-loop decreases-loop
-sub_wide c = (within_bounds 48 57 _ (sym c.before.digit.ensures ∙ not-false _ c.if2.false)).0
+sub_wide : tie.Need-overflow_sub-b invariant-loop decreases-loop
+sub_wide c = (within_bounds 48 57 _ (sym c.digit.ensures ∙ c.if-not-digit.false)).0
 
-add_n : tie.Need-overflow-add-n invariant-loop decreases-loop
+add_n : tie.Need-overflow_add-n invariant-loop decreases-loop
 add_n c =
-    let at = c.before.before.before.before.before.loop in
-    let s = c.before.before.before.before.before.before.before.before.args.s.now in
-    let bounds = within_bounds 48 57 (get_or s at.i 0) (sym c.before.before.digit.ensures ∙ not-false _ c.before.if2.false) in
+    let at = c.loop-i in
+    let s = c.args.s.now in
+    let bounds = within_bounds 48 57 (get_or s at.i 0) (sym c.digit.ensures ∙ c.if-not-digit.false) in
     omega (arith, few_digits at.n at.i (omega arith) at.invariant.2, c.wide.ensures)
 
-add_i : tie.Need-overflow-add-i invariant-loop decreases-loop
+add_i : tie.Need-overflow_add-i invariant-loop decreases-loop
 add_i c = omega arith
 
-loop_less : tie.Need-loop-smaller invariant-loop decreases-loop
+loop_less : tie.Need-loop-i-smaller invariant-loop decreases-loop
 loop_less c = omega arith
 
-loop_again : tie.Need-loop-preserved invariant-loop decreases-loop
+loop_again : tie.Need-loop-i-preserved invariant-loop decreases-loop
 loop_again c =
-    let at = c.before.before.before.before.before.loop in
-    let s = c.before.before.before.before.before.before.before.before.args.s.now in
-    let said = sym c.before.before.digit.ensures ∙ not-false _ c.before.if2.false in
+    let at = c.loop-i in
+    let s = c.args.s.now in
+    let said = sym c.digit.ensures ∙ c.if-not-digit.false in
     let bounds = within_bounds 48 57 (get_or s at.i 0) said in (
       omega arith,
       omega arith,
@@ -70,11 +70,11 @@ loop_again c =
       at.invariant.4 ∙ every_more is_digit s at.i (omega arith) said,
     )
 
-returns_3 : tie.Need-returns-3 invariant-loop decreases-loop
+returns_3 : tie.Need-returns invariant-loop decreases-loop
 returns_3 c =
-    let at = c.before.loop in
-    let s = c.before.before.before.before.args.s.now in
-    let end : length s ≤ at.i = c.loop-test.false in
+    let at = c.loop-i in
+    let s = c.args.s.now in
+    let end : length s ≤ at.i = c.loop-i-test.false in
     sym (number_in_lem s at.invariant.1 (at.invariant.4 ∙ every_all is_digit s at.i end) ∙ rw (at.invariant.3, number_all at.n s at.i end))
 
 pub number_spec : {M : Type 1} → statement M

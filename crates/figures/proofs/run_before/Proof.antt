@@ -8,30 +8,30 @@ use Rattle.figures.proofs.Bytes.{is_other_lem, not_other, run_more, run_here, ru
 use Rattle.figures.proofs.run_before.Statement.{statement}
 use Rattle.figures.proofs.run_before.Tie as tie
 
-abbrev invariant-loop : tie.invariant-loop
+abbrev invariant-loop : tie.invariant-loop-i
 invariant-loop s b i₀ i = (i ≤ length s) × (run_of (is_other b) s ≡ i + run_of (is_other b) (drop i s))
 
-abbrev decreases-loop : tie.decreases-loop
+abbrev decreases-loop : tie.decreases-loop-i
 decreases-loop s b i₀ i = length s - i
 
-returns : tie.Need-returns invariant-loop decreases-loop
+returns : tie.Need-returns-then-s-i invariant-loop decreases-loop
 returns c =
-    let at = c.before.before.before.loop in
-    let a = c.before.before.before.before.args in
-    let here = run_here (is_other a.b) a.s.now at.i (omega arith) (not_other a.b _ c.if1.true) in
+    let at = c.loop-i in
+    let a = c.args in
+    let here = run_here (is_other a.b) a.s.now at.i (omega arith) (not_other a.b _ c.if-s-i.true) in
     (omega (arith, at.invariant.1, here), omega arith)
 
-loop_again : tie.Need-loop-preserved invariant-loop decreases-loop
+loop_again : tie.Need-loop-i-preserved invariant-loop decreases-loop
 loop_again c =
-    let at = c.before.before.before.loop in
-    let a = c.before.before.before.before.args in
-    (omega arith, at.invariant.1 ∙ run_more (is_other a.b) a.s.now at.i (omega arith) (is_other_lem a.b _ c.if1.false))
+    let at = c.loop-i in
+    let a = c.args in
+    (omega arith, at.invariant.1 ∙ run_more (is_other a.b) a.s.now at.i (omega arith) (is_other_lem a.b _ c.if-s-i.false))
 
-returns_2 : tie.Need-returns-2 invariant-loop decreases-loop
+returns_2 : tie.Need-returns invariant-loop decreases-loop
 returns_2 c =
-    let at = c.before.loop in
-    let a = c.before.before.args in
-    (omega (arith, at.invariant.1, run_none (is_other a.b) a.s.now at.i c.loop-test.false), omega arith)
+    let at = c.loop-i in
+    let a = c.args in
+    (omega (arith, at.invariant.1, run_none (is_other a.b) a.s.now at.i c.loop-i-test.false), omega arith)
 
 pub run_before_spec : {M : Type 1} → statement M
 run_before_spec =

@@ -4,30 +4,30 @@ use Rattle.figures.proofs.Places.{Off, digits_most, off_one, off_more, off_all}
 use Rattle.figures.proofs.rooms.digits_in.Statement.{statement}
 use Rattle.figures.proofs.rooms.digits_in.Tie as tie
 
-abbrev invariant-loop : tie.invariant-loop
+abbrev invariant-loop : tie.invariant-loop-left
 invariant-loop n left₀ k₀ left k = Off n left k
 
-abbrev decreases-loop : tie.decreases-loop
+abbrev decreases-loop : tie.decreases-loop-left
 decreases-loop n left₀ k₀ left k = left
 
-loop_holds : tie.Need-loop-init invariant-loop decreases-loop
+loop_holds : tie.Need-loop-left-init invariant-loop decreases-loop
 loop_holds c = off_one c.args.n (omega arith)
 
-add_k : tie.Need-overflow-add-k invariant-loop decreases-loop
+add_k : tie.Need-overflow_add-k invariant-loop decreases-loop
 add_k c = omega arith
 
-loop_less : tie.Need-loop-smaller invariant-loop decreases-loop
+loop_less : tie.Need-loop-left-smaller invariant-loop decreases-loop
 loop_less c = omega arith
 
-loop_again : tie.Need-loop-preserved invariant-loop decreases-loop
+loop_again : tie.Need-loop-left-preserved invariant-loop decreases-loop
 loop_again c =
-    let at = c.before.loop in
-    off_more c.before.before.args.n at.left at.k c.loop-test.true at.invariant
+    let at = c.loop-left in
+    off_more c.args.n at.left at.k c.loop-left-test.true at.invariant
 
 returns : tie.Need-returns invariant-loop decreases-loop
 returns c =
-    let at = c.before.loop in
-    let n = c.before.before.args.n in
+    let at = c.loop-left in
+    let n = c.args.n in
     let all = off_all n at.left at.k (omega arith) at.invariant in
     (all, omega (arith, digits_most n))
 

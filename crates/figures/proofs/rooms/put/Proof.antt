@@ -10,29 +10,29 @@ use Rattle.figures.proofs.Putting.{put_length, put_past, lay_put}
 use Rattle.figures.proofs.rooms.put.Statement.{statement}
 use Rattle.figures.proofs.rooms.put.Tie as tie
 
-returns : tie.Need-returns
+returns : tie.Need-returns-then-room-at
 returns c =
-    let a = c.before.before.before.args in
-    (omega arith, sym (put_past a.room.now a.text.now a.at c.if1.true))
+    let a = c.args in
+    (omega arith, sym (put_past a.room.now a.text.now a.at c.if-room-at.true))
 
 -- the room once the text is laid down
 abbrev Laid : tie.After-lay → Type 0
 Laid c =
-    let a = c.before.before.before.before.before.args in
-    put_mid a.at (length a.room.now - a.at) a.room.now c.lay.new.1.0 ≡ put_at a.room.now a.at a.text.now
+    let a = c.args in
+    put_mid a.at (length a.room.now - a.at) a.room.now c.lay.new.room ≡ put_at a.room.now a.at a.text.now
 
 laid : (c : tie.After-lay) → Laid c
 laid c =
-    let a = c.before.before.before.before.before.args in
-    lay_put a.room.now a.text.now c.lay.new.1.0 a.at (omega arith) c.lay.ensures
+    let a = c.args in
+    lay_put a.room.now a.text.now c.lay.new.room a.at (omega arith) c.lay.ensures
 
-returns_2 : tie.Need-returns-2
+returns_2 : tie.Need-returns-then-left-text
 returns_2 c =
-    let a = c.before.before.before.before.before.before.before.before.args in
+    let a = c.args in
     let is = laid c.before.before.before in
     (ap length is ∙ put_length a.room.now a.text.now a.at ∙ omega arith, is)
 
-returns_3 : tie.Need-returns-3
+returns_3 : tie.Need-returns
 returns_3 c = (omega arith, laid c.before.before.before)
 
 pub put_spec : {M : Type 1} → statement M

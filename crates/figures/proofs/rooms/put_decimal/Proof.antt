@@ -5,22 +5,22 @@ use Rattle.figures.proofs.Putting.{digits_long, digits_put}
 use Rattle.figures.proofs.rooms.put_decimal.Statement.{statement}
 use Rattle.figures.proofs.rooms.put_decimal.Tie as tie
 
-part_put_end : tie.Need-slice-bounds-put-end
+part_put_end : tie.Need-slice_bounds-put-end
 part_put_end c =
-    let wrote = c.before.before.before.put-number in
-    let k = c.before.before.before.before.before.digits_in in
-    let n = c.before.before.before.before.before.before.before.args.n in
-    digits_long (replicate 20 0) wrote.new.1.0 k.result n k.ensures.1 wrote.ensures
+    let wrote = c.put_number in
+    let k = c.digits_in-k in
+    let n = c.args.n in
+    digits_long (replicate 20 0) wrote.new.out k.result n k.ensures.1 wrote.ensures
 
 returns : tie.Need-returns
 returns c =
-    let put = c.before.before.put in
-    let wrote = c.before.before.before.before.before.before.before.put-number in
-    let k = c.before.before.before.before.before.before.before.before.before.digits_in in
-    let a = c.before.before.before.before.before.before.before.before.before.before.before.args in
+    let put = c.put in
+    let wrote = c.put_number in
+    let k = c.digits_in-k in
+    let a = c.args in
     rw k.ensures.0 at
-    (digits_put (replicate 20 0) wrote.new.1.0 k.result a.n k.ensures.1 wrote.ensures
-    a.room.now put.new.0 a.at put.result put.ensures)
+    (digits_put (replicate 20 0) wrote.new.out k.result a.n k.ensures.1 wrote.ensures
+    a.room.now put.new.room a.at put.result put.ensures)
 
 pub put_decimal_spec : {M : Type 1} → statement M
 put_decimal_spec =

@@ -8,13 +8,13 @@ pub tenth_at_spec : {M : Type 1} → statement M
 tenth_at_spec =
     tie.close
     (tie.spec
-    (λ c. rw (le-ltb _ _ c.if1.true))
-    (λ c. rw (lt-ltb _ _ c.before.if1.false, le-ltb _ _ c.if2.true))
-    (λ c. rw (lt-ltb _ _ c.before.before.if1.false, lt-ltb _ _ c.before.if2.false, le-ltb _ _ c.if3.true))
+    (λ c. rw (le-ltb _ _ c.if-degrees-ge360.true))
+    (λ c. rw (lt-ltb _ _ c.if-degrees-ge360.false, le-ltb _ _ c.if-minutes-ge60.true))
+    (λ c. rw (lt-ltb _ _ c.if-degrees-ge360.false, lt-ltb _ _ c.if-minutes-ge60.false, le-ltb _ _ c.if-seconds-ge60.true))
     (λ c. search rules)
     (λ c. search rules)
     (λ c. search rules)
     (λ c. search rules)
     (λ c. search rules)
     (λ c. search rules)
-    (λ c. rw (lt-ltb _ _ c.before.before.if1.false, lt-ltb _ _ c.before.if2.false, lt-ltb _ _ c.if3.false)))
+    (λ c. rw (lt-ltb _ _ c.if-degrees-ge360.false, lt-ltb _ _ c.if-minutes-ge60.false, lt-ltb _ _ c.if-seconds-ge60.false)))

@@ -4,15 +4,15 @@ use borrow.Author.Rules.{rules}
 use Rattle.units.proofs.information.numbered.Statement.{statement}
 use Rattle.units.proofs.information.numbered.Tie as tie
 
-returns : tie.Need-returns
+returns : tie.Need-returns-then-digit
 returns c =
-    let first = sym c.before.before.before.before.digit.ensures ∙ c.before.before.before.if1.true in
-    rw (first, ← c.before.before.digit2.ensures, ← c.before.digit3.ensures, ← c.digit4.ensures)
+    let first = sym c.digit.ensures ∙ c.if-digit.true in
+    rw (first, ← c.digit-then-digit.ensures, ← c.digit-then-digit-2.ensures, ← c.digit-then-digit-3.ensures)
 
-returns_2 : tie.Need-returns-2
+returns_2 : tie.Need-returns
 returns_2 c =
-    let first = sym c.before.before.before.before.before.digit.ensures ∙ c.before.before.before.before.if1.false in
-    rw (first, ← c.before.before.before.dot.ensures, ← c.before.before.dot2.ensures, ← c.before.dot3.ensures, ← c.dot4.ensures)
+    let first = sym c.digit.ensures ∙ c.if-digit.false in
+    rw (first, ← c.dot.ensures, ← c.dot-2.ensures, ← c.dot-3.ensures, ← c.dot-4.ensures)
 
 pub numbered_spec : {M : Type 1} → statement M
 numbered_spec =

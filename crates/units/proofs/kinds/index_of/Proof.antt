@@ -11,10 +11,10 @@ use Rattle.units.proofs.kinds.index_of.Tie as tie
 digits : (c : tie.Start) → (is_digit c.args.tens ≡ true) × (is_digit c.args.ones ≡ true)
 digits c = both (is_digit c.args.tens) (is_digit c.args.ones) c.requires
 
-sub_figure : tie.Need-overflow-sub-figure
+sub_figure : tie.Need-overflow_sub-tens
 sub_figure c = (within_bounds 48 57 _ (digits c).0).0
 
-sub_figure_2 : tie.Need-overflow-sub-figure-2
+sub_figure_2 : tie.Need-overflow_sub-ones
 sub_figure_2 c = (within_bounds 48 57 _ (digits c.before).1).0
 
 pub index_of_spec : {M : Type 1} → statement M
