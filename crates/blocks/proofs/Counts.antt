@@ -1,4 +1,4 @@
--- What the walks over a lent list know of the records that they store or copy: how many they are, and what the list or the block then is.
+-- What the loops over a lent list know of the records that they store or copy: how many they are, and what the list or the block then is.
 use mathlib.Core.Path.{◌≡◌, refl}
 use mathlib.Core.Bool.{Bool, true, false}
 use mathlib.Core.List.{List, [], ◌∷◌, ◌++◌}

@@ -77,6 +77,3 @@ wide_number s h =
     let eight : length (mid_of 15 8 s) ≡ 8 = length_mid 15 8 s (omega arith) in
     let low = rw eight at (number_after (number_of (mid_of 7 8 s)) (mid_of 15 8 s)) in
     ap number_of (wide_data s) ∙ number_on 0 (mid_of 7 8 s) (mid_of 15 8 s) ∙ low
-
-pub eight_below : (a : ℕ) (s : List ℕ) (n : ℕ) → a + 8 ≤ length s → n < 10 ^ length (mid_of a 8 s) → n < 100000000
-eight_below a s n h e = rw (length_mid a 8 s h) at e

@@ -15,7 +15,6 @@ pub mod Fit
 pub mod Runs
 pub mod Taken
 pub mod Takes
-pub mod Again
 pub mod Puts
 pub mod Sound
 pub mod Writing

@@ -1,5 +1,5 @@
--- What the two walks that write a lent list know after i turns: how many of the records so far are right at its start, and what stands in the room.
-use Prim.Native.Nat.{ℕ, zero, suc, ◌+◌, ◌*◌, ◌^◌, ◌<◌, ◌≤◌}
+-- What the two loops that write a lent list know after i turns: how many of the records so far are right at its start, and what stands in the room.
+use Prim.Native.Nat.{ℕ, zero, suc, ◌+◌, ◌*◌, ◌<◌, ◌≤◌}
 use mathlib.Core.Path.{◌≡◌, refl, sym, ap, ◌∙◌}
 use mathlib.Core.Bool.{Bool, true, false, cond, and-eq-true_iff}
 use mathlib.Core.List.{List, [], ◌∷◌, ◌++◌, append_assoc}
@@ -66,18 +66,6 @@ module _ (f : Family) (wide : Bool) where
   pub sound_none : right_run f wide [] ≡ 0
   unfolding right_run
   sound_none = refl
-
-  run_most : (ws : List Word) → right_run f wide ws ≤ length ws
-  unfolding right_run
-  run_most [] = omega arith
-  run_most (w ∷ ws) = by (is_right f wide w) (run_most ws)
-    where
-      by : (right : Bool) → right_run f wide ws ≤ length ws → cond right (suc (right_run f wide ws)) 0 ≤ suc (length ws)
-      by true h = omega arith
-      by false h = omega arith
-
-  pub sound_fits : (ws : List Word) (i : ℕ) → i ≤ 32 → i ≤ length ws → right_run f wide (take i ws) < 2 ^ 64
-  sound_fits ws i few h = omega (arith, run_most (take i ws), length-take-le i ws h)
 
   -- the words so far
 

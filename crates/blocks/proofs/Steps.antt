@@ -5,7 +5,7 @@ use mathlib.Core.Bool.{Bool, true, false, cond}
 use mathlib.Core.List.{List, [], ◌∷◌, ◌++◌}
 use native.Mathlib.Nat.{add-zero}
 use native.Mathlib.Omega.{arith}
-use borrow.Author.Tests.{lt-ltb, le-ltb, le-leb, lt-leb, eq-eqb, ne_eqb, ltb-true, ltb-false, leb-false}
+use borrow.Author.Tests.{lt-ltb, le-ltb, le-leb, lt-leb, ne_eqb, ltb-true, ltb-false, leb-false}
 use lib.Dec.{eqb, leb, ltb}
 use lib.ListN.{length, get_or, drop, length-drop, drop_of_length-le}
 use lib.Seq.{get_or-drop, drop-drop}
@@ -16,8 +16,7 @@ use Rattle.words.specs.declared.records.Word.{Word}
 use Rattle.words.specs.declared.reading.Fault.TheVariants.{Short}
 use Rattle.words.specs.declared.reading.Judged as one
 use Rattle.blocks.specs.declared.answers.Refusal.{Refusal}
-use Rattle.blocks.specs.declared.answers.Refusal.TheVariants.{Empty, Wrong, NoWord, NoEnd, NoPlace}
-use Rattle.blocks.specs.declared.answers.Answer.TheVariants.{Read}
+use Rattle.blocks.specs.declared.answers.Refusal.TheVariants.{Wrong, NoWord, NoEnd, NoPlace}
 use Rattle.blocks.specs.declared.judging.Next.{Next}
 use Rattle.blocks.specs.declared.judging.Next.TheVariants.{Ends, Stops, Goes}
 use Rattle.blocks.specs.Judging.{Judgement, is_at, is_wide, first_at, ended_at, refused_by, after_word, at_start, block_from, judged}
@@ -46,11 +45,6 @@ is_inside b s at e = omega (arith, ltb-true 0 (length (drop at s)) (is_on (ltb 0
     is_on true u e = refl
     is_on false u e = e
 
--- whether LF follows the CR at a place
-pub ended_by : (wide : Bool) (at : ℕ) (s : List ℕ) (n : ℕ) (t : Bool) → is_at 10 (drop (at + 1) s) ≡ t
-    → ended_at wide at (drop at s) n ≡ Read (record { wide = wide; crlf = t; words = n; used = cond t (at + 2) (at + 1) })
-ended_by wide at s n t e = rw (drop-drop 1 at s, e)
-
 -- what holds of each thing that may come where a word would start holds of what comes there
 
 pub cond_by : {A : Type 0} (P : A → Type 0) (t : Bool) (a b : A) → (t ≡ true → P a) → (t ≡ false → P b) → P (cond t a b)
@@ -74,15 +68,6 @@ module _ (f : Family) (wide : Bool) (places n at : ℕ) (rest : List ℕ) where
   next_ends e = rw e
 
   module _ (e : is_at 13 rest ≡ false) where
-    pub next_full : 32 ≤ n → next_of f wide places n at rest ≡ Stops (NoEnd at)
-    next_full h = rw (e, le-leb 32 n h)
-
-    pub next_short : n < 32 → length rest < word_size wide → next_of f wide places n at rest ≡ Stops (Wrong Short at)
-    next_short h hl = rw (e, lt-leb 32 n h, lt-ltb (length rest) (word_size wide) hl)
-
-    pub next_no_place : n < 32 → word_size wide ≤ length rest → places ≤ n → next_of f wide places n at rest ≡ Stops (NoPlace at)
-    next_no_place h hl hp = rw (e, lt-leb 32 n h, le-ltb (length rest) (word_size wide) hl, le-leb places n hp)
-
     pub next_word : n < 32 → word_size wide ≤ length rest → n < places → next_of f wide places n at rest ≡ step_of at (word_of f wide rest).answer
     next_word h hl hp = rw (e, lt-leb 32 n h, le-ltb (length rest) (word_size wide) hl, lt-leb places n hp)
 
@@ -161,9 +146,6 @@ start_small true = omega arith
 start_small false = omega arith
 
 module _ (f : Family) (s : List ℕ) (places : ℕ) where
-  pub judged_empty : length s ≡ 0 → judged f s places ≡ refused_by Empty
-  judged_empty e = rw (eq-eqb (length s) 0 e)
-
   module _ (start : ℕ) (some : length s ≡ 0 → ⊥) (e : start ≡ first_at (is_wide s)) where
     pub judged_no_word : is_at 13 (drop start s) ≡ true → judged f s places ≡ refused_by NoWord
     judged_no_word h = rw (ne_eqb (length s) 0 some, ← e, h)

@@ -1,21 +1,18 @@
 -- Laws of a list on its way into the room: the star, the words and the terminator, laid one after the other, are the block that is written.
-use Prim.Native.Nat.{ℕ, suc, ◌+◌, ◌-◌, ◌*◌, ◌<◌, ◌≤◌}
+use Prim.Native.Nat.{ℕ, suc, ◌+◌, ◌-◌, ◌<◌, ◌≤◌}
 use mathlib.Core.Path.{◌≡◌, refl, sym, ap, ◌∙◌}
 use mathlib.Core.Bool.{Bool, true, false, cond, ◌&&◌, ◌||◌}
-use mathlib.Core.List.{List, [], ◌∷◌, ◌++◌, append_assoc, append-nil}
-use native.Mathlib.Nat.{mul-le-mul}
+use mathlib.Core.List.{List, [], ◌∷◌, ◌++◌, append_assoc}
 use native.Mathlib.Numerals.{add-one}
 use native.Mathlib.Omega.{arith}
-use borrow.Author.Tests.{lt-ltb, le-ltb, eq-eqb, ne_eqb, ltb-true, ltb-false, eqb-false}
-use borrow.Rule.Slice.PartMut.{put_mid, mid_of}
+use borrow.Author.Tests.{ltb-true, ltb-false, eqb-false}
 use lib.Dec.{eqb, ltb}
-use lib.ListN.{length, set, take, drop, length-append, length-drop, length-set, drop_of_length-le}
-use lib.Seq.{drop-drop, take-nil, take_all, take-length, set_split}
+use lib.ListN.{length, set, take, drop, length-append, length-drop, length-set}
+use lib.Seq.{drop-drop, take-length, set_split}
 use Rattle.figures.specs.Bytes.{laid}
 use Rattle.figures.specs.Text.{star_bytes, end_bytes}
 use Rattle.figures.proofs.Bytes.{laid_fits, length_laid}
-use Rattle.words.specs.Records.{width, is_right}
-use Rattle.words.specs.Reading.{word_size}
+use Rattle.words.specs.Records.{is_right}
 use Rattle.units.specs.declared.kinds.Family.{Family}
 use Rattle.words.specs.declared.records.Word.{Word}
 use Rattle.blocks.specs.declared.answers.Refusal.{Refusal}
@@ -25,11 +22,11 @@ use Rattle.blocks.specs.declared.lists.Started.{Started}
 use Rattle.blocks.specs.Judging.{first_at}
 use Rattle.blocks.specs.Composing.{words_bytes, block_bytes, unless_wrong, Written·room, refused_room, block_in_room, written, Writes}
 use Rattle.blocks.specs.Rules.{right_all, Lawful}
-use Rattle.blocks.specs.Keeping.{right_run, sound_of, size_of, refused_start, started_of, started_room, laid_at, PutsFit, EndsFit, finished_of}
-use Rattle.blocks.proofs.Steps.{cond_by, width_small, start_small}
+use Rattle.blocks.specs.Keeping.{right_run, sound_of, size_of, refused_start, started_of, started_room, laid_at, PutsFit, finished_of}
+use Rattle.blocks.proofs.Steps.{cond_by}
 use Rattle.blocks.proofs.Rooms.{star_length, words_length}
 use Rattle.blocks.proofs.Written.{neither, lawful_written}
-use Rattle.blocks.proofs.Sound.{length_laid_at, laid_further, laid_none}
+use Rattle.blocks.proofs.Sound.{laid_further, laid_none}
 
 -- the run of right records is all of them, or ends at the first that no word gives
 module _ (f : Family) (wide : Bool) {A : Type 0} (wrong : ℕ → A) (next : A) where
@@ -72,33 +69,7 @@ set_crlf room at next e h =
     set_laid_at (set room at 13) next 10 (simp length-set h)
     ∙ (ap (laid_at next (10 ∷ [])) (set_laid_at room at 13 (omega arith)) ∙ rw e (laid_further at (13 ∷ []) (10 ∷ []) room (omega arith)))
 
--- and as a call does that lays them in all that comes from the place on
-pub part_laid : (at place len : ℕ) (bytes room last : List ℕ) → at ≡ place → len ≡ length room → at ≤ length room
-    → last ≡ laid bytes (mid_of at (len - at) room) → put_mid at (len - at) room last ≡ laid_at place bytes room
-part_laid at place len bytes room last ea el h e =
-    let size = length-drop at room in
-    let part : mid_of at (length room - at) room ≡ drop at room = take_all (length room - at) (drop at room) (omega arith) in
-    let gone : drop (length room - at) (drop at room) ≡ [] = drop_of_length-le (drop at room) {i = length room - at} (omega arith) in
-    rw (sym ea, e, el, part, gone, append-nil)
-
--- the star
-
-pub star_set : (wide : Bool) (room : List ℕ) → wide ≡ true → 0 < length room → set room 0 42 ≡ laid (star_bytes wide) room
-star_set wide [] e h = absurd (omega arith)
-star_set wide (b ∷ room) e h = rw e (sym (laid_fits (star_bytes true) (b ∷ room) (omega arith)))
-
-pub star_none : (wide : Bool) (room : List ℕ) → wide ≡ false → room ≡ laid (star_bytes wide) room
-star_none wide room e = rw (e, take-nil)
-
--- how many bytes a block has, as `size_of` adds them up
-pub sums_fit : (n start w : ℕ) (wide : Bool) → n ≤ 32 → start ≡ first_at wide → w ≡ width wide → (w ≤ 16) × (start + n * (w + 8) ≤ 769)
-sums_fit n start w wide few es ew =
-    let one : w ≤ 16 = omega (arith, width_small wide) in
-    let size : w + 8 ≤ 24 = omega arith in
-    let most : n * (w + 8) ≤ 32 * 24 = mul-le-mul few size in
-    (one, omega (arith, start_small wide))
-
--- and as they stand in it
+-- how many bytes a block has
 end_size : (crlf : Bool) → length (end_bytes crlf) ≡ cond crlf 2 1
 end_size true = refl
 end_size false = refl
@@ -140,35 +111,6 @@ module _ (f : Family) (wide crlf : Bool) (ws : List Word) (right : right_all f w
       ∙ laid_further 0 (star ++ words) end room (omega arith)
       ∙ ap (λ (bytes : List ℕ). laid bytes room) (append_assoc star words end)
 
--- what `start` answers
-module _ (n sound : ℕ) (wide crlf : Bool) (room : List ℕ) where
-  abbrev Starts : Started → List ℕ → Type 0
-  Starts st room' = (st ≡ started_of n sound wide crlf (length room)) × (room' ≡ started_room st.answer wide room)
-
-  starts_not : (st : Started) (r : Refusal) → st ≡ refused_start r → started_of n sound wide crlf (length room) ≡ refused_start r → Starts st room
-  starts_not st r e due = (e ∙ sym due, rw e)
-
-  pub starts_none : (st : Started) → st ≡ refused_start Count → n ≡ 0 → Starts st room
-  starts_none st e none = starts_not st Count e (rw (eq-eqb n 0 none))
-
-  pub starts_many : (st : Started) → st ≡ refused_start Count → 32 < n → Starts st room
-  starts_many st e many = starts_not st Count e (rw (ne_eqb n 0 (λ z. omega arith), lt-ltb 32 n many))
-
-  module _ (some : n ≡ 0 → ⊥) (few : n ≤ 32) where
-    pub starts_wrong : (st : Started) → st ≡ refused_start (Record sound) → sound < n → Starts st room
-    starts_wrong st e h = starts_not st (Record sound) e (rw (ne_eqb n 0 some, le-ltb 32 n few, lt-ltb sound n h))
-
-    module _ (right : n ≤ sound) (size : ℕ) (es : size ≡ size_of n wide crlf) where
-      pub starts_short : (st : Started) → st ≡ refused_start (Room size) → length room < size → Starts st room
-      starts_short st e h =
-          let short = lt-ltb (length room) (size_of n wide crlf) (omega arith) in
-          starts_not st (Room size) e (rw (ne_eqb n 0 some, le-ltb 32 n few, le-ltb sound n right, short, es))
-
-      pub starts_all : size ≤ length room → (room' : List ℕ) → room' ≡ laid (star_bytes wide) room → Starts (record { answer = Written size; words = n }) room'
-      starts_all h room' e =
-          let fits = le-ltb (length room) (size_of n wide crlf) (omega arith) in
-          (rw (ne_eqb n 0 some, le-ltb 32 n few, le-ltb sound n right, fits, es), e)
-
 -- what `write` puts, by what `start` answered
 
 abbrev words_in : Family → List Word → Bool → List ℕ → Started → List ℕ
@@ -176,7 +118,6 @@ words_in f l wide room st = laid_at (first_at wide) (words_bytes f wide (take st
 
 record Puts (f : Family) (l : List Word) (wide crlf : Bool) (room : List ℕ) (st : Started) : Type 0 where
   fit : PutsFit f wide st.words l (started_room st.answer wide room)
-  ends : EndsFit st.answer crlf (words_in f l wide room st)
   made : written f l wide crlf room ≡ record { answer = st.answer; room = finished_of st.answer crlf (words_in f l wide room st) }
 
 written_as : (m n : ℕ) (a b : List ℕ) → m ≡ n → a ≡ b
@@ -188,20 +129,16 @@ module _ (f : Family) (l : List Word) (wide crlf : Bool) (room : List ℕ) where
   unfolding right_all
   put_none r e =
       let fit : PutsFit f wide 0 l room = record { most = omega arith; listed = omega arith; right = refl; fits = λ h. absurd (omega arith) } in
-      record { fit = fit; ends = tt; made = rw (laid_none f wide 0 l room fit) e }
+      record { fit = fit; made = rw (laid_none f wide 0 l room fit) e }
 
   put_all : Lawful f wide l → size_of (length l) wide crlf ≤ length room
       → Puts f l wide crlf room (record { answer = Written (size_of (length l) wide crlf); words = length l })
   put_all lawful h =
       let right = lawful.right in
       let size = block_size f wide crlf l right in
-      let word : 8 ≤ word_size wide = omega arith in
-      let long : 1 * 8 ≤ length l * word_size wide = mul-le-mul lawful.some word in
       let begun = length_laid (star_bytes wide) room in
-      let worded = length_laid_at (first_at wide) (words_bytes f wide (take (length l) l)) (laid (star_bytes wide) room) in
       record {
         fit = record { most = lawful.most; listed = omega arith; right = rw (take-length l) right; fits = λ _. omega arith };
-        ends = (omega arith, omega arith);
         made = lawful_written f l wide crlf room lawful (omega arith)
             ∙ written_as (length (block_bytes f wide crlf l)) (size_of (length l) wide crlf) _ _ size
             (rw (take-length l) (sym (block_laid f wide crlf l right room h)));
@@ -239,9 +176,6 @@ module _ (f : Family) (l : List Word) (wide crlf : Bool) (room : List ℕ) (soun
   words_there = rw e₁ puts.fit
 
   module _ (room₂ : List ℕ) (e₂ : room₂ ≡ laid_at (first_at wide) (words_bytes f wide (take st.words l)) room₁) where
-    pub end_there : EndsFit st.answer crlf room₂
-    end_there = rw (e₂, e₁) puts.ends
-
     pub writes_there : (room₃ : List ℕ) → room₃ ≡ finished_of st.answer crlf room₂ → Writes f l wide crlf room st.answer room₃
     writes_there room₃ e₃ =
         let is = puts.made in

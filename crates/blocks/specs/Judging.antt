@@ -6,7 +6,6 @@ use Rattle.units.specs.declared.kinds.Family.{Family}
 use Rattle.words.specs.declared.records.Word.{Word}
 use Rattle.words.specs.declared.reading.Fault.TheVariants.{Short}
 use Rattle.words.specs.declared.reading.Judged as one
-use Rattle.words.specs.declared.reading.Judged.TheVariants.{Right}
 use Rattle.blocks.specs.declared.answers.Refusal.{Refusal}
 use Rattle.blocks.specs.declared.answers.Refusal.TheVariants.{Empty, Wrong, NoWord, NoEnd, NoPlace}
 use Rattle.blocks.specs.declared.answers.Answer.{Answer}

@@ -5,7 +5,7 @@ ghost use Rattle.blocks.specs.Answers.{refusal_number, refusal_tells};
 use words::reading::{Fault, fault_number};
 
 // Why a block or a list is refused. Wrong is one word's fault, with the byte that it tells.
-#[derive(Drop)]
+#[derive(Clone, Copy)]
 pub enum Refusal {
     Empty,
     Wrong(Fault, usize),
@@ -18,7 +18,7 @@ pub enum Refusal {
 }
 
 // An accepted block: its width, its terminator, its words and the bytes it took.
-#[derive(Drop)]
+#[derive(Clone, Copy)]
 pub struct Reading {
     pub wide: bool,
     pub crlf: bool,
@@ -26,14 +26,14 @@ pub struct Reading {
     pub used: usize,
 }
 
-#[derive(Drop)]
+#[derive(Clone, Copy)]
 pub enum Answer {
     Refused(Refusal),
     Read(Reading),
 }
 
 // Written tells the block's bytes.
-#[derive(Drop)]
+#[derive(Clone, Copy)]
 pub enum Wrote {
     Refused(Refusal),
     Written(usize),

@@ -15,19 +15,19 @@ use units::kinds::{Family, Indexed, Kind};
 use units::reader::{index_read, info_read};
 use words::reading::{Parted, parted_at, width_of};
 
-#[derive(Drop)]
+#[derive(Clone, Copy)]
 pub enum Fit {
     Not,
     Right,
 }
 
-#[derive(Drop)]
+#[derive(Clone, Copy)]
 pub enum Spelt {
     Not,
     Right,
 }
 
-#[derive(Drop)]
+#[derive(Clone, Copy)]
 pub enum Ranged {
     Not,
     Within,

@@ -9,7 +9,7 @@ use units::kinds::Family;
 use words::reading::{Fault, Judged, read_word, width_of};
 
 // What stands where a word would start: the block's end, a refusal, or a word.
-#[derive(Drop)]
+#[derive(Clone, Copy)]
 pub enum Next {
     Ends,
     Stops(Refusal),

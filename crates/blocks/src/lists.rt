@@ -20,7 +20,7 @@ use words::reading::width_of;
 use words::records::{Word, right};
 
 // The answer to a list before its words are put, and how many they are: none where it is refused.
-#[derive(Drop)]
+#[derive(Clone, Copy)]
 pub struct Started {
     pub answer: Wrote,
     pub words: usize,

@@ -40,6 +40,7 @@ fn index_in(s: &[u8], family: Family) -> u16
 }
 
 // Gives the kind of a level's index whose words hold numbers; Missing for one whose words hold text.
+#[tactic(auto, unfolding(figures::specs::Bytes::among))]
 fn level_in(index: u16) -> Kind
     requires { is_listed (kind_of Family.Level index) ≡ true }
     ensures { result ≡ cond (is_textual (kind_of Family.Level index)) Kind.Missing (kind_of Family.Level index) }

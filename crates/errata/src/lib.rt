@@ -1,4 +1,6 @@
 // What the program mend tells of a line of a listing: each edit, with carets under their places, or the refusal.
+#![tactic(auto)]
+
 ghost use Rattle.std.specs.Prelude.{◌≡◌, ◌≤◌, length, take};
 ghost use Rattle.figures.specs.Rooms.{Puts};
 ghost use Rattle.errata.specs.Errata.{kind_text, edit_text, edits_text, carets_from, shown_text, mended_text, Tells, tally_text};
@@ -18,7 +20,7 @@ use units::kinds::Family;
 pub const ENOUGH: usize = 3_800;
 
 // What became of a line: it was refused, it reads as it is, or it was mended.
-#[derive(Drop)]
+#[derive(Clone, Copy)]
 pub enum Fate {
     Refused,
     Unchanged,
@@ -26,7 +28,7 @@ pub enum Fate {
 }
 
 // How many bytes of block were put, and how many of what is told.
-#[derive(Drop)]
+#[derive(Clone, Copy)]
 pub struct Told {
     pub bytes: usize,
     pub count: usize,

@@ -14,7 +14,6 @@ use Rattle.words.specs.Records.{width}
 use Rattle.words.specs.Reading.{word_size}
 use Rattle.units.specs.declared.kinds.Family.{Family}
 use Rattle.words.specs.declared.records.Word.{Word}
-use Rattle.words.specs.declared.reading.Judged as one
 use Rattle.blocks.specs.Judging.{is_at, is_wide, first_at, block_from, judged}
 use Rattle.blocks.specs.declared.answers.Answer.TheVariants.{Read}
 use Rattle.blocks.specs.declared.answers.Reading.{Reading}

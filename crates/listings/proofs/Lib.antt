@@ -1,4 +1,3 @@
-pub mod Row
 pub mod Seen
 pub mod Turns
 pub mod Sizes

@@ -25,7 +25,7 @@ use Rattle.listings.specs.declared.edits.Edit.{Edit}
 use Rattle.listings.specs.Edits.{dot_kind, blank_kind, cr_kind, edit}
 use Rattle.listings.specs.Mending.{Mending, joined, lacks_dot, word_mended, word_taken, is_end, blank_mended, blank_taken, end_mended}
 use Rattle.listings.specs.Mending.{to_next, mended_from, mended}
-use Rattle.listings.specs.Keeping.{no_edit, edit_if, one_if, part, dotted, Walks}
+use Rattle.listings.specs.Keeping.{no_edit, edit_if, one_if, dotted, Walks}
 use Rattle.listings.proofs.Seen.{is_byte, lf_no_cr, lacks_long, star_taken, part_up, one_most}
 use Rattle.listings.proofs.Turns.{end_small, over, nothing_left, joined_on, steps, blank_most, word, word_most}
 

@@ -1,5 +1,5 @@
 -- How the code keeps what the other files define: edits by value, and the mended bytes as the walk puts them.
-use Rattle.std.specs.Prelude.{ℕ, ◌+◌, ◌-◌, ◌≡◌, Bool, cond, List, [], ◌++◌, length, take, drop, replicate}
+use Rattle.std.specs.Prelude.{ℕ, ◌+◌, ◌-◌, ◌≡◌, Bool, cond, List, ◌++◌, length, take, drop, replicate}
 use Rattle.figures.specs.Text.{codes}
 use Rattle.figures.specs.Bytes.{laid}
 use Rattle.units.specs.declared.kinds.Family.{Family}

@@ -13,14 +13,14 @@ pub const CR: u32 = 3;
 pub const EDITS: usize = 34;
 
 #[repr(C)]
-#[derive(Drop)]
+#[derive(Clone, Copy)]
 pub struct Edit {
     pub place: u32,
     pub kind: u32,
 }
 
 // A block's edits, and how many they are; those past the count are noughts.
-#[derive(Drop)]
+#[derive(Clone, Copy)]
 pub struct Edits {
     pub list: [Edit; EDITS],
     pub n: usize,

@@ -12,21 +12,21 @@ use units::kinds::Family;
 
 // Done tells the mended bytes and the edits. Of Refusal there are the reader's, told at a place of the mended bytes, Room with the bytes needed and NoPlace
 // with the number of edits.
-#[derive(Drop)]
+#[derive(Clone, Copy)]
 pub enum Mended {
     Refused(Refusal),
     Done(usize, usize),
 }
 
 // The answer, and the edits: none where it is refused.
-#[derive(Drop)]
+#[derive(Clone, Copy)]
 pub struct MendedBlock {
     pub answer: Mended,
     pub edits: Edits,
 }
 
 // A block's mended bytes, from the start of the longest block there is, whether they read or not, with how many they are and the edits.
-#[derive(Drop)]
+#[derive(Clone, Copy)]
 pub struct Unjudged {
     pub bytes: [u8; 771],
     pub walked: Walked,

@@ -10,7 +10,7 @@ use figures::rooms::put;
 use words::reading::width_of;
 
 // How many bytes were put, and the edits.
-#[derive(Drop)]
+#[derive(Clone, Copy)]
 pub struct Walked {
     pub bytes: usize,
     pub edits: Edits,

@@ -1,4 +1,6 @@
 // A word as people read it: its index and information, and its count, its step, and the value with its unit's decimals.
+#![tactic(auto)]
+
 ghost use Rattle.std.specs.Prelude.{◌≡◌, ◌<◌, ◌≤◌, ◌-◌, ◌++◌, take, drop};
 ghost use Rattle.figures.specs.Decimal.{digits_of};
 ghost use Rattle.figures.specs.Rooms.{Puts};
@@ -15,7 +17,7 @@ use words::reading::width_of;
 use words::records::{Word, count};
 
 // A count's step: the last of so many decimals of its unit; or half of the third, 1/2000, which is shown with four.
-#[derive(Drop)]
+#[derive(Clone, Copy)]
 pub enum Step {
     One,
     Three,
@@ -25,7 +27,7 @@ pub enum Step {
 }
 
 // The unit that a value is shown in.
-#[derive(Drop)]
+#[derive(Clone, Copy)]
 pub enum Unit {
     Gon,
     Degree,
@@ -38,7 +40,7 @@ pub enum Unit {
 }
 
 // What is shown of a word. A number is its sign and its size, so that no function below has a count's type to carry.
-#[derive(Drop)]
+#[derive(Clone, Copy)]
 pub enum Shown {
     Nothing,
     Text,
@@ -48,7 +50,7 @@ pub enum Shown {
 }
 
 // How many steps make one of the unit, how many decimals are shown, and the number that ends in them.
-#[derive(Drop)]
+#[derive(Clone, Copy)]
 struct Parts {
     power: u64,
     places: usize,
@@ -56,7 +58,7 @@ struct Parts {
 }
 
 // Where in the units' names one begins and ends.
-#[derive(Drop)]
+#[derive(Clone, Copy)]
 struct Span(usize, usize);
 
 // Puts the last k digits of n.

@@ -26,7 +26,7 @@ pub const ENOUGH: usize = 5_280;
 pub const TEXT_MOST: usize = 770;
 
 // How many bytes of a report were put, and whether the block was accepted.
-#[derive(Drop)]
+#[derive(Clone, Copy)]
 pub struct Reported {
     pub count: usize,
     pub accepted: bool,

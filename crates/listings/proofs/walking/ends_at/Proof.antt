@@ -5,15 +5,18 @@ use Rattle.listings.proofs.Seen.{end_byte}
 use Rattle.listings.proofs.walking.ends_at.Statement.{statement}
 use Rattle.listings.proofs.walking.ends_at.Tie as tie
 
-returns : tie.Need-returns
+returns : tie.Need-returns-then-b-eq13
 returns c =
-    let a = c.before.before.before.args in
-    rw (end_byte a.s.now a.at, ← c.before.byte_at.ensures, eq-eqb c.before.byte_at.result 13 c.if1.true)
+    let a = c.args in
+    rw (end_byte a.s.now a.at, ← c.byte_at-b.ensures, eq-eqb c.byte_at-b.result 13 c.if-b-eq13.true)
 
-returns_2 : tie.Need-returns-2
+returns_2 : tie.Need-returns
 returns_2 c =
-    let a = c.before.before.before.args in
-    rw (end_byte a.s.now a.at, ← c.before.byte_at.ensures, ne_eqb c.before.byte_at.result 13 c.if1.false)
+    let a = c.args in
+    rw (end_byte a.s.now a.at, ← c.byte_at-b.ensures, ne_eqb c.byte_at-b.result 13 c.if-b-eq13.false)
 
 pub ends_at_spec : {M : Type 1} → statement M
-ends_at_spec = tie.close (tie.spec (λ c κs. search rules) returns returns_2)
+ends_at_spec = tie.close (tie.spec
+    (λ c κs. search rules)
+    returns
+    returns_2)

@@ -7,7 +7,7 @@ use Rattle.reports.proofs.piece.put_field.Tie as tie
 returns : tie.Need-returns
 returns c =
     let digits = c.before.before in
-    puts_more _ _ _ _ digits.before.before.before.before.put.ensures digits.put-decimal.ensures
+    puts_more _ _ _ _ digits.put-next.ensures digits.put_decimal.ensures
 
 pub put_field_spec : {M : Type 1} → statement M
 put_field_spec =

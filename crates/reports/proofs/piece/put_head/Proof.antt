@@ -8,15 +8,13 @@ returns : tie.Need-returns
 returns c =
     let place = c.before.before in
     let number = place.before.before.before.before.before in
-    puts_more number.before.before.before.before.args.room.now 0 _ _ number.put-field.ensures place.put-field2.ensures
+    puts_more number.args.room.now 0 _ _ number.put_field-after_number.ensures place.put_field.ensures
 
 pub put_head_spec : {M : Type 1} → statement M
 put_head_spec =
     tie.close
     (tie.spec
-    (λ c. search rules)
     (λ c κs. search rules)
-    (λ c. search rules)
     (λ c κs. search rules)
     (λ c. search rules)
     returns)

@@ -8,8 +8,8 @@ returns : tie.Need-returns
 returns c =
     let end = c.before.before in
     let second = end.before.before.before.before.before in
-    puts_more _ _ _ _ second.before.before.before.before.put-field.ensures
-    (puts_more _ _ _ _ second.put-field2.ensures
+    puts_more _ _ _ _ second.put_field-next.ensures
+    (puts_more _ _ _ _ second.put_field-last.ensures
     end.put.ensures)
 
 pub put_line_spec : {M : Type 1} → statement M
@@ -18,7 +18,6 @@ put_line_spec =
     (tie.spec
     (λ c κs. search rules)
     (λ c κs. search rules)
-    (λ c. search rules)
     (λ c κs. search rules)
     (λ c. search rules)
     returns)

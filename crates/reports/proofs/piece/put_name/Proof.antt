@@ -12,18 +12,16 @@ returns c =
     let index = c.before.before in
     let key = index.before.before.before.before in
     let number = key.before.before.before.before.before in
-    puts_more _ _ _ _ (puts_as _ _ _ _ (ap (field_text (codes "word=")) (sym number.before.wide-count.ensures)) refl refl number.put-field.ensures)
-    (puts_more _ _ _ _ key.put.ensures
-    index.put-index.ensures)
+    puts_more _ _ _ _ (puts_as _ _ _ _ (ap (field_text (codes "word=")) (sym number.wide_count.ensures)) refl refl number.put_field-after_number.ensures)
+    (puts_more _ _ _ _ key.put-after_key.ensures
+    index.put_index.ensures)
 
 pub put_name_spec : {M : Type 1} → statement M
 put_name_spec =
     tie.close
     (tie.spec
-    (λ c. search rules)
     (λ c κs. search rules)
     (λ c κs. search rules)
-    (λ c. search rules)
     (λ c κs. search rules)
     (λ c κs. search rules)
     (λ c. search rules)

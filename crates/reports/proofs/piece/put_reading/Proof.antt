@@ -10,11 +10,11 @@ use Rattle.reports.proofs.piece.put_reading.Tie as tie
 returns : tie.Need-returns
 returns c =
     let line = c.before.before in
-    let used = line.before.wide-count2.ensures in
+    let used = line.wide_count.ensures in
     let words = line.before.before.before.before.before in
-    let count = words.wide-count.ensures in
-    puts_more _ _ _ _ words.before.before.before.put-form.ensures
-    (puts_as _ _ _ _ (sym (λ i. line_text (codes " words=") (count i) (codes " bytes=") (used i))) refl refl line.put-line.ensures)
+    let count = words.wide_count-words.ensures in
+    puts_more _ _ _ _ words.put_form-after_form.ensures
+    (puts_as _ _ _ _ (sym (λ i. line_text (codes " words=") (count i) (codes " bytes=") (used i))) refl refl line.put_line.ensures)
 
 pub put_reading_spec : {M : Type 1} → statement M
 put_reading_spec =
@@ -22,8 +22,6 @@ put_reading_spec =
     (tie.spec
     (λ c κs. search rules)
     (λ c κs. search rules)
-    (λ c. search rules)
-    (λ c. search rules)
     (λ c κs. search rules)
     (λ c κs. search rules)
     (λ c. search rules)

@@ -12,9 +12,9 @@ returns c =
     let line = c.before.before in
     let number = line.before.before in
     let told = number.before.before.before in
-    let place = told.wide-count.ensures ∙ told.before.refusal-tells.ensures in
-    puts_as _ _ _ _ (sym (λ i. line_text (codes " refused=") (number.refusal-number.ensures i) (codes " place=") (place i))) refl refl
-    line.put-line.ensures
+    let place = told.wide_count-place.ensures ∙ told.refusal_tells.ensures in
+    puts_as _ _ _ _ (sym (λ i. line_text (codes " refused=") (number.refusal_number.ensures i) (codes " place=") (place i))) refl refl
+    line.put_line.ensures
 
 pub put_refusal_spec : {M : Type 1} → statement M
 put_refusal_spec =
@@ -22,9 +22,7 @@ put_refusal_spec =
     (tie.spec
     (λ c κs. search rules)
     (λ c κs. search rules)
-    (λ c. search rules)
     (λ c κs. search rules)
-    (λ c. search rules)
     (λ c κs. search rules)
     (λ c. search rules)
     returns)

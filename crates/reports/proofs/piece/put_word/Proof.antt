@@ -8,8 +8,8 @@ returns : tie.Need-returns
 returns c =
     let end = c.before.before in
     let value = end.before.before.before.before.before in
-    puts_more _ _ _ _ value.before.before.before.before.put-name.ensures
-    (puts_more _ _ _ _ value.put-value.ensures
+    puts_more _ _ _ _ value.put_name-after_name.ensures
+    (puts_more _ _ _ _ value.put_value-after_value.ensures
     end.put.ensures)
 
 pub put_word_spec : {M : Type 1} → statement M
@@ -18,7 +18,6 @@ put_word_spec =
     (tie.spec
     (λ c κs. search rules)
     (λ c κs. search rules)
-    (λ c. search rules)
     (λ c κs. search rules)
     (λ c. search rules)
     returns)

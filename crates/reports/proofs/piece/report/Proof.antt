@@ -7,35 +7,35 @@ use Rattle.reports.proofs.Reporting.{refused_on, read_on}
 use Rattle.reports.proofs.piece.report.Statement.{statement}
 use Rattle.reports.proofs.piece.report.Tie as tie
 
-put_words_requires : tie.Need-put-words-requires
+put_words_requires : tie.Need-put_words-end-requires
 put_words_requires c κs =
     let reading = c.before.before.before in
-    let answer = reading.before.before.before in
-    let asked = answer.before.before.before.before.before.before in
-    (puts_within _ _ _ reading.put-reading.ensures, sym asked.answer-of.ensures ∙ answer.answer2.given.1)
+    let answer = reading.before.before in
+    let asked = answer.before.before.before.before.before in
+    (puts_within _ _ _ reading.put_reading-start.ensures, sym asked.answer_of-answer.ensures ∙ answer.in-Read.is)
 
-returns : tie.Need-returns
+returns : tie.Need-returns-in-Refused
 returns c =
     let place = c.before.before.before in
     let line = place.before.before.before.before in
-    let answer = line.before.before.before in
-    let head = answer.before.before.before.before in
+    let answer = line.before.before in
+    let head = answer.before.before.before in
     let asked = head.before.before in
-    let a = asked.before.before.before.args in
-    refused_on a.family a.piece.now (judged a.family a.piece.now 32) a.number a.place a.room.now head.put-head.ensures
-    answer.answer.given.0.0 (sym asked.answer-of.ensures ∙ answer.answer.given.1) line.put-refusal.ensures
-    (rw place.refusal-tells.ensures at c.before.before.put-where.ensures)
+    let a = asked.args in
+    refused_on a.family a.piece.now (judged a.family a.piece.now 32) a.number a.place a.room.now head.put_head-at.ensures
+    answer.in-Refused.refusal (sym asked.answer_of-answer.ensures ∙ answer.in-Refused.is) line.put_refusal-after_line.ensures
+    (rw place.refusal_tells.ensures at c.put_where-end.ensures)
 
-returns_2 : tie.Need-returns-2
+returns_2 : tie.Need-returns-in-Read
 returns_2 c =
     let reading = c.before.before.before.before.before.before in
-    let answer = reading.before.before.before in
-    let head = answer.before.before.before.before in
+    let answer = reading.before.before in
+    let head = answer.before.before.before in
     let asked = head.before.before in
-    let a = asked.before.before.before.args in
-    read_on a.family a.piece.now (judged a.family a.piece.now 32) a.number a.place a.room.now head.put-head.ensures
-    answer.answer2.given.0.0 (sym asked.answer-of.ensures ∙ answer.answer2.given.1) reading.put-reading.ensures
-    c.before.before.put-words.ensures
+    let a = asked.args in
+    read_on a.family a.piece.now (judged a.family a.piece.now 32) a.number a.place a.room.now head.put_head-at.ensures
+    answer.in-Read.reading (sym asked.answer_of-answer.ensures ∙ answer.in-Read.is) reading.put_reading-start.ensures
+    c.put_words-end.ensures
 
 pub report_spec : {M : Type 1} → statement M
 report_spec =

@@ -10,18 +10,15 @@ returns : tie.Need-returns
 returns c =
     let line = c.before.before in
     let blocks = line.before.before.before.before.before.before in
-    let a = blocks.before.before.before.before.args in
+    let a = blocks.args in
     puts_more a.room.now 0 (field_text (codes "blocks=") a.blocks) (line_text (codes " accepted=") a.accepted (codes " refused=") a.refused)
-    blocks.put-field.ensures line.put-line.ensures
+    blocks.put_field-after_blocks.ensures line.put_line.ensures
 
 pub tally_spec : {M : Type 1} → statement M
 tally_spec =
     tie.close
     (tie.spec
-    (λ c. search rules)
     (λ c κs. search rules)
-    (λ c. search rules)
-    (λ c. search rules)
     (λ c κs. search rules)
     (λ c. search rules)
     returns)
