@@ -12,9 +12,10 @@ use lib.Seq.{drop-cons, take-suc, take-suc-set, take_all}
 use Rattle.instrument.specs.declared.settings.Row.{Row}
 use Rattle.instrument.specs.declared.settings.Series.{Series}
 use Rattle.instrument.specs.declared.settings.Series.TheVariants.{Tps100, Tps300}
-use Rattle.instrument.specs.Settings.{rows100, rows300, setting_number, rows_of, settings_n, settings_most, no_row, row_at, held_rows, only, is_gap, in_range, in_ranges, modes161}
-use Rattle.instrument.specs.Rows.{key_bytes}
-use Rattle.instrument.proofs.Seek.{each_row, row_tested, NoneOf, past_place}
+use Rattle.instrument.specs.Settings.{rows100, rows300, setting_number, setting_place, rows_of, settings_n, settings_most, no_row, row_at, held_rows, only, is_gap, in_range, in_ranges, modes161}
+use Rattle.instrument.specs.Rows.{seek, key_bytes}
+use Rattle.instrument.specs.declared.settings.Found.TheVariants.{At}
+use Rattle.instrument.proofs.Seek.{each_row, row_tested, NoneOf, past_place, turn_at, turn_on}
 use Rattle.figures.specs.Bytes.{among, every}
 use Rattle.figures.proofs.Tests.{and_on, and_off, by_test, along, among_above}
 
@@ -61,6 +62,16 @@ key_place rs e h = rw e h
 
 pub key_past : (rs : List Row) (n place : ℕ) {r : List ℕ} → r ≡ key_bytes "s" 0 → length rs ≡ n → NoneOf place n → r ≡ key_in rs place
 key_past rs n place e long none = e ∙ ap (λ (x : Row). key_bytes "s" (setting_number x)) (past_place rs no_row n place long none)
+
+-- a turn of the lookup of a series: the row there has that number, or the place is that among the rows after it
+
+pub seek_here : (k : Series) (i n : ℕ) → setting_place k n ≡ seek setting_number (drop i (rows_of k)) i n → i < settings_n k
+    → setting_number (row_at k i) ≡ n → At i ≡ setting_place k n
+seek_here k i n e h q = turn_at setting_number (rows_of k) no_row (row_at k i) i n (setting_place k n) e h refl q
+
+pub seek_further : (k : Series) (i n : ℕ) → setting_place k n ≡ seek setting_number (drop i (rows_of k)) i n → i < settings_n k
+    → (setting_number (row_at k i) ≡ n → ⊥) → setting_place k n ≡ seek setting_number (drop (i + 1) (rows_of k)) (i + 1) n
+seek_further k i n e h q = turn_on setting_number (rows_of k) no_row (row_at k i) i n (setting_place k n) e h refl q
 
 -- parameters
 

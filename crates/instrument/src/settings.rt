@@ -9,18 +9,18 @@ use figures::casts::wide;
 // The most settings that a series has: those of a TPS300.
 pub const SETTINGS: usize = 30;
 
-#[derive(Drop)]
+#[derive(Clone, Copy)]
 pub enum Series {
     Tps100,
     Tps300,
 }
 
 // Parameters between the lowest and the highest that a setting doesn't have; 255 where there is none to leave out.
-#[derive(Drop)]
+#[derive(Clone, Copy)]
 pub struct Gaps(pub u8, pub u8, pub u8, pub u8);
 
 // A setting: its number, its lowest and highest parameter, the gaps between them, whether it can only be asked for, and the factory's parameter.
-#[derive(Drop)]
+#[derive(Clone, Copy)]
 pub struct Row {
     pub number: u16,
     pub lowest: u8,
@@ -31,7 +31,7 @@ pub struct Row {
 }
 
 // A place in a list of rows.
-#[derive(Drop)]
+#[derive(Clone, Copy)]
 pub enum Found {
     Nothing,
     At(usize),
@@ -71,6 +71,7 @@ pub fn settings_of(series: Series) -> usize
 
 // Finds the place of the setting of that number, as `setting_at` does. What asks for it seldom asks here: with one more caller `setting_at` is compiled so that
 // each row is a call.
+#[tactic(auto, using(crate::proofs::Ranges::seek_here, crate::proofs::Ranges::seek_further))]
 pub fn seek(series: Series, number: u16) -> Found
     ensures { result ≡ setting_place series number }
 {

@@ -12,7 +12,7 @@ use words::reading::{Fault, Judged, read_word};
 pub const VALUES: usize = 11;
 
 // A stored value: its index, first and last unit as they stand at position 6, and its key on a sheet, from the start of as many bytes as hold any key.
-#[derive(Drop)]
+#[derive(Clone, Copy)]
 pub struct Stored {
     pub index: u16,
     pub first: u8,
@@ -21,7 +21,7 @@ pub struct Stored {
 }
 
 // A value's eight characters.
-#[derive(Drop)]
+#[derive(Clone, Copy)]
 pub struct Eight(
     pub u8,
     pub u8,
@@ -34,13 +34,13 @@ pub struct Eight(
 );
 
 // What is stored: nothing ever, or unit, sign (0 or 1) and characters.
-#[derive(Drop)]
+#[derive(Clone, Copy)]
 pub enum Kept {
     Never,
     Put(u8, u8, Eight),
 }
 
-#[derive(Drop)]
+#[derive(Clone, Copy)]
 pub struct Value {
     pub kept: Kept,
 }

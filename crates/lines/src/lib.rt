@@ -1,4 +1,6 @@
 // The line machine: one line judged, run and answered, over a state that a host lends as an image.
+#![tactic(auto)]
+
 pub mod machine;
 pub mod orders;
 pub mod replies;

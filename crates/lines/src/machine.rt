@@ -17,7 +17,7 @@ use state::image::series_in;
 use state::judging::is_image;
 
 // The verdict, and how many bytes of reply were written.
-#[derive(Drop)]
+#[derive(Clone, Copy)]
 pub struct Told {
     pub verdict: Verdict,
     pub count: usize,

@@ -17,7 +17,7 @@ use units::kinds::{Named, named_by};
 use words::reading::{Fault, Judged, fault_number};
 
 // Word is a PUT word's fault, with the byte of the line.
-#[derive(Drop)]
+#[derive(Clone, Copy)]
 pub enum Verdict {
     Accepted,
     Unended,

@@ -1,4 +1,6 @@
 // The instrument's port: bytes come in one at a time, a line is run at its CR, and its reply goes out at once.
+#![tactic(auto)]
+
 pub mod why;
 
 ghost use Rattle.std.specs.Prelude.{◌≡◌, false, min};
@@ -12,7 +14,7 @@ use lines::verdicts::Verdict;
 pub const MOST: usize = 101;
 
 // What came in of the line that isn't ended yet, and whether the byte before was a CR.
-#[derive(Drop)]
+#[derive(Clone, Copy)]
 pub struct Port {
     pub bytes: [u8; MOST],
     pub n: usize,
@@ -20,7 +22,7 @@ pub struct Port {
 }
 
 // The port as a byte leaves it, and what the machine told of the line that it ended; where it ended none, no bytes of reply and no refusal.
-#[derive(Drop)]
+#[derive(Clone, Copy)]
 pub struct Turn {
     pub port: Port,
     pub told: Told,

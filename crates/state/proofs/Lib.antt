@@ -3,6 +3,7 @@ pub mod Rows
 pub mod Images
 pub mod Held
 pub mod Judged
+pub mod Refused
 pub mod Places
 pub mod Listed
 pub mod Determined

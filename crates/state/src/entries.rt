@@ -9,7 +9,7 @@ use instrument::values::{Kept, VALUES, Value};
 pub const ENTRIES: usize = 64;
 
 // What a SET or PUT altered, as its place in the list of settings or of values.
-#[derive(Drop)]
+#[derive(Clone, Copy)]
 pub enum Item {
     Free,
     Setting(u8),
@@ -17,20 +17,20 @@ pub enum Item {
 }
 
 // What stood there before: a setting's parameter, a value's content; the other is blank.
-#[derive(Drop)]
+#[derive(Clone, Copy)]
 pub struct Former {
     pub parameter: u8,
     pub kept: Kept,
 }
 
-#[derive(Drop)]
+#[derive(Clone, Copy)]
 pub struct Entry {
     pub item: Item,
     pub former: Former,
 }
 
 // Settings past those that the series has are 0.
-#[derive(Drop)]
+#[derive(Clone, Copy)]
 pub struct State {
     pub series: Series,
     pub settings: [u8; SETTINGS],

@@ -14,6 +14,7 @@ use instrument::settings::{Series, in_ranges};
 use instrument::values::{VALUES, parts_right};
 
 // Tells whether eleven bytes are a value that the place may hold.
+#[tactic(auto, using(crate::proofs::Held::value_never, crate::proofs::Held::value_put, crate::proofs::Held::value_none))]
 fn value_right(place: usize, s: &[u8]) -> bool
     requires { length s.now ≡ value_n }
     ensures { result ≡ value_lies place s.now }
@@ -108,6 +109,7 @@ fn entries_right(series: Series, values: &[u8], s: &[u8], count: usize) -> bool
 }
 
 // Tells whether the bytes are a state's image, judged where they lie.
+#[tactic(auto, using(crate::proofs::Refused::wrong_form, crate::proofs::Refused::out_of_range, crate::proofs::Refused::wrong_value, crate::proofs::Refused::too_many, crate::proofs::Refused::not_nought, crate::proofs::Refused::by_entries))]
 pub fn is_image(image: &[u8]) -> bool
     ensures { result ≡ is_image image.now }
 {

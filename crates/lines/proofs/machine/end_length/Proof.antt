@@ -6,11 +6,14 @@ use Rattle.figures.specs.Text.{end_bytes}
 use Rattle.lines.proofs.machine.end_length.Statement.{statement}
 use Rattle.lines.proofs.machine.end_length.Tie as tie
 
-returns : tie.Need-returns
-returns c = ap (λ (lf : Bool). length (end_bytes lf)) (sym c.if1.true ∙ c.before.ends-lf.ensures)
+returns : tie.Need-returns-then-ends_lf
+returns c = ap (λ (lf : Bool). length (end_bytes lf)) (sym c.if-ends_lf.true ∙ c.ends_lf.ensures)
 
-returns_2 : tie.Need-returns-2
-returns_2 c = ap (λ (lf : Bool). length (end_bytes lf)) (sym c.if1.false ∙ c.before.ends-lf.ensures)
+returns_2 : tie.Need-returns-else-ends_lf
+returns_2 c = ap (λ (lf : Bool). length (end_bytes lf)) (sym c.if-ends_lf.false ∙ c.ends_lf.ensures)
 
 pub end_length_spec : {M : Type 1} → statement M
-end_length_spec = tie.close (tie.spec (λ c κs. c.before.requires) returns returns_2)
+end_length_spec = tie.close (tie.spec
+    (λ c κs. c.requires)
+    returns
+    returns_2)

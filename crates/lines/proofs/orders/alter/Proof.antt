@@ -28,40 +28,40 @@ rest k s t Undo h = absurd (miss (0 ∷ 2 ∷ 4 ∷ 7 ∷ []) 5 tt h)
 rest k s t Keep h = absurd (miss (0 ∷ 2 ∷ 4 ∷ 7 ∷ []) 6 tt h)
 rest k s t NoKeyword h = refl
 
-run_set_requires : tie.Need-run-set-requires
-run_set_requires c κs = let pre = c.before.before.before.before.before.before.requires in (pre.0, rw c.before.before.order.given.1 at pre.1.1.0)
+run_set_requires : tie.Need-run_set-requires
+run_set_requires c κs = let pre = c.requires in (pre.0, rw c.in-Set.is at pre.1.1.0)
 
-word_of_requires : tie.Need-word-of-requires
-word_of_requires c κs = order_put _ (sym c.before.before.before.before.requires.1.0 ∙ c.enum_told.given.1)
+word_of_requires : tie.Need-word_of-requires
+word_of_requires c κs = order_put _ (sym c.requires.1.0 ∙ c.in-Put.is)
 
-run_put_requires : tie.Need-run-put-requires
+run_put_requires : tie.Need-run_put-requires
 run_put_requires c κs =
-    let pre = c.before.before.before.before.before.before.requires in
-    (pre.0, rw c.before.word_of.ensures (rw c.before.before.enum_told.given.1 at pre.1.1.0))
+    let pre = c.requires in
+    (pre.0, rw c.word_of.ensures (rw c.in-Put.is at pre.1.1.0))
 
 undo_requires : tie.Need-undo-requires
 undo_requires c κs =
-    let start = c.before.before.before.before.before in
-    (start.requires.0, undo_some (state_in start.args.image.now) (rw c.before.enum-told2.given.1 at start.requires.1.1.0))
+    let start = c.before.before.before.before in
+    (start.requires.0, undo_some (state_in start.args.image.now) (rw c.in-Undo.is at start.requires.1.1.0))
 
-returns : tie.Need-returns
-returns c = rw c.before.before.before.before.before.order.given.1 c.before.before.run-set.ensures
+returns : tie.Need-returns-in-Set
+returns c = rw c.in-Set.is c.run_set.ensures
 
-returns_2 : tie.Need-returns-2
-returns_2 c = rw c.before.before.before.before.before.enum_told.given.1 (c.before.before.run-put.ensures ∙ rw c.before.before.before.before.word_of.ensures)
+returns_2 : tie.Need-returns-in-Put
+returns_2 c = rw c.in-Put.is (c.run_put.ensures ∙ rw c.word_of.ensures)
 
-returns_3 : tie.Need-returns-3
-returns_3 c = rw c.before.before.before.before.enum-told2.given.1 c.before.before.undo.ensures
+returns_3 : tie.Need-returns-in-Undo
+returns_3 c = rw c.in-Undo.is c.undo.ensures
 
-returns_4 : tie.Need-returns-4
-returns_4 c = rw c.before.before.before.before.enum-told3.given.1 (c.before.before.clear.ensures ∙ keep_laid c.before.before.before.before.before.before.before.before.requires.0)
+returns_4 : tie.Need-returns-in-Keep
+returns_4 c = rw c.in-Keep.is (c.clear.ensures ∙ keep_laid c.requires.0)
 
-returns_5 : tie.Need-returns-5
+returns_5 : tie.Need-returns-in_default
 returns_5 c =
     let start = c.before.before.before in
     let a = start.args in
     let l = a.image.now in
-    (image_of_lem l start.requires.0.is).1 ∙ ap image_of (rest a.series (state_in l) a.text.now a.order c.match.keys5)
+    (image_of_lem l start.requires.0.is).1 ∙ ap image_of (rest a.series (state_in l) a.text.now a.order c.in_default.in_default-own.keys5)
 
 pub alter_spec : {M : Type 1} → statement M
 alter_spec =

@@ -4,14 +4,14 @@ use borrow.Author.Rules.{rules}
 use Rattle.lines.proofs.orders.put_back.Statement.{statement}
 use Rattle.lines.proofs.orders.put_back.Tie as tie
 
-returns : tie.Need-returns
-returns c = rw c.enum_told.given.1
+returns : tie.Need-returns-in-Free
+returns c = rw c.in-Free.is
 
-returns_2 : tie.Need-returns-2
-returns_2 c = rw c.before.before.before.before.before.before.item.given.1 (c.before.before.put-parameter.ensures ∙ rw c.before.before.before.before.place_of.ensures)
+returns_2 : tie.Need-returns-in-Setting
+returns_2 c = rw c.in-Setting.is (c.put_parameter.ensures ∙ rw c.place_of.ensures)
 
-returns_3 : tie.Need-returns-3
-returns_3 c = rw c.before.before.before.before.before.before.item2.given.1 (c.before.before.put-value.ensures ∙ rw c.before.before.before.before.place-of2.ensures)
+returns_3 : tie.Need-returns-in-Stored
+returns_3 c = rw c.in-Stored.is (c.put_value.ensures ∙ rw c.place_of-in-Stored.ensures)
 
 pub put_back_spec : {M : Type 1} → statement M
 put_back_spec =

@@ -17,43 +17,43 @@ use Rattle.lines.proofs.Runs.{set_may}
 use Rattle.lines.proofs.orders.run_set.Statement.{statement}
 use Rattle.lines.proofs.orders.run_set.Tie as tie
 
-abbrev start : tie.After-place → tie.Start
-start c = c.before.before.before.before
+abbrev start : tie.In-At → tie.Start
+start c = c.before.before.before
 
-abbrev place : tie.After-place → ℕ
-place c = c.place.given.0.0
+abbrev place : tie.In-At → ℕ
+place c = c.in-At.place
 
 -- the place that was found
-looked : (c : tie.After-place) → setting_place (start c).args.series (start c).args.number ≡ At (place c)
-looked c = sym c.before.before.setting-of.ensures ∙ c.place.given.1
+looked : (c : tie.In-At) → setting_place (start c).args.series (start c).args.number ≡ At (place c)
+looked c = sym c.setting_of.ensures ∙ c.in-At.is
 
-returns : tie.Need-returns
+returns : tie.Need-returns-in_default
 returns c =
-    let s = c.before.before.before.before in
-    rw (sym c.before.before.setting-of.ensures ∙ c.enum_told.given.1) (image_of_lem s.args.image.now s.requires.0.is).1
+    let s = c.before.before.before in
+    rw (sym c.setting_of.ensures ∙ c.in_default.is) (image_of_lem s.args.image.now s.requires.0.is).1
 
 -- and what acceptance says of it
-may : (c : tie.After-place) → May (state_in (start c).args.image.now) (changes (set_to (place c) (start c).args.parameter))
+may : (c : tie.In-At) → May (state_in (start c).args.image.now) (changes (set_to (place c) (start c).args.parameter))
 may c =
     let s = start c in
     let of : setting_place (state_in s.args.image.now).series s.args.number ≡ At (place c) =
-    ap (λ (k : Series). setting_place k s.args.number) (series_read s.pre.0) ∙ looked c in
-    rw of at (set_may (state_in s.args.image.now) s.args.number s.args.parameter s.pre.1)
+    ap (λ (k : Series). setting_place k s.args.number) (series_read s.requires.0) ∙ looked c in
+    rw of at (set_may (state_in s.args.image.now) s.args.number s.args.parameter s.requires.1)
 
 small_requires : tie.Need-small-requires
 small_requires c κs =
-    let found = c.before in
+    let found = c in
     let s = start found in
     omega (arith, range_byte (state_in s.args.image.now).series (place found) s.args.parameter (may found).1.2)
 
 set_requires : tie.Need-set-requires
 set_requires c κs =
-    let found = c.before.before.before in
+    let found = c.before.before in
     let s = start found in
-    (s.pre.0, (setting_in s.args.series s.args.number (place found) (looked found), (may found).0))
+    (s.requires.0, (setting_in s.args.series s.args.number (place found) (looked found), (may found).0))
 
-returns_2 : tie.Need-returns-2
-returns_2 c = rw (looked c.before.before.before.before.before.before) (c.before.before.set.ensures ∙ rw c.before.before.before.before.small.ensures)
+returns_2 : tie.Need-returns
+returns_2 c = rw (looked c.before.before.before.before.before) (c.set.ensures ∙ rw c.small.ensures)
 
 pub run_set_spec : {M : Type 1} → statement M
 run_set_spec =

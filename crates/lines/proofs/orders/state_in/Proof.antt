@@ -18,18 +18,18 @@ long c = image_long c.requires
 
 returns : tie.Need-returns
 returns c =
-    let a = c.before.before.before.before.before.before.before.args in
+    let a = c.args in
     let k = a.series in
     let l = a.image.now in
-    let values = c.before.before.before.before.before.values_at.result in
-    let at : values ≡ values_at k = c.before.before.before.before.before.values_at.ensures.0 in
+    let values = c.values_at-values.result in
+    let at : values ≡ values_at k = c.values_at-values.ensures.0 in
     let settings : values - 1 ≡ settings_n k = omega arith in
     let to-count : values + 121 - values ≡ count_at = omega arith in
     let to_end : values + 1019 - (values + 123) ≡ entries_n * entry_n = omega arith in
     let entries : drop (values + 123) l ≡ drop entries_at (drop (values_at k) l) = sym (drop-drop 123 values l) ∙ ap (λ (i : ℕ). drop 123 (drop i l)) at in
-    c.state-of.ensures
-    ∙ (λ i. state_of k (take (settings i) (drop 1 l)) (take (to-count i) (drop (at i) l)) (take (to_end i) (entries i)) (c.before.before.before.before.count-in.ensures i))
-    ∙ state_read c.before.before.before.before.before.before.before.requires
+    c.state_of.ensures
+    ∙ (λ i. state_of k (take (settings i) (drop 1 l)) (take (to-count i) (drop (at i) l)) (take (to_end i) (entries i)) (c.count_in-n.ensures i))
+    ∙ state_read c.requires
 
 pub state_in_spec : {M : Type 1} → statement M
 state_in_spec =

@@ -11,29 +11,29 @@ use Rattle.lines.proofs.Replying.{conf_body_long, get_length, get_body_long}
 use Rattle.lines.proofs.replies.body_length.Statement.{statement}
 use Rattle.lines.proofs.replies.body_length.Tie as tie
 
-sub_get_length : tie.Need-overflow-sub-get-length
+sub_get_length : tie.Need-overflow_sub-text
 sub_get_length c =
     let get = c.before in
-    let s = get.before.before.before.before in
-    get_length (state_in s.args.image.now) s.args.text.now s.args.order get.enum-told5.given.1 s.requires.1.0 s.requires.1.1.0
+    let s = get.before.before.before in
+    get_length (state_in s.args.image.now) s.args.text.now s.args.order get.in-Get.is s.requires.1.0 s.requires.1.1.0
 
-get_length_requires : tie.Need-get-length-requires
-get_length_requires c κs = let s = c.before.before.before.before.before in omega (arith, s.requires.1.1.1)
+get_length_requires : tie.Need-get_length-requires
+get_length_requires c κs = let s = c.before.before.before.before in omega (arith, s.requires.1.1.1)
 
-returns_3 : tie.Need-returns-3
+returns_3 : tie.Need-returns-in-Conf
 returns_3 c =
-    let s = c.before.before.before.before in
-    let conf = c.enum-told3.given in
-    sym (conf_body_long (state_in s.args.image.now) s.args.text.now s.args.order conf.0.0 conf.1 s.requires.1.1.0)
+    let s = c.before.before.before in
+    let conf = c.in-Conf in
+    sym (conf_body_long (state_in s.args.image.now) s.args.text.now s.args.order conf.field-0 conf.is s.requires.1.1.0)
 
-returns_5 : tie.Need-returns-5
+returns_5 : tie.Need-returns-in-Get
 returns_5 c =
     let wide = c.before in
     let get = wide.before in
-    let s = get.before.before.before.before in
+    let s = get.before.before.before in
     c.get_length.ensures
-    ∙ ap (λ (b : Bool). get_n b ((length s.args.text.now - 5) / 5)) wide.is_IsWide.ensures
-    ∙ sym (get_body_long (state_in s.args.image.now) s.args.text.now s.args.order get.enum-told5.given.1 s.requires.1.0 s.requires.1.1.0)
+    ∙ ap (λ (b : Bool). get_n b ((length s.args.text.now - 5) / 5)) wide.is_wide.ensures
+    ∙ sym (get_body_long (state_in s.args.image.now) s.args.text.now s.args.order get.in-Get.is s.requires.1.0 s.requires.1.1.0)
 
 pub body_length_spec : {M : Type 1} → statement M
 body_length_spec =

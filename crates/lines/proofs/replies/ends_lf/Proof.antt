@@ -11,19 +11,25 @@ use Rattle.lines.proofs.Lookups.{parameter_found}
 use Rattle.lines.proofs.replies.ends_lf.Statement.{statement}
 use Rattle.lines.proofs.replies.ends_lf.Tie as tie
 
-found : (c : tie.After-enum-told) → setting_place c.before.before.before.args.series 73 ≡ At 10
+found : (c : tie.In-Tps100) → setting_place c.args.series 73 ≡ At 10
 unfolding seek rows100
-found c = rw c.enum_told.given.1
+found c = rw c.in-Tps100.is
 
-found_2 : (c : tie.After-enum-told2) → setting_place c.before.before.before.args.series 73 ≡ At 9
+found_2 : (c : tie.In-Tps300) → setting_place c.args.series 73 ≡ At 9
 unfolding seek rows300
-found_2 c = rw c.enum-told2.given.1
+found_2 c = rw c.in-Tps300.is
 
-returns : tie.Need-returns
-returns c = ap (λ (p : ℕ). not (eqb p 0)) (c.parameter-in.ensures ∙ parameter_found c.before.before.before.before.requires 73 10 (found c.before))
+returns : tie.Need-returns-in-Tps100
+returns c = ap (λ (p : ℕ). not (eqb p 0)) (c.parameter_in.ensures ∙ parameter_found c.requires 73 10 (found c.before))
 
-returns_2 : tie.Need-returns-2
-returns_2 c = ap (λ (p : ℕ). not (eqb p 0)) (c.parameter-in2.ensures ∙ parameter_found c.before.before.before.before.requires 73 9 (found_2 c.before))
+returns_2 : tie.Need-returns-in-Tps300
+returns_2 c = ap (λ (p : ℕ). not (eqb p 0)) (c.parameter_in-in-Tps300.ensures ∙ parameter_found c.requires 73 9 (found_2 c.before))
 
 pub ends_lf_spec : {M : Type 1} → statement M
-ends_lf_spec = tie.close (tie.spec (λ c. search rules) (λ c κs. search rules) (λ c. search rules) (λ c κs. search rules) returns returns_2)
+ends_lf_spec = tie.close (tie.spec
+    (λ c. search rules)
+    (λ c κs. search rules)
+    (λ c. search rules)
+    (λ c κs. search rules)
+    returns
+    returns_2)

@@ -12,16 +12,21 @@ use Rattle.lines.proofs.Lookups.{parameter_found}
 use Rattle.lines.proofs.replies.is_wide.Statement.{statement}
 use Rattle.lines.proofs.replies.is_wide.Tie as tie
 
-found : (c : tie.After-enum-told2) → setting_place c.before.before.before.args.series 137 ≡ At 25
+found : (c : tie.In-Tps300) → setting_place c.args.series 137 ≡ At 25
 unfolding seek rows300
-found c = rw c.enum-told2.given.1
+found c = rw c.in-Tps300.is
 
-returns : tie.Need-returns
+returns : tie.Need-returns-in-Tps100
 unfolding seek rows100
-returns c = rw (series_read c.before.before.before.requires ∙ c.enum_told.given.1)
+returns c = rw (series_read c.requires ∙ c.in-Tps100.is)
 
-returns_2 : tie.Need-returns-2
-returns_2 c = ap (λ (p : ℕ). not (eqb p 0)) (c.parameter-in.ensures ∙ parameter_found c.before.before.before.before.requires 137 25 (found c.before))
+returns_2 : tie.Need-returns-in-Tps300
+returns_2 c = ap (λ (p : ℕ). not (eqb p 0)) (c.parameter_in.ensures ∙ parameter_found c.requires 137 25 (found c.before))
 
 pub is_wide_spec : {M : Type 1} → statement M
-is_wide_spec = tie.close (tie.spec (λ c. search rules) (λ c. search rules) (λ c κs. search rules) returns returns_2)
+is_wide_spec = tie.close (tie.spec
+    (λ c. search rules)
+    (λ c. search rules)
+    (λ c κs. search rules)
+    returns
+    returns_2)

@@ -38,7 +38,7 @@ rest s t Undo h = refl
 rest s t Keep h = refl
 rest s t NoKeyword h = absurd (miss (1 ∷ 3 ∷ 5 ∷ 6 ∷ []) 7 tt h)
 
-abbrev start : tie.After-ends-lf → tie.Start
+abbrev start : tie.After-ends_lf-lf → tie.Start
 start c = c.before.before.before.before
 
 -- the state whose image it is
@@ -46,186 +46,186 @@ abbrev state : tie.Start → State
 state s = state_in s.args.image.now
 
 -- where the end was asked for, from CONF's text and from the arm of GET
-abbrev from_conf : tie.After-conf-body → tie.After-ends-lf
-from_conf c = c.before.before.before.before
+abbrev from_conf : tie.After-conf_body-body → tie.After-ends_lf-lf
+from_conf c = c.before.before
 
-abbrev from_get : tie.After-is-wide → tie.After-ends-lf
-from_get c = c.before.before.before
+abbrev from_get : tie.After-is_wide-wide → tie.After-ends_lf-lf
+from_get c = c.before.before
 
-conf_body_requires : tie.Need-conf-body-requires
+conf_body_requires : tie.Need-conf_body-body-requires
 conf_body_requires c κs =
-    let order = c.before.order.given in
-    let s = start c.before.before.before in (
-      s.pre.0,
-      ap (λ (k : Series). conf_verdict k order.0.0) (sym (series_read s.pre.0))
-          ∙ sym (ap (order_verdict (state s) s.args.text.now) order.1)
-          ∙ s.pre.1.0.1.0,
+    let order = c.in-Conf in
+    let s = start c.before in (
+      s.requires.0,
+      ap (λ (k : Series). conf_verdict k order.number) (sym (series_read s.requires.0))
+          ∙ sym (ap (order_verdict (state s) s.args.text.now) order.is)
+          ∙ s.requires.1.0.1.0,
     )
 
 -- CONF's text is its reply
-conf_is : (c : tie.After-conf-body) →
+conf_is : (c : tie.After-conf_body-body) →
     let s = start (from_conf c) in
-    c.conf-body.result ≡ body_of (state s) s.args.text.now s.args.order
+    c.conf_body-body.result ≡ body_of (state s) s.args.text.now s.args.order
 conf_is c =
     let s = start (from_conf c) in
-    let order = c.before.before.order.given in
-    c.conf-body.ensures
-    ∙ ap (λ (k : Series). conf_body k (state s).settings order.0.0) (sym (series_read s.pre.0))
-    ∙ sym (ap (body_of (state s) s.args.text.now) order.1)
+    let order = c.in-Conf in
+    c.conf_body-body.ensures
+    ∙ ap (λ (k : Series). conf_body k (state s).settings order.number) (sym (series_read s.requires.0))
+    ∙ sym (ap (body_of (state s) s.args.text.now) order.is)
 
-put_text_requires : tie.Need-put-text-requires
+put_text_requires : tie.Need-put_text-requires
 put_text_requires c κs =
     let conf = c.before.before in
-    let lf = (from_conf conf).ends-lf in
+    let lf = (from_conf conf).ends_lf-lf in
     let s = start (from_conf conf) in
     let a = s.args in
-    reply_fits (state s) a.text.now a.order conf.conf-body.result lf.result (length a.room.now) (conf_is conf) lf.ensures s.pre.1.1
+    reply_fits (state s) a.text.now a.order conf.conf_body-body.result lf.result (length a.room.now) (conf_is conf) lf.ensures s.requires.1.1
 
 -- the line of GET is long enough
-long : (c : tie.After-is-wide) → 5 ≤ length (start (from_get c)).args.text.now
+long : (c : tie.After-is_wide-wide) → 5 ≤ length (start (from_get c)).args.text.now
 long c =
     let s = start (from_get c) in
-    get_length (state s) s.args.text.now s.args.order c.before.enum_told.given.1 s.pre.1.0.0 s.pre.1.0.1.0
+    get_length (state s) s.args.text.now s.args.order c.in-Get.is s.requires.1.0.0 s.requires.1.0.1.0
 
 -- and so is what it's answered
-words_long : (c : tie.After-get-length) →
+words_long : (c : tie.After-get_length-n) →
     let s = start (from_get c.before) in
-    length (body_of (state s) s.args.text.now s.args.order) ≡ c.get_length.result
+    length (body_of (state s) s.args.text.now s.args.order) ≡ c.get_length-n.result
 words_long c =
     let s = start (from_get c.before) in
     let n = (length s.args.text.now - 5) / 5 in
-    get_body_long (state s) s.args.text.now s.args.order c.before.before.enum_told.given.1 s.pre.1.0.0 s.pre.1.0.1.0
-    ∙ ap (λ (b : Bool). get_n b n) (sym c.before.is_IsWide.ensures)
-    ∙ sym c.get_length.ensures
+    get_body_long (state s) s.args.text.now s.args.order c.in-Get.is s.requires.1.0.0 s.requires.1.0.1.0
+    ∙ ap (λ (b : Bool). get_n b n) (sym c.is_wide-wide.ensures)
+    ∙ sym c.get_length-n.ensures
 
-sub_get_length : tie.Need-overflow-sub-get-length
+sub_get_length : tie.Need-overflow_sub-text
 sub_get_length c = long c
 
-get_length_requires : tie.Need-get-length-requires
+get_length_requires : tie.Need-get_length-n-requires
 get_length_requires c κs = omega (arith, (start (from_get c)).requires.1.0.1.1)
 
-sub_put_words : tie.Need-overflow-sub-put-words
+sub_put_words : tie.Need-slice_bounds-put_words-count
 sub_put_words c = long c.before
 
-part_put_words_start : tie.Need-slice-bounds-put-words-start
+part_put_words_start : tie.Need-slice_bounds-put_words-start
 part_put_words_start c = omega (arith, long c.before)
 
-put_words_requires : tie.Need-put-words-requires
+put_words_requires : tie.Need-put_words-requires
 put_words_requires c κs =
     let wide = c.before.before.before in
     let s = start (from_get wide) in
     let a = s.args in (
-      s.pre.0,
-      rw wide.is_IsWide.ensures
-          (get_fits (state s) a.text.now a.order wide.before.enum_told.given.1 s.pre.1.0.0 s.pre.1.0.1.0 a.room.now s.pre.1.1),
+      s.requires.0,
+      rw wide.is_wide-wide.ensures
+          (get_fits (state s) a.text.now a.order wide.in-Get.is s.requires.1.0.0 s.requires.1.0.1.0 a.room.now s.requires.1.1),
     )
 
-abbrev from_words : tie.After-slice-known3 → tie.After-get-length
+abbrev from_words : tie.After-slice_known-in-Get-1 → tie.After-get_length-n
 from_words c = c.before.before.before.before.before
 
 -- GET's words end within the room
-within : (c : tie.After-slice-known3) → (from_words c).get_length.result ≤ length c.before.before.put-words.new.1.1.1.1.0
+within : (c : tie.After-slice_known-in-Get-1) → (from_words c).get_length-n.result ≤ length c.put_words.new.room
 within c =
     let get = from_words c in
-    omega (arith, words_long get, (start (from_get get.before)).requires.1.1, c.before.before.put-words.auto.1.1.1.1.0)
+    omega (arith, words_long get, (start (from_get get.before)).requires.1.1, c.put_words.auto.room)
 
-sub_put_end : tie.Need-overflow-sub-put-end
+sub_put_end : tie.Need-slice_bounds-put_end-count
 sub_put_end c = within c
 
-part_put_end_start : tie.Need-slice-bounds-put-end-start
+part_put_end_start : tie.Need-slice_bounds-put_end-start
 part_put_end_start c = omega (arith, within c)
 
 -- and so does the end behind them
-put_end_requires : tie.Need-put-end-requires
+put_end_requires : tie.Need-put_end-requires
 put_end_requires c κs =
     let get = from_words c.before in
     let s = start (from_get get.before) in
-    let n = get.get_length.result in
-    let words = c.before.before.before.put-words in
-    let room = words.new.1.1.1.1.0 in
+    let n = get.get_length-n.result in
+    let words = c.put_words in
+    let room = words.new.room in
     let left = length_mid n (length room - n) room (omega (arith, within c.before)) in
-    rw (from_get get.before).ends-lf.ensures (omega (arith, words_long get, s.pre.1.1, words.auto.1.1.1.1.0, left))
+    rw (from_get get.before).ends_lf-lf.ensures (omega (arith, words_long get, s.requires.1.1, words.auto.room, left))
 
-put_end_requires_2 : tie.Need-put-end-requires-2
+put_end_requires_2 : tie.Need-put_end-requires-in-WrongShape
 put_end_requires_2 c κs =
-    let lf = c.before.before.before in
-    rw lf.ends-lf.ensures (omega (arith, (start lf).requires.1.1))
+    let lf = c.before.before in
+    rw lf.ends_lf-lf.ensures (omega (arith, (start lf).requires.1.1))
 
-put_end_requires_3 : tie.Need-put-end-requires-3
+put_end_requires_3 : tie.Need-put_end-requires-in-NoKeyword
 put_end_requires_3 c κs =
-    let lf = c.before.before.before in
-    rw lf.ends-lf.ensures (omega (arith, (start lf).requires.1.1))
+    let lf = c.before.before in
+    rw lf.ends_lf-lf.ensures (omega (arith, (start lf).requires.1.1))
 
-put_text_requires_2 : tie.Need-put-text-requires-2
+put_text_requires_2 : tie.Need-put_text-requires-in_default
 put_text_requires_2 c κs =
-    let lf = c.before.before.before in
+    let lf = c.before.before.before.before in
     let s = start lf in
     let a = s.args in
-    let is = rest (state s) a.text.now a.order c.before.before.match.keys5 in
-    reply_fits (state s) a.text.now a.order done lf.ends-lf.result (length a.room.now) is lf.ends-lf.ensures s.pre.1.1
+    let is = rest (state s) a.text.now a.order c.in_default.in_default-own.keys5 in
+    reply_fits (state s) a.text.now a.order done lf.ends_lf-lf.result (length a.room.now) is lf.ends_lf-lf.ensures s.requires.1.1
 
-returns : tie.Need-returns
+returns : tie.Need-returns-in-Conf
 returns c =
     let conf = c.before.before.before.before.before in
-    let lf = (from_conf conf).ends-lf in
+    let lf = (from_conf conf).ends_lf-lf in
     let s = start (from_conf conf) in
     let a = s.args in
-    let p = c.before.before.put-text in
-    reply_laid (state s) a.text.now a.order conf.conf-body.result lf.result a.room.now p.new.1.1.0
+    let p = c.put_text in
+    reply_laid (state s) a.text.now a.order conf.conf_body-body.result lf.result a.room.now p.new.room
     (conf_is conf) lf.ensures p.ensures
 
-returns_2 : tie.Need-returns-2
+returns_2 : tie.Need-returns-in-Get
 returns_2 c =
     let words = c.before.before.before.before.before.before in
     let get = words.before.before.before in
     let wide = get.before in
-    let lf = (from_get wide).ends-lf in
+    let lf = (from_get wide).ends_lf-lf in
     let s = start (from_get wide) in
     let a = s.args in
     let t = a.text.now in
     let room = a.room.now in
     let w = body_of (state s) t a.order in
     let is : w ≡ groups_body (answers_wide (state s)) (state s).values (groups_in (drop 5 t)) (drop 5 t) =
-    get_body (state s) t a.order wide.before.enum_told.given.1 s.pre.1.0.0 s.pre.1.0.1.0
+    get_body (state s) t a.order wide.in-Get.is s.requires.1.0.0 s.requires.1.0.1.0
     in
-    let g = words.put-words in
-    let p = c.before.before.put-end in
-    let down : g.new.1.1.1.1.0 ≡ laid w room = rw (is, ← wide.is_IsWide.ensures, ← to_end 5 t) g.ensures in
+    let g = words.put_words in
+    let p = c.put_end in
+    let down : g.new.room ≡ laid w room = rw (is, ← wide.is_wide-wide.ensures, ← to_end 5 t) g.ensures in
     reply_laid (state s) t a.order w lf.result room _ refl lf.ensures
-    (laid_then w (end_bytes lf.result) room g.new.1.1.1.1.0 p.new.1.0 get.get_length.result (sym (words_long get))
-    (reply_fits (state s) t a.order w lf.result (length room) refl lf.ensures s.pre.1.1)
+    (laid_then w (end_bytes lf.result) room g.new.room p.new.room get.get_length-n.result (sym (words_long get))
+    (reply_fits (state s) t a.order w lf.result (length room) refl lf.ensures s.requires.1.1)
     down
     p.ensures)
 
-returns_3 : tie.Need-returns-3
+returns_3 : tie.Need-returns-in-WrongShape
 returns_3 c =
     let none = c.before.before.before.before in
-    let lf = none.before.before in
+    let lf = none.before in
     let s = start lf in
     let a = s.args in
-    let p = c.before.before.put-end2 in
-    let is = sym (ap (body_of (state s) a.text.now) none.enum-told2.given.1) in
-    reply_laid (state s) a.text.now a.order [] lf.ends-lf.result a.room.now p.new.1.0 is lf.ends-lf.ensures p.ensures
+    let p = c.put_end-in-WrongShape in
+    let is = sym (ap (body_of (state s) a.text.now) none.in-WrongShape.is) in
+    reply_laid (state s) a.text.now a.order [] lf.ends_lf-lf.result a.room.now p.new.room is lf.ends_lf-lf.ensures p.ensures
 
-returns_4 : tie.Need-returns-4
+returns_4 : tie.Need-returns-in-NoKeyword
 returns_4 c =
     let none = c.before.before.before.before in
-    let lf = none.before.before in
+    let lf = none.before in
     let s = start lf in
     let a = s.args in
-    let p = c.before.before.put-end3 in
-    let is = sym (ap (body_of (state s) a.text.now) none.enum-told3.given.1) in
-    reply_laid (state s) a.text.now a.order [] lf.ends-lf.result a.room.now p.new.1.0 is lf.ends-lf.ensures p.ensures
+    let p = c.put_end-in-NoKeyword in
+    let is = sym (ap (body_of (state s) a.text.now) none.in-NoKeyword.is) in
+    reply_laid (state s) a.text.now a.order [] lf.ends_lf-lf.result a.room.now p.new.room is lf.ends_lf-lf.ensures p.ensures
 
-returns_5 : tie.Need-returns-5
+returns_5 : tie.Need-returns-in_default
 returns_5 c =
-    let arm = c.before.before.before.before.before in
+    let arm = c.before.before.before.before.before.before in
     let lf = arm.before in
     let s = start lf in
     let a = s.args in
-    let p = c.before.before.put-text2 in
-    let is = rest (state s) a.text.now a.order arm.match.keys5 in
-    reply_laid (state s) a.text.now a.order done lf.ends-lf.result a.room.now p.new.1.1.0 is lf.ends-lf.ensures p.ensures
+    let p = c.put_text-in_default in
+    let is = rest (state s) a.text.now a.order arm.in_default.in_default-own.keys5 in
+    reply_laid (state s) a.text.now a.order done lf.ends_lf-lf.result a.room.now p.new.room is lf.ends_lf-lf.ensures p.ensures
 
 pub put_reply_spec : {M : Type 1} → statement M
 put_reply_spec =
@@ -252,7 +252,6 @@ put_reply_spec =
     put_end_requires_2
     (λ c. search rules)
     put_end_requires_3
-    (λ c. search rules)
     put_text_requires_2
     (λ c. search rules)
     returns

@@ -10,21 +10,21 @@ use Rattle.lines.proofs.Replying.{laid_then}
 use Rattle.lines.proofs.replies.put_text.Statement.{statement}
 use Rattle.lines.proofs.replies.put_text.Tie as tie
 
-put_end_requires : tie.Need-put-end-requires
+put_end_requires : tie.Need-put_end-requires
 put_end_requires c κs =
     let first = c.before.before.before in
     let s = first.before.before.before.before in
     let n = length s.args.w.now in
-    let room = first.lay.new.1.0 in
-    omega (arith, s.requires, first.lay.auto.1.0, length_mid n (length room - n) room (omega (arith, s.requires, first.lay.auto.1.0)))
+    let room = first.lay.new.room in
+    omega (arith, s.requires, first.lay.auto.room, length_mid n (length room - n) room (omega (arith, s.requires, first.lay.auto.room)))
 
 returns : tie.Need-returns
 returns c =
     let first = c.before.before.before.before.before.before in
     let s = first.before.before.before.before in
     let w = s.args.w.now in
-    let last = c.before.before.put-end in
-    laid_then w (end_bytes s.args.lf) s.args.room.now first.lay.new.1.0 last.new.1.0 (length w) refl s.requires
+    let last = c.put_end in
+    laid_then w (end_bytes s.args.lf) s.args.room.now first.lay.new.room last.new.room (length w) refl s.requires
     first.lay.ensures
     last.ensures
 

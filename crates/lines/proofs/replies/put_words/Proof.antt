@@ -13,29 +13,29 @@ use Rattle.lines.proofs.replies.put_words.Statement.{statement}
 use Rattle.lines.proofs.replies.put_words.Tie as tie
 
 -- there is room for the words behind `*`
-left : (c : tie.After-put-star) →
-    let a = c.before.before.before.before.before.args in
+left : (c : tie.After-put_star-at) →
+    let a = c.args in
     let g = a.groups.now in
-    c.put-star.result + length (groups_words a.wide (state_in a.image.now).values (groups_in g) g) ≤ length c.put-star.new.1.0
+    c.put_star-at.result + length (groups_words a.wide (state_in a.image.now).values (groups_in g) g) ≤ length c.put_star-at.new.room
 left c =
     let s = c.before.before.before.before.before in
     let a = s.args in
     let g = a.groups.now in
     let both = length-append (star_bytes a.wide) (groups_words a.wide (state_in a.image.now).values (groups_in g) g) in
-    omega (arith, s.requires.1.fits, c.put-star.ensures.0, c.put-star.auto.1.0, both)
+    omega (arith, s.requires.1.fits, c.put_star-at.ensures.0, c.put_star-at.auto.room, both)
 
-sub_put_get : tie.Need-overflow-sub-put-get
+sub_put_get : tie.Need-slice_bounds-put_get-count
 sub_put_get c = omega (arith, left c.before.before)
 
-part_put_get_start : tie.Need-slice-bounds-put-get-start
+part_put_get_start : tie.Need-slice_bounds-put_get-start
 part_put_get_start c = omega (arith, left c.before.before)
 
-put_get_requires : tie.Need-put-get-requires
+put_get_requires : tie.Need-put_get-requires
 put_get_requires c κs =
     let star = c.before.before.before in
     let s = star.before.before.before.before.before in
-    let room = star.put-star.new.1.0 in
-    let at = star.put-star.result in (
+    let room = star.put_star-at.new.room in
+    let at = star.put_star-at.result in (
       s.requires.0,
       record {
         groups = s.requires.1.groups;
@@ -51,9 +51,9 @@ returns c =
     let a = s.args in
     let g = a.groups.now in
     let words = groups_words a.wide (state_in a.image.now).values (groups_in g) g in
-    laid_then (star_bytes a.wide) words a.room.now put.put-star.new.1.0 c.before.before.put-get.new.1.1.1.1.0 put.put-star.result
-    put.put-star.ensures.0 (omega (arith, s.requires.1.fits, length-append (star_bytes a.wide) words)) put.put-star.ensures.1
-    c.before.before.put-get.ensures
+    laid_then (star_bytes a.wide) words a.room.now put.put_star-at.new.room c.put_get.new.room put.put_star-at.result
+    put.put_star-at.ensures.0 (omega (arith, s.requires.1.fits, length-append (star_bytes a.wide) words)) put.put_star-at.ensures.1
+    c.put_get.ensures
 
 pub put_words_spec : {M : Type 1} → statement M
 put_words_spec =

@@ -9,14 +9,18 @@ use Rattle.figures.specs.Text.{end_bytes}
 use Rattle.lines.proofs.replies.put_wrong.Statement.{statement}
 use Rattle.lines.proofs.replies.put_wrong.Tie as tie
 
-put_text_requires : tie.Need-put-text-requires
-put_text_requires c κs = rw c.before.ends-lf.ensures c.before.before.before.before.before.requires.1
+put_text_requires : tie.Need-put_text-requires
+put_text_requires c κs = rw c.ends_lf.ensures c.requires.1
 
 returns : tie.Need-returns
 returns c =
     let lf = c.before.before.before.before in
-    let room = lf.before.before.before.before.args.room.now in
-    c.before.before.put-text.ensures ∙ ap (λ (lf : Bool). laid (warning ++ end_bytes lf) room) lf.ends-lf.ensures
+    let room = lf.args.room.now in
+    c.put_text.ensures ∙ ap (λ (lf : Bool). laid (warning ++ end_bytes lf) room) lf.ends_lf.ensures
 
 pub put_wrong_spec : {M : Type 1} → statement M
-put_wrong_spec = tie.close (tie.spec (λ c. search rules) (λ c κs. search rules) put_text_requires (λ c. search rules) returns)
+put_wrong_spec = tie.close (tie.spec
+    (λ c κs. search rules)
+    put_text_requires
+    (λ c. search rules)
+    returns)

@@ -4,11 +4,14 @@ use Rattle.lines.proofs.Sorts.{not_accepted}
 use Rattle.lines.proofs.verdicts.is_accepted.Statement.{statement}
 use Rattle.lines.proofs.verdicts.is_accepted.Tie as tie
 
-returns : tie.Need-returns
-returns c = rw c.enum_told.given.1
+returns : tie.Need-returns-in-Accepted
+returns c = rw c.in-Accepted.is
 
-returns_2 : tie.Need-returns-2
-returns_2 c = not_accepted c.before.args.verdict c.match.keys2
+returns_2 : tie.Need-returns-in_default
+returns_2 c = not_accepted c.args.verdict c.in_default.in_default-own.keys2
 
 pub is_accepted_spec : {M : Type 1} → statement M
-is_accepted_spec = tie.close (tie.spec (λ c. search rules) returns returns_2)
+is_accepted_spec = tie.close (tie.spec
+    (λ c. search rules)
+    returns
+    returns_2)

@@ -13,68 +13,68 @@ use Rattle.lines.proofs.Lookups.{set_judged, groups_verdict_lem}
 use Rattle.lines.proofs.verdicts.order_verdict.Statement.{statement}
 use Rattle.lines.proofs.verdicts.order_verdict.Tie as tie
 
-abbrev start : tie.After-count-in → tie.Start
+abbrev start : tie.After-count_in-count → tie.Start
 start c = c.before.before.before
 
 -- the count that was read
-counted : (c : tie.After-count-in) → c.count-in.result ≡ (state_in (start c).args.image.now).count
-counted c = c.count-in.ensures ∙ count_read (start c).requires.0
+counted : (c : tie.After-count_in-count) → c.count_in-count.result ≡ (state_in (start c).args.image.now).count
+counted c = c.count_in-count.ensures ∙ count_read (start c).requires.0
 
-word_of_requires : tie.Need-word-of-requires
-word_of_requires c κs = order_put _ (sym (start c.before.before).requires.1 ∙ c.enum-told2.given.1)
+word_of_requires : tie.Need-word_of-requires
+word_of_requires c κs = order_put _ (sym (start c.before).requires.1 ∙ c.in-Put.is)
 
 -- what GET's shape says
-get_says : (c : tie.After-enum-told3) →
-    let t = (start c.before.before).args.text.now in
+get_says : (c : tie.In-Get) →
+    let t = (start c.before).args.text.now in
     (5 ≤ length t) × (groups_right (groups_in (drop 5 t)) (drop 5 t) ≡ true) × (0 < length (drop 5 t))
-get_says c = order_get _ (sym (start c.before.before).requires.1 ∙ c.enum-told3.given.1)
+get_says c = order_get _ (sym (start c.before).requires.1 ∙ c.in-Get.is)
 
-sub_get_verdict : tie.Need-overflow-sub-get-verdict
+sub_get_verdict : tie.Need-slice_bounds-get_verdict-count
 sub_get_verdict c = (get_says c).0
 
-part_get_verdict_start : tie.Need-slice-bounds-get-verdict-start
+part_get_verdict_start : tie.Need-slice_bounds-get_verdict-start
 part_get_verdict_start c = (get_says c).0
 
-get_verdict_requires : tie.Need-get-verdict-requires
-get_verdict_requires c κs = ((start c.before.before.before).requires.0, rw to_end (get_says c.before).1)
+get_verdict_requires : tie.Need-get_verdict-requires
+get_verdict_requires c κs = ((start c.before.before).requires.0, rw to_end (get_says c.before).1)
 
-returns : tie.Need-returns
-returns c = rw (c.before.enum-told4.given.1, eq-eqb _ _ (sym (counted c.before.before.before) ∙ c.if1.true))
+returns : tie.Need-returns-then-count-eq0
+returns c = rw (c.in-Undo.is, eq-eqb _ _ (sym (counted c.before.before) ∙ c.if-count-eq0.true))
 
-returns_2 : tie.Need-returns-2
-returns_2 c = rw c.enum_told.given.1
+returns_2 : tie.Need-returns-in-WrongShape
+returns_2 c = rw c.in-WrongShape.is
 
-returns_3 : tie.Need-returns-3
+returns_3 : tie.Need-returns-in-Set
 returns_3 c =
-    let order = c.before.before.order.given in
-    let count = c.before.before.before.before in
+    let order = c.in-Set in
+    let count = c.before.before in
     let s = start count in
-    rw order.1
-    (c.set-verdict.ensures
-    ∙ set_judged (state_in s.args.image.now) s.args.series count.count-in.result order.0.0 order.0.1.0
-    (series_read s.pre.0) (counted count))
+    rw order.is
+    (c.set_verdict.ensures
+    ∙ set_judged (state_in s.args.image.now) s.args.series count.count_in-count.result order.number order.parameter
+    (series_read s.requires.0) (counted count))
 
-returns_4 : tie.Need-returns-4
+returns_4 : tie.Need-returns-in-Conf
 returns_4 c =
-    let order = c.before.before in
-    rw (order.order2.given.1, series_read (start order.before.before).requires.0) c.conf-verdict.ensures
+    let order = c.before in
+    rw (order.in-Conf.is, series_read (start order.before).requires.0) c.conf_verdict.ensures
 
-returns_5 : tie.Need-returns-5
+returns_5 : tie.Need-returns-in-Put
 returns_5 c =
     let word = c.before in
-    rw (word.before.enum-told2.given.1, ← counted word.before.before.before) (c.put-verdict.ensures ∙ rw word.word_of.ensures)
+    rw (word.in-Put.is, ← counted word.before.before) (c.put_verdict.ensures ∙ rw word.word_of.ensures)
 
-returns_6 : tie.Need-returns-6
-returns_6 c = rw c.before.before.enum-told3.given.1 (c.get-verdict.ensures ∙ rw to_end (groups_verdict_lem _ _ _ (get_says c.before.before).1))
+returns_6 : tie.Need-returns-in-Get
+returns_6 c = rw c.in-Get.is (c.get_verdict.ensures ∙ rw to_end (groups_verdict_lem _ _ _ (get_says c.before.before).1))
 
-returns_7 : tie.Need-returns-7
-returns_7 c = rw (c.before.enum-told4.given.1, ne_eqb _ _ (λ q. c.if1.false (counted c.before.before.before ∙ q)))
+returns_7 : tie.Need-returns-else-count-eq0
+returns_7 c = rw (c.in-Undo.is, ne_eqb _ _ (λ q. c.if-count-eq0.false (counted c.before.before ∙ q)))
 
-returns_8 : tie.Need-returns-8
-returns_8 c = rw c.enum-told5.given.1
+returns_8 : tie.Need-returns-in-Keep
+returns_8 c = rw c.in-Keep.is
 
-returns_9 : tie.Need-returns-9
-returns_9 c = rw c.enum-told6.given.1
+returns_9 : tie.Need-returns-in-NoKeyword
+returns_9 c = rw c.in-NoKeyword.is
 
 pub order_verdict_spec : {M : Type 1} → statement M
 order_verdict_spec =

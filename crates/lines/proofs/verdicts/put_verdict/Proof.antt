@@ -9,31 +9,31 @@ use Rattle.lines.specs.Verdicts.{place_named}
 use Rattle.lines.proofs.verdicts.put_verdict.Statement.{statement}
 use Rattle.lines.proofs.verdicts.put_verdict.Tie as tie
 
-returns : tie.Need-returns
-returns c = rw (sym c.before.before.place-named.ensures ∙ c.enum_told.given.1)
+returns : tie.Need-returns-in_default
+returns c = rw (sym c.place_named.ensures ∙ c.in_default.is)
 
 -- the place that was found
-looked : (c : tie.After-place)
-    → place_named (pos 1 c.before.before.before.args.t2) (pos 2 c.before.before.before.args.t2) ≡ At c.place.given.0.0
-looked c = sym c.before.before.place-named.ensures ∙ c.place.given.1
+looked : (c : tie.In-At)
+    → place_named (pos 1 c.args.word) (pos 2 c.args.word) ≡ At c.in-At.place
+looked c = sym c.place_named.ensures ∙ c.in-At.is
 
-add_t17 : tie.Need-overflow-add-t17
+add_t17 : tie.Need-overflow_add-result
 add_t17 c =
-    let judged = c.before.before.before in
-    let place = judged.before.before in
-    let wrong = sym judged.put-judged.ensures ∙ c.before.fault.given.1 in
-    let byte = put_within place.place.given.0.0 place.before.before.before.args.t2 _ _ wrong in
+    let judged = c.before in
+    let place = judged.before in
+    let wrong = sym judged.put_judged.ensures ∙ c.in-Wrong.is in
+    let byte = put_within place.in-At.place place.args.word _ _ wrong in
     omega (arith, byte)
 
-returns_2 : tie.Need-returns-2
+returns_2 : tie.Need-returns-in-Right
 returns_2 c =
-    let judged = c.before.before.before in
-    rw (looked judged.before.before, sym judged.put-judged.ensures ∙ c.before.enum-told2.given.1) c.full.ensures
+    let judged = c.before.before in
+    rw (looked judged.before, sym judged.put_judged.ensures ∙ c.in-Right.is) c.full.ensures
 
-returns_3 : tie.Need-returns-3
+returns_3 : tie.Need-returns-in-Wrong
 returns_3 c =
-    let judged = c.before.before.before in
-    rw (looked judged.before.before, sym judged.put-judged.ensures ∙ c.before.fault.given.1)
+    let judged = c.before in
+    rw (looked judged.before, sym judged.put_judged.ensures ∙ c.in-Wrong.is)
 
 pub put_verdict_spec : {M : Type 1} → statement M
 put_verdict_spec =

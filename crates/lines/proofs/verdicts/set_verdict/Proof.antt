@@ -7,27 +7,27 @@ use Rattle.figures.proofs.Tests.{passed, failed}
 use Rattle.lines.proofs.verdicts.set_verdict.Statement.{statement}
 use Rattle.lines.proofs.verdicts.set_verdict.Tie as tie
 
-returns : tie.Need-returns
-returns c = rw (sym c.before.before.setting-of.ensures ∙ c.enum_told.given.1)
+returns : tie.Need-returns-in_default
+returns c = rw (sym c.setting_of.ensures ∙ c.in_default.is)
 
 -- the place that was found
-looked : (c : tie.After-place) → setting_place c.before.before.before.args.series c.before.before.before.args.number ≡ At c.place.given.0.0
-looked c = sym c.before.before.setting-of.ensures ∙ c.place.given.1
+looked : (c : tie.In-At) → setting_place c.args.series c.args.number ≡ At c.in-At.place
+looked c = sym c.setting_of.ensures ∙ c.in-At.is
 
-returns_2 : tie.Need-returns-2
-returns_2 c = rw (looked c.before.before.before, ← c.before.row_at_lem.ensures, c.if1.true)
+returns_2 : tie.Need-returns-then-row
+returns_2 c = rw (looked c.before.before, ← c.row_at-row.ensures, c.if-row.true)
 
-returns_3 : tie.Need-returns-3
+returns_3 : tie.Need-returns-then-not-in_range
 returns_3 c =
     let told = c.before in
     let row = told.before.before in
-    rw (looked row.before.before, ← row.row_at_lem.ensures, told.before.if1.false, failed told.in_range.ensures c.if2.true)
+    rw (looked row.before, ← row.row_at-row.ensures, told.if-row.false, (sym told.in_range.ensures ∙ c.if-not-in_range.true))
 
-returns_4 : tie.Need-returns-4
+returns_4 : tie.Need-returns
 returns_4 c =
     let told = c.before.before in
     let row = told.before.before in
-    rw (looked row.before.before, ← row.row_at_lem.ensures, told.before.if1.false, passed told.in_range.ensures c.before.if2.false) c.full.ensures
+    rw (looked row.before, ← row.row_at-row.ensures, told.if-row.false, (sym told.in_range.ensures ∙ c.if-not-in_range.false)) c.full.ensures
 
 pub set_verdict_spec : {M : Type 1} → statement M
 set_verdict_spec =

@@ -10,11 +10,17 @@ use Rattle.lines.proofs.verdicts.word_of.Tie as tie
 
 returns : tie.Need-returns
 returns c =
-    let t = c.before.before.before.before.before.args.text.now in
+    let t = c.args.text.now in
     let all : take 16 (drop 4 t) ≡ drop 4 t = take_all 16 (drop 4 t) (omega (arith, length-drop 4 t)) in
-    c.before.lay.ensures ∙ rw all (laid_cut (drop 4 t) (replicate 16 0) (omega (arith, length-drop 4 t)) ∙ all)
+    c.lay.ensures ∙ rw all (laid_cut (drop 4 t) (replicate 16 0) (omega (arith, length-drop 4 t)) ∙ all)
 
 pub word_of_spec : {M : Type 1} → statement M
 word_of_spec =
     tie.close
-    (tie.spec (λ c. search rules) (λ c. search rules) (λ c. search rules) (λ c. search rules) (λ c κs. search rules) returns)
+    (tie.spec
+    (λ c. search rules)
+    (λ c. search rules)
+    (λ c. search rules)
+    (λ c. search rules)
+    (λ c κs. search rules)
+    returns)

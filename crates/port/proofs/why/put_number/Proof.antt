@@ -10,18 +10,16 @@ returns c =
     let name = last.before.before.before.before.before in
     let number = name.before.before.before.before.before in
     let key = number.before.before.before.before in
-    puts_more key.before.before.before.before.args.room.now 0 _ _ key.put.ensures
-    (puts_more _ _ _ _ number.put-decimal.ensures
-    (puts_more _ _ _ _ name.put2.ensures (rw last.before.verdict-number.ensures at last.put-decimal2.ensures)))
+    puts_more key.args.room.now 0 _ _ key.put-after_key.ensures
+    (puts_more _ _ _ _ number.put_decimal-after_number.ensures
+    (puts_more _ _ _ _ name.put-after_name.ensures (rw last.verdict_number.ensures at last.put_decimal.ensures)))
 
 pub put_number_spec : {M : Type 1} → statement M
 put_number_spec =
     tie.close
     (tie.spec
-    (λ c. search rules)
     (λ c κs. search rules)
     (λ c κs. search rules)
-    (λ c. search rules)
     (λ c κs. search rules)
     (λ c κs. search rules)
     (λ c κs. search rules)

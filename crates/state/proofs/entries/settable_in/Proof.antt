@@ -4,24 +4,24 @@ use borrow.Author.Tests.{lt-ltb, le-ltb}
 use Rattle.state.proofs.entries.settable_in.Statement.{statement}
 use Rattle.state.proofs.entries.settable_in.Tie as tie
 
-returns : tie.Need-returns
-returns c = rw (le-ltb _ _ (rw c.before.settings-of.ensures at c.if1.true))
+returns : tie.Need-returns-then-settings_of-place
+returns c = rw (le-ltb _ _ (rw c.settings_of.ensures at c.if-settings_of-place.true))
 
-returns_2 : tie.Need-returns-2
+returns_2 : tie.Need-returns-then-row
 returns_2 c =
     rw (
-      lt-ltb _ _ (rw c.before.before.before.settings-of.ensures at c.before.before.if1.false),
-      rw c.before.row_at_lem.ensures at c.if2.true,
+      lt-ltb _ _ (rw c.settings_of.ensures at c.if-settings_of-place.false),
+      rw c.row_at-row.ensures at c.if-row.true,
     )
 
-returns_3 : tie.Need-returns-3
+returns_3 : tie.Need-returns
 returns_3 c =
     rw (
-      lt-ltb _ _ (rw c.before.before.before.before.before.settings-of.ensures at c.before.before.before.before.if1.false),
-      rw c.before.before.before.row_at_lem.ensures at c.before.before.if2.false,
+      lt-ltb _ _ (rw c.settings_of.ensures at c.if-settings_of-place.false),
+      rw c.row_at-row.ensures at c.if-row.false,
       c.in_range.ensures,
-      c.before.before.before.row_at_lem.ensures,
-      c.before.wide.ensures,
+      c.row_at-row.ensures,
+      c.wide.ensures,
     )
 
 pub settable_in_spec : {M : Type 1} → statement M

@@ -17,11 +17,11 @@ returns : tie.Need-returns
 returns c =
     let first = c.before.before in
     let at = first.before.before in
-    let n = values_at at.before.before.args.series in
-    let l = at.before.before.args.image.now in
-    let start : at.values_at.result ≡ n = at.values_at.ensures.0 in
-    let high = byte l n count_at (first.place_of.ensures ∙ first.before.byte_at.ensures) (omega arith) in
-    let low = byte l n (count_at + 1) (c.place-of2.ensures ∙ c.before.byte-at2.ensures) (omega arith) in
+    let n = values_at at.args.series in
+    let l = at.args.image.now in
+    let start : at.values_at-at.result ≡ n = at.values_at-at.ensures.0 in
+    let high = byte l n count_at (first.place_of-high.ensures ∙ first.byte_at.ensures) (omega arith) in
+    let low = byte l n (count_at + 1) (c.place_of-low.ensures ∙ c.byte_at-2.ensures) (omega arith) in
     rw (high, low)
 
 pub count_in_spec : {M : Type 1} → statement M

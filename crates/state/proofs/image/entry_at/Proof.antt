@@ -24,25 +24,25 @@ whole k n a l h ea he =
     let e : a + entry_n - a ≡ entry_n = omega arith in
     rw (e, ea, lt-ltb n entries_n h, le-leb (values_at k + entries_at + n * entry_n + entry_n) (length l) (omega arith))
 
-returns : tie.Need-returns
-returns c = rw (le-ltb c.before.before.before.args.n entries_n c.before.if1.true) c.blank-entry.ensures
+returns : tie.Need-returns-then-n-ge-ENTRIES
+returns c = rw (le-ltb c.args.n entries_n c.if-n-ge-ENTRIES.true) c.blank_entry.ensures
 
-returns_2 : tie.Need-returns-2
+returns_2 : tie.Need-returns-then-image-z
 returns_2 c =
     let at = c.before.before in
-    let a = at.before.before.before.args in
-    c.blank-entry2.ensures ∙ short a.series a.n a.image.now (omega arith) (omega (arith, at.values_at.ensures.0))
+    let a = at.args in
+    c.blank_entry-then-image-z.ensures ∙ short a.series a.n a.image.now (omega arith) (omega (arith, at.values_at.ensures.0))
 
-entry_in_requires : tie.Need-entry-in-requires
+entry_in_requires : tie.Need-entry_in-requires
 entry_in_requires c κs =
     let at = c.before.before in
-    let a = at.before.before.before.args in
+    let a = at.args in
     row_long 14 (at.values_at.result + entries_at + a.n * 14) a.image.now (omega arith)
 
-returns_3 : tie.Need-returns-3
+returns_3 : tie.Need-returns
 returns_3 c =
     let at = c.before.before.before in
-    let a = at.before.before.before.args in
+    let a = at.args in
     let place = at.values_at.result + entries_at + a.n * 14 in
     c.entry_in.ensures ∙ whole a.series a.n place a.image.now (omega arith) (omega (arith, at.values_at.ensures.0)) (omega arith)
 

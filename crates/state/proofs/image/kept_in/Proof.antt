@@ -15,13 +15,13 @@ eight_in : (l : List ℕ) →
     eight_of (drop 3 l) ≡ record { 0 = at 3; 1 = at 4; 2 = at 5; 3 = at 6; 4 = at 7; 5 = at 8; 6 = at 9; 7 = at 10 }
 eight_in l = simp get_or-drop
 
-returns : tie.Need-returns
+returns : tie.Need-returns-then-s-eq1
 returns c =
     let at = c.before.before.before.before.before.before.before.before.before.before in
-    rw (eq-eqb _ 1 at.if1.true, eight_in at.before.before.args.s.now)
+    rw (eq-eqb _ 1 at.if-s-eq1.true, eight_in at.args.s.now)
 
-returns_2 : tie.Need-returns-2
-returns_2 c = rw (ne_eqb _ 1 c.if1.false)
+returns_2 : tie.Need-returns
+returns_2 c = rw (ne_eqb _ 1 c.if-s-eq1.false)
 
 pub kept_in_spec : {M : Type 1} → statement M
 kept_in_spec =

@@ -6,12 +6,12 @@ use Rattle.state.proofs.image.state_of.Tie as tie
 returns : tie.Need-returns
 returns c =
     let at = c.before.before.before in
-    let a = at.before.before.before.before.before.args in
+    let a = at.args in
     λ i. record {
       series = a.series;
       settings = at.lay.ensures i;
-      values = c.before.values-in.ensures i;
-      undo = c.entries-in.ensures i;
+      values = c.values_in-values.ensures i;
+      undo = c.entries_in-undo.ensures i;
       count = a.count;
     }
 

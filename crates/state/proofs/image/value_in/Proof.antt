@@ -25,25 +25,25 @@ whole k i a l h ea he =
     let e : a + value_n - a ≡ value_n = omega arith in
     rw (e, ea, lt-ltb i values_n h, le-leb (values_at k + i * value_n + value_n) (length l) (omega arith))
 
-returns : tie.Need-returns
-returns c = rw (le-ltb c.before.before.args.place values_n c.if1.true)
+returns : tie.Need-returns-then-place-ge-VALUES
+returns c = rw (le-ltb c.args.place values_n c.if-place-ge-VALUES.true)
 
-returns_2 : tie.Need-returns-2
+returns_2 : tie.Need-returns-then-image-z
 returns_2 c =
     let at = c.before in
-    let a = at.before.before.before.args in
+    let a = at.args in
     short a.series a.place a.image.now (omega arith) (omega (arith, at.values_at.ensures.0))
 
-kept_in_requires : tie.Need-kept-in-requires
+kept_in_requires : tie.Need-kept_in-requires
 kept_in_requires c κs =
     let at = c.before.before in
-    let a = at.before.before.before.args in
+    let a = at.args in
     row_long 11 (at.values_at.result + a.place * 11) a.image.now (omega arith)
 
-returns_3 : tie.Need-returns-3
+returns_3 : tie.Need-returns
 returns_3 c =
     let at = c.before.before.before in
-    let a = at.before.before.before.args in
+    let a = at.args in
     c.kept_in.ensures
     ∙ whole a.series a.place (at.values_at.result + a.place * 11) a.image.now (omega arith) (omega (arith, at.values_at.ensures.0)) (omega arith)
 

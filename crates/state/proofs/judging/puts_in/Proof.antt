@@ -23,16 +23,16 @@ use Rattle.state.proofs.judging.puts_in.Tie as tie
 abbrev put : Value → Bool
 put v = is_put v.kept
 
-abbrev invariant-loop : tie.invariant-loop
+abbrev invariant-loop : tie.invariant-loop-i
 invariant-loop s puts₀ i₀ puts i = (length puts ≡ values_n) × ((i ≤ values_n) × (take i puts ≡ take i (puts_of (values_in s))))
 
-abbrev decreases-loop : tie.decreases-loop
+abbrev decreases-loop : tie.decreases-loop-i
 decreases-loop s puts₀ i₀ puts i = values_n - i
 
-loop_again : tie.Need-loop-preserved invariant-loop decreases-loop
+loop_again : tie.Need-loop-i-preserved invariant-loop decreases-loop
 loop_again c =
-    let at = c.before.before.loop in
-    let s = c.before.before.before.args.s.now in
+    let at = c.loop-i in
+    let s = c.args.s.now in
     let row = take value_n (drop (at.i * value_n) s) in
     let first : get_or row 0 0 ≡ get_or s (at.i * value_n) 0 = get_or-take value_n (drop (at.i * value_n) s) 0 0 (omega arith) ∙ get_or-drop (at.i * value_n) s 0 0 ∙ rw add-zero in
     let is : put (value_held (values_in s) at.i) ≡ eqb (get_or s (at.i * value_n) 0) 1 =
@@ -43,8 +43,8 @@ loop_again c =
 
 returns : tie.Need-returns invariant-loop decreases-loop
 returns c =
-    let at = c.before.loop in
-    let s = c.before.before.args.s.now in
+    let at = c.loop-i in
+    let s = c.args.s.now in
     map_all put (values_in s) at.puts at.i (omega (arith, rows_long value_in value_n values_n s)) (omega arith) at.invariant.1.1
 
 pub puts_in_spec : {M : Type 1} → statement M

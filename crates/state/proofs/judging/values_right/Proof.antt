@@ -13,44 +13,44 @@ use Rattle.state.proofs.Held.{values_lie_lem, values_done}
 use Rattle.state.proofs.judging.values_right.Statement.{statement}
 use Rattle.state.proofs.judging.values_right.Tie as tie
 
-abbrev invariant-loop : tie.invariant-loop
+abbrev invariant-loop : tie.invariant-loop-i
 invariant-loop s i₀ i = (i ≤ values_n) × (values_lie 0 values_n s ≡ values_lie i (values_n - i) (drop (i * value_n) s))
 
-abbrev decreases-loop : tie.decreases-loop
+abbrev decreases-loop : tie.decreases-loop-i
 decreases-loop s i₀ i = values_n - i
 
-value_right_requires : tie.Need-value-right-requires invariant-loop decreases-loop
+value_right_requires : tie.Need-value_right-requires invariant-loop decreases-loop
 value_right_requires c κs =
-    let i = c.before.before.loop.i in
-    row_long 11 (i * 11) c.before.before.before.before.args.s.now (omega arith)
+    let i = c.loop-i.i in
+    row_long 11 (i * 11) c.args.s.now (omega arith)
 
 -- what a turn found of its value
-found : (c : tie.After-value-right invariant-loop decreases-loop) → let at = c.before.before.before in
-    c.value-right.result ≡ value_lies at.loop.i (take value_n (drop (at.loop.i * value_n) at.before.before.args.s.now))
+found : (c : tie.After-value_right invariant-loop decreases-loop) → let at = c.before.before.before in
+    c.value_right.result ≡ value_lies at.loop-i.i (take value_n (drop (at.loop-i.i * value_n) at.args.s.now))
 found c =
-    let i = c.before.before.before.loop.i in
+    let i = c.loop-i.i in
     let w : i * 11 + 11 - i * 11 ≡ 11 = omega arith in
-    c.value-right.ensures ∙ rw w
+    c.value_right.ensures ∙ rw w
 
-turn : (c : tie.After-value-right invariant-loop decreases-loop) → let at = c.before.before.before in
-    let l = at.before.before.args.s.now in
-    let i = at.loop.i in
+turn : (c : tie.After-value_right invariant-loop decreases-loop) → let at = c.before.before.before in
+    let l = at.args.s.now in
+    let i = at.loop-i.i in
     values_lie 0 values_n l
     ≡ value_lies i (take value_n (drop (i * value_n) l)) && values_lie (i + 1) (values_n - (i + 1)) (drop ((i + 1) * value_n) l)
 turn c =
     let at = c.before.before.before in
-    at.loop.invariant.1 ∙ values_lie_lem values_n at.loop.i at.before.before.args.s.now c.before.before.loop-test.true
+    at.loop-i.invariant.1 ∙ values_lie_lem values_n at.loop-i.i at.args.s.now c.loop-i-test.true
 
-returns : tie.Need-returns invariant-loop decreases-loop
-returns c = sym (turn c.before ∙ and_off _ (failed (found c.before) c.if1.true))
+returns : tie.Need-returns-then-not-value_right invariant-loop decreases-loop
+returns c = sym (turn c.before ∙ and_off _ ((sym (found c.before) ∙ c.if-not-value_right.true)))
 
-loop_again : tie.Need-loop-preserved invariant-loop decreases-loop
-loop_again c = (omega arith, turn c.before ∙ and_on (passed (found c.before) c.if1.false))
+loop_again : tie.Need-loop-i-preserved invariant-loop decreases-loop
+loop_again c = (omega arith, turn c.before ∙ and_on ((sym (found c.before) ∙ c.if-not-value_right.false)))
 
-returns_2 : tie.Need-returns-2 invariant-loop decreases-loop
+returns_2 : tie.Need-returns invariant-loop decreases-loop
 returns_2 c =
-    let at = c.before.loop in
-    sym (at.invariant.1 ∙ values_done at.i (values_n - at.i) (drop (at.i * value_n) c.before.before.before.args.s.now) (omega arith))
+    let at = c.loop-i in
+    sym (at.invariant.1 ∙ values_done at.i (values_n - at.i) (drop (at.i * value_n) c.args.s.now) (omega arith))
 
 pub values_right_spec : {M : Type 1} → statement M
 values_right_spec =

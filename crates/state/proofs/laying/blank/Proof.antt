@@ -16,21 +16,21 @@ more l out i h e =
     let stored = set_at zeros (get_or l i 0) rest 0 i (length-replicate i 0) in
     rw (e, drop-cons l i 0 h, stored, ← replicate-append-replicate {A = ℕ} i 1 0, append_snoc zeros 0 (drop (i + 1) l), add-one i)
 
-abbrev invariant-loop : tie.invariant-loop
+abbrev invariant-loop : tie.invariant-loop-i
 invariant-loop out₀ i₀ out i = (length out ≡ length out₀) × (i ≤ length out₀) × (out ≡ replicate i 0 ++ drop i out₀)
 
-abbrev decreases-loop : tie.decreases-loop
+abbrev decreases-loop : tie.decreases-loop-i
 decreases-loop out₀ i₀ out i = length out₀ - i
 
-loop_again : tie.Need-loop-preserved invariant-loop decreases-loop
+loop_again : tie.Need-loop-i-preserved invariant-loop decreases-loop
 loop_again c =
-    let at = c.before.loop in
-    (simp length-set at.invariant.0, omega arith, more c.before.before.args.out.now at.out at.i (omega arith) at.invariant.2)
+    let at = c.loop-i in
+    (simp length-set at.invariant.0, omega arith, more c.args.out.now at.out at.i (omega arith) at.invariant.2)
 
 returns : tie.Need-returns invariant-loop decreases-loop
 returns c =
-    let at = c.before.loop in
-    let l = c.before.before.args.out.now in
+    let at = c.loop-i in
+    let l = c.args.out.now in
     let end : at.i ≡ length l = omega arith in
     at.invariant.2 ∙ rw (end, drop_of_length-le l {i = length l} (omega arith), append-nil)
 
@@ -45,5 +45,5 @@ blank_spec =
     (λ c. omega arith)
     (λ c. omega arith)
     loop_again
-    (λ c. c.before.loop.invariant.0)
+    (λ c. c.loop-i.invariant.0)
     returns)

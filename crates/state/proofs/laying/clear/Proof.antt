@@ -21,39 +21,39 @@ blanked a m l b h e =
     ap (put_mid a (a + m - a) l) zeros ∙ mid_laid a (a + m - a) l (replicate m 0) (length-replicate m 0 ∙ omega arith) (omega arith)
 
 -- a count of two bytes
-few : (c : tie.After-count-in) → c.count-in.result < 65536
+few : (c : tie.After-count_in-count) → c.count_in-count.result < 65536
 few c =
-    let known = c.before.before.slice-known.given in
-    let a = c.before.before.before.args in
+    let known = c.slice_known-1.given in
+    let a = c.args in
     let n = values_at a.series in
     let l = a.image.now in
-    omega (arith, c.count-in.ensures, get_or-drop n l count_at 0, get_or-drop n l (count_at + 1) 0, known (n + count_at), known (n + (count_at + 1)))
+    omega (arith, c.count_in-count.ensures, get_or-drop n l count_at 0, get_or-drop n l (count_at + 1) 0, known (n + count_at), known (n + (count_at + 1)))
 
-mul_z : tie.Need-overflow-mul-z
+mul_z : tie.Need-overflow_mul-z
 mul_z c = omega (arith, few c.before)
 
-add_z : tie.Need-overflow-add-z
+add_z : tie.Need-overflow_add-z
 add_z c = omega (arith, few c.before)
 
-returns : tie.Need-returns
+returns : tie.Need-returns-then-image-z
 returns c =
     let at = c.before in
-    let a = at.before.before.before.before.args in
+    let a = at.args in
     let k = a.series in
     let l = a.image.now in
-    rw (lt-leb (values_at k + entries_at + count_in k l * entry_n) (length l) (omega (arith, at.values_at.ensures.0, at.before.count-in.ensures)))
+    rw (lt-leb (values_at k + entries_at + count_in k l * entry_n) (length l) (omega (arith, at.values_at-a.ensures.0, at.count_in-count.ensures)))
 
-returns_2 : tie.Need-returns-2
+returns_2 : tie.Need-returns
 returns_2 c =
     let done = c.before.before in
     let zeros = done.before.before.before.before in
     let at = zeros.before.before.before in
-    let a = at.before.before.before.before.args in
+    let a = at.args in
     let k = a.series in
     let l = a.image.now in
-    let start = at.values_at.ensures.0 in
-    let count = at.before.count-in.ensures in
-    let blanks = blanked (at.values_at.result + entries_at) (at.before.count-in.result * entry_n) l zeros.blank.new.0 (omega arith) zeros.blank.ensures in
+    let start = at.values_at-a.ensures.0 in
+    let count = at.count_in-count.ensures in
+    let blanks = blanked (at.values_at-a.result + entries_at) (at.count_in-count.result * entry_n) l zeros.blank.new.out (omega arith) zeros.blank.ensures in
     rw (le-leb (values_at k + entries_at + count_in k l * entry_n) (length l) (omega arith))
     (done.put_count.ensures ∙ ap (count_laid k 0) (blanks ∙ (λ i. laid_at (start i + entries_at) (replicate (count i * entry_n) 0) l)))
 

@@ -9,9 +9,9 @@ use Rattle.state.proofs.laying.entry_bytes.Tie as tie
 
 returns : tie.Need-returns
 returns c =
-    let b = c.kept-bytes in
-    let a = c.before.item-bytes in
-    let p = c.before.before.before.args.entry.former.parameter in
+    let b = c.kept_bytes-b in
+    let a = c.item_bytes-a in
+    let p = c.args.entry.former.parameter in
     let two : length a.result ≡ 2 = search rules in
     let eleven : length b.result ≡ 11 = search rules in
     λ j. (spelt 0 2 a.result two ∙ a.ensures) j ++ (p ∷ (spelt 0 11 b.result eleven ∙ b.ensures) j)

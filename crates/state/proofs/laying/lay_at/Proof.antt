@@ -9,20 +9,20 @@ use Rattle.state.proofs.Rows.{laid_not, laid_whole, mid_laid, row_long}
 use Rattle.state.proofs.laying.lay_at.Statement.{statement}
 use Rattle.state.proofs.laying.lay_at.Tie as tie
 
-returns : tie.Need-returns
+returns : tie.Need-returns-then-image-at
 returns c =
-    let a = c.before.before.before.args in
+    let a = c.args in
     sym (laid_not a.at a.w.now a.image.now (omega arith))
 
-returns_2 : tie.Need-returns-2
+returns_2 : tie.Need-returns-then-left-w
 returns_2 c =
-    let a = c.before.before.before.before.args in
+    let a = c.args in
     sym (laid_not a.at a.w.now a.image.now (omega arith))
 
-returns_3 : tie.Need-returns-3
+returns_3 : tie.Need-returns
 returns_3 c =
     let done = c.before.before in
-    let a = done.before.before.before.before.before.before.args in
+    let a = done.args in
     let w = a.w.now in
     let l = a.image.now in
     let n = a.at + length w - a.at in

@@ -34,39 +34,39 @@ parts l g v at hg hv h =
     let end : length ((f ++ g) ++ v) ≡ 1 + length (g ++ v) = length-append (f ++ g) v ∙ omega arith in
     e3 ∙ rw (end, append_assoc f g v, append_assoc f (g ++ v)) (sym (laid_fit 1 (g ++ v) l (omega arith)))
 
-settings_long : (c : tie.Start) → length c.args.t2 ≡ settings_most
+settings_long : (c : tie.Start) → length c.args.settings ≡ settings_most
 settings_long c = search rules
 
 values_long : (c : tie.Start) → length c.args.values ≡ values_n
 values_long c = search rules
 
-returns : tie.Need-returns
+returns : tie.Need-returns-then-image-z
 returns c =
     let start = c.before.before.before in
     let k = start.args.series in
-    let g = held k start.args.t2 in
+    let g = held k start.args.settings in
     let v = values_bytes start.args.values in
-    let lg = length_held k start.args.t2 (settings_long start) in
+    let lg = length_held k start.args.settings (settings_long start) in
     let lv = length_values start.args.values (values_long start) in
-    sym (laid_not 1 (g ++ v) start.args.image.now (omega (arith, length-append g v, c.before.values_at.ensures.0)))
+    sym (laid_not 1 (g ++ v) start.args.image.now (omega (arith, length-append g v, c.values_at-at.ensures.0)))
 
-returns_2 : tie.Need-returns-2
+returns_2 : tie.Need-returns
 returns_2 c =
-    let stored = c.before.before.put-values in
+    let stored = c.put_values in
     let laid = c.before.before.before.before.before.before in
     let at = laid.before.before.before.before in
-    let n = at.values_at.result in
+    let n = at.values_at-at.result in
     let start = at.before.before in
     let a = start.args in
     let l = a.image.now in
-    let g = laid.lay.new.1.0 in
-    let v = stored.new.1.0 in
+    let g = laid.lay.new.room in
+    let v = stored.new.out in
     let room = mid_of 1 (n - 1) l in
-    let hn = at.values_at.ensures.0 in
+    let hn = at.values_at-at.ensures.0 in
     let hr : length room ≡ n - 1 = mid_len 1 n l (omega arith) in
     let hv : length v ≡ count_at = ap length stored.ensures ∙ length_values a.values (values_long start) in
-    let eg = held_laid a.series a.t2 room g (settings_long start) (omega arith) laid.lay.ensures in
-    parts l g v n (omega (arith, laid.lay.auto.1.0)) hv (omega arith) ∙ (λ i. laid_at 1 (eg i ++ stored.ensures i) l)
+    let eg = held_laid a.series a.settings room g (settings_long start) (omega arith) laid.lay.ensures in
+    parts l g v n (omega (arith, laid.lay.auto.room)) hv (omega arith) ∙ (λ i. laid_at 1 (eg i ++ stored.ensures i) l)
 
 pub put_contents_spec : {M : Type 1} → statement M
 put_contents_spec =

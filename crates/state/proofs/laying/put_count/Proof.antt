@@ -11,8 +11,8 @@ returns : tie.Need-returns
 returns c =
     let laid = c.before.before in
     let at = laid.before.before in
-    let a = at.before.before.before.args in
-    laid.Lay-at.ensures ∙ (λ i. laid_at (at.values_at.ensures.0 i + count_at) (count_bytes a.count) a.image.now)
+    let a = at.args in
+    laid.lay_at.ensures ∙ (λ i. laid_at (at.values_at.ensures.0 i + count_at) (count_bytes a.count) a.image.now)
 
 pub put_count_spec : {M : Type 1} → statement M
 put_count_spec =

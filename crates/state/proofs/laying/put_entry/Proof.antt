@@ -9,17 +9,17 @@ use Rattle.state.specs.Keeping.{laid_at}
 use Rattle.state.proofs.laying.put_entry.Statement.{statement}
 use Rattle.state.proofs.laying.put_entry.Tie as tie
 
-returns : tie.Need-returns
-returns c = rw (le-ltb c.before.before.args.n entries_n c.if1.true)
+returns : tie.Need-returns-then-n-ge-ENTRIES
+returns c = rw (le-ltb c.args.n entries_n c.if-n-ge-ENTRIES.true)
 
-returns_2 : tie.Need-returns-2
+returns_2 : tie.Need-returns
 returns_2 c =
     let laid = c.before.before in
     let at = laid.before.before in
     let made = at.before.before in
-    let a = made.before.before.before.args in
-    rw (lt-ltb a.n entries_n made.before.if1.false)
-    (laid.Lay-at.ensures ∙ (λ i. laid_at (at.values_at.ensures.0 i + entries_at + a.n * entry_n) (made.entry-bytes.ensures i) a.image.now))
+    let a = made.args in
+    rw (lt-ltb a.n entries_n made.if-n-ge-ENTRIES.false)
+    (laid.lay_at.ensures ∙ (λ i. laid_at (at.values_at.ensures.0 i + entries_at + a.n * entry_n) (made.entry_bytes-b.ensures i) a.image.now))
 
 pub put_entry_spec : {M : Type 1} → statement M
 put_entry_spec =

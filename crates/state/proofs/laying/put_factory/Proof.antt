@@ -26,62 +26,62 @@ alike : {f h : ℕ} {g w : List ℕ} → f ≡ h → g ≡ w → f ∷ (g ++ rep
 alike ef eg = rw (ef, eg)
 
 -- the calls before, and the bytes that are lent
-abbrev formed : tie.After-settings → tie.After-form-of
+abbrev formed : tie.After-settings-1 → tie.After-form_of
 formed c = c.before.before.before
 
-abbrev blanked : tie.After-settings → tie.After-blank
+abbrev blanked : tie.After-settings-1 → tie.After-blank
 blanked c = (formed c).before.before.before
 
-abbrev start : tie.After-settings → tie.Start
+abbrev start : tie.After-settings-1 → tie.Start
 start c = (blanked c).before.before.before.before.before
 
-abbrev at_of : tie.After-settings → ℕ
-at_of c = c.before.before.values_at.result
+abbrev at_of : tie.After-settings-1 → ℕ
+at_of c = c.values_at-at.result
 
-lent_long : (c : tie.After-settings) → length (start c).args.image.now ≡ at_of c + rest_n
+lent_long : (c : tie.After-settings-1) → length (start c).args.image.now ≡ at_of c + rest_n
 lent_long c =
     let sized = (blanked c).before.before in
-    omega (arith, sized.if1.left, sized.before.image-size.ensures, c.before.before.values_at.ensures.0)
+    omega (arith, sized.if-image-image_size.false, sized.image_size.ensures, c.values_at-at.ensures.0)
 
-zeros : (c : tie.After-settings) → (blanked c).blank.new.0 ≡ replicate (at_of c + rest_n) 0
+zeros : (c : tie.After-settings-1) → (blanked c).blank.new.out ≡ replicate (at_of c + rest_n) 0
 zeros c = (blanked c).blank.ensures ∙ ap (λ (n : ℕ). replicate n 0) (lent_long c)
 
 -- with the first byte
-abbrev room : tie.After-settings → List ℕ
-room c = set (blanked c).blank.new.0 0 (formed c).form_of.result
+abbrev room : tie.After-settings-1 → List ℕ
+room c = set (blanked c).blank.new.out 0 (formed c).form_of.result
 
-room_long : (c : tie.After-settings) → length (room c) ≡ at_of c + rest_n
-room_long c = length-set (blanked c).blank.new.0 0 (formed c).form_of.result ∙ ap length (zeros c) ∙ length-replicate (at_of c + rest_n) 0
+room_long : (c : tie.After-settings-1) → length (room c) ≡ at_of c + rest_n
+room_long c = length-set (blanked c).blank.new.out 0 (formed c).form_of.result ∙ ap length (zeros c) ∙ length-replicate (at_of c + rest_n) 0
 
-returns : tie.Need-returns
+returns : tie.Need-returns-then-image-image_size
 returns c =
-    let a = c.before.before.before.args in
-    rw (ne_eqb (length a.image.now) (image_n a.series) (λ h. c.if1.true (h ∙ sym c.before.image-size.ensures)))
+    let a = c.args in
+    rw (ne_eqb (length a.image.now) (image_n a.series) (λ h. c.if-image-image_size.true (h ∙ sym c.image_size.ensures)))
 
-part_lay_end : tie.Need-slice-bounds-lay-end
+part_lay_end : tie.Need-slice_bounds-lay-end-2
 part_lay_end c = omega (arith, room_long c)
 
-same_length : tie.Need-same-length
+same_length : tie.Need-shape_of-image
 same_length c =
     let lay = c.before.before in
     let at = lay.before.before in
-    same_len_mid 1 (at_of at - 1) (room at) lay.lay.new.1.0 lay.lay.auto.1.0 ∙ room_long at ∙ sym (lent_long at)
+    same_len_mid 1 (at_of at - 1) (room at) lay.lay.new.room lay.lay.auto.room ∙ room_long at ∙ sym (lent_long at)
 
-returns_2 : tie.Need-returns-2
+returns_2 : tie.Need-returns
 returns_2 c =
     let lay = c.before.before in
     let at = lay.before.before in
-    let g = lay.lay.new.1.0 in
+    let g = lay.lay.new.room in
     let k = (start at).args.series in
     let l = (start at).args.image.now in
     let n = at_of at in
-    let here = at.before.before.values_at.ensures.0 in
-    let hs : length at.before.factory-settings.result ≡ settings_most = search rules in
+    let here = at.values_at-at.ensures.0 in
+    let hs : length at.factory_settings-settings.result ≡ settings_most = search rules in
     let hm : length (mid_of 1 (n - 1) (room at)) ≡ n - 1 = mid_len 1 n (room at) (omega (arith, room_long at)) in
-    let eg = held_laid k at.before.factory-settings.result (mid_of 1 (n - 1) (room at)) g hs (omega arith) lay.lay.ensures in
-    let all = parts (blanked at).blank.new.0 g (formed at).form_of.result n (zeros at) (omega (arith, lay.lay.auto.1.0)) in
+    let eg = held_laid k at.factory_settings-settings.result (mid_of 1 (n - 1) (room at)) g hs (omega arith) lay.lay.ensures in
+    let all = parts (blanked at).blank.new.out g (formed at).form_of.result n (zeros at) (omega (arith, lay.lay.auto.room)) in
     rw (eq-eqb (length l) (image_n k) (omega (arith, lent_long at)))
-    (all ∙ alike (formed at).form_of.ensures (eg ∙ ap (held k) at.before.factory-settings.ensures) ∙ sym (factory_image k))
+    (all ∙ alike (formed at).form_of.ensures (eg ∙ ap (held k) at.factory_settings-settings.ensures) ∙ sym (factory_image k))
 
 pub put_factory_spec : {M : Type 1} → statement M
 put_factory_spec =

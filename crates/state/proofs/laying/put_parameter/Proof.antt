@@ -5,14 +5,14 @@ use Rattle.instrument.specs.Settings.{settings_most}
 use Rattle.state.proofs.laying.put_parameter.Statement.{statement}
 use Rattle.state.proofs.laying.put_parameter.Tie as tie
 
-returns : tie.Need-returns
-returns c = rw (le-ltb c.before.before.args.place settings_most c.if1.true)
+returns : tie.Need-returns-then-place-ge-SETTINGS
+returns c = rw (le-ltb c.args.place settings_most c.if-place-ge-SETTINGS.true)
 
-returns_2 : tie.Need-returns-2
+returns_2 : tie.Need-returns
 returns_2 c =
     let laid = c.before.before in
     let in_range = laid.before.before.before in
-    rw (lt-ltb in_range.before.before.args.place settings_most in_range.if1.false) laid.Lay-at.ensures
+    rw (lt-ltb in_range.args.place settings_most in_range.if-place-ge-SETTINGS.false) laid.lay_at.ensures
 
 pub put_parameter_spec : {M : Type 1} → statement M
 put_parameter_spec =

@@ -9,17 +9,17 @@ use Rattle.state.specs.Keeping.{laid_at}
 use Rattle.state.proofs.laying.put_value.Statement.{statement}
 use Rattle.state.proofs.laying.put_value.Tie as tie
 
-returns : tie.Need-returns
-returns c = rw (le-ltb c.before.before.args.place values_n c.if1.true)
+returns : tie.Need-returns-then-place-ge-VALUES
+returns c = rw (le-ltb c.args.place values_n c.if-place-ge-VALUES.true)
 
-returns_2 : tie.Need-returns-2
+returns_2 : tie.Need-returns
 returns_2 c =
     let laid = c.before.before in
     let at = laid.before.before in
     let made = at.before.before in
-    let a = made.before.before.before.args in
-    rw (lt-ltb a.place values_n made.before.if1.false)
-    (laid.Lay-at.ensures ∙ (λ i. laid_at (at.values_at.ensures.0 i + a.place * value_n) (made.kept-bytes.ensures i) a.image.now))
+    let a = made.args in
+    rw (lt-ltb a.place values_n made.if-place-ge-VALUES.false)
+    (laid.lay_at.ensures ∙ (λ i. laid_at (at.values_at.ensures.0 i + a.place * value_n) (made.kept_bytes-b.ensures i) a.image.now))
 
 pub put_value_spec : {M : Type 1} → statement M
 put_value_spec =

@@ -13,35 +13,35 @@ use Rattle.state.proofs.Rows.{rows_more, flat_none, value_bytes}
 use Rattle.state.proofs.laying.put_values.Statement.{statement}
 use Rattle.state.proofs.laying.put_values.Tie as tie
 
-abbrev invariant-loop : tie.invariant-loop
+abbrev invariant-loop : tie.invariant-loop-i
 invariant-loop out₀ values i₀ out i = (length out ≡ length out₀) × ((i ≤ values_n) × (take (i * 11) out ≡ flat value_bytes (take i values)))
 
-abbrev decreases-loop : tie.decreases-loop
+abbrev decreases-loop : tie.decreases-loop-i
 decreases-loop out₀ values i₀ out i = values_n - i
 
-loop_holds : tie.Need-loop-init invariant-loop decreases-loop
+loop_holds : tie.Need-loop-i-init invariant-loop decreases-loop
 loop_holds c = (refl, (omega arith, sym (flat_none value_bytes)))
 
-loop_again : tie.Need-loop-preserved invariant-loop decreases-loop
+loop_again : tie.Need-loop-i-preserved invariant-loop decreases-loop
 loop_again c =
-    let at = c.before.before.before.before.before.before.before.before.loop in
-    let made = c.before.before.before.before.before.kept-bytes in
-    let lay = c.before.before.lay in
-    let u = c.before.before.before.before.before.before.before.before.before.before.args.t1 in
+    let at = c.loop-i in
+    let made = c.kept_bytes-b in
+    let lay = c.lay in
+    let u = c.args.values in
     let hu : length u ≡ values_n = search rules in
     let hb : length made.result ≡ 11 = search rules in
     let more =
-    rows_more value_bytes 11 u (value_of Never) at.i (at.i * 11) at.out made.result lay.new.1.0
+    rows_more value_bytes 11 u (value_of Never) at.i (at.i * 11) at.out made.result lay.new.room
     refl (omega arith) (omega arith) hb made.ensures lay.ensures at.invariant.1.1 in
     (more.0 ∙ at.invariant.0, (omega arith, more.1))
 
-same_length : tie.Need-same-length invariant-loop decreases-loop
-same_length c = c.before.loop.invariant.0
+same_length : tie.Need-shape_of-out invariant-loop decreases-loop
+same_length c = c.loop-i.invariant.0
 
 returns : tie.Need-returns invariant-loop decreases-loop
 returns c =
-    let at = c.before.loop in
-    let u = c.before.before.before.args.t1 in
+    let at = c.loop-i in
+    let u = c.args.values in
     let hu : length u ≡ values_n = search rules in
     sym (take_all (at.i * 11) at.out (omega arith)) ∙ at.invariant.1.1 ∙ ap (flat value_bytes) (take_all at.i u (omega arith))
 
