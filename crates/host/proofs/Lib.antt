@@ -6,6 +6,3 @@ pub mod MendRead
 pub mod Answered
 pub mod Left
 pub mod Determined
-pub mod Lent
-pub mod LentRead
-pub mod LentWrite

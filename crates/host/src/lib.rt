@@ -1,4 +1,6 @@
 // The functions that a host in C links. Each answers its number * 2^32 + what it tells, except the two that tell an image's length.
+#![tactic(auto)]
+
 pub mod answers;
 pub mod listing;
 pub mod machine;

@@ -31,6 +31,7 @@ pub fn told_line(told: Told) -> u64
 }
 
 // Tells the length of a TPS100's image.
+#[tactic(auto, using(state::proofs::Images::image_100))]
 #[unsafe(no_mangle)]
 pub extern "C" fn gsi_image_size() -> u64
     ensures { result ≡ image_n Tps100 }
@@ -39,6 +40,7 @@ pub extern "C" fn gsi_image_size() -> u64
 }
 
 // Tells the length of a TPS300's image.
+#[tactic(auto, using(state::proofs::Images::image_300))]
 #[unsafe(no_mangle)]
 pub extern "C" fn gsi_image_size_300() -> u64
     ensures { result ≡ image_n Tps300 }

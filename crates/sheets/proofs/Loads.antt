@@ -155,7 +155,7 @@ list_few c sheet undo counts (Wrong at) = omega arith
 list_few c sheet undo counts (To at) =
     let p = entries_from c.series (get_or counts 0 0) sheet at in entries_few c sheet undo p.got p.came
 
-pub undo_few : (f : Form) (c : Contents) (sheet : List ℕ) (at : ℕ) → length (undo_from f c sheet at).got ≤ entries_n
+undo_few : (f : Form) (c : Contents) (sheet : List ℕ) (at : ℕ) → length (undo_from f c sheet at).got ≤ entries_n
 unfolding undo_from
 undo_few One c sheet at = by_test (eqb at (length sheet)) (λ e. rw e (omega arith)) (λ e. rw e (omega arith))
 undo_few Two c sheet at = let p = count_from sheet at in list_few c sheet at p.got p.came
@@ -167,7 +167,7 @@ module _ {f : Form} (one : f ≡ One) (c : Contents) (sheet : List ℕ) (at : �
   unfolding undo_from
   follows_none e = rw (one, eq-eqb at (length sheet) e)
 
-  pub follows_wrong : (at ≡ length sheet → ⊥) → (undo_from f c sheet at).came ≡ Wrong at
+  follows_wrong : (at ≡ length sheet → ⊥) → (undo_from f c sheet at).came ≡ Wrong at
   unfolding undo_from
   follows_wrong e = rw (one, ne_eqb at (length sheet) e)
 
@@ -188,7 +188,7 @@ module _ (f : Form) (k : Series) (sheet : List ℕ) where
   abbrev first : FirstLines
   first = first_lines f k sheet
 
-  pub first_wrong : (at : ℕ) → first.came ≡ Wrong at → loading_as f k sheet ≡ wrong at
+  first_wrong : (at : ℕ) → first.came ≡ Wrong at → loading_as f k sheet ≡ wrong at
   first_wrong at e = ap (after_first f k sheet first.settings first.values) e
 
   module _ (at : ℕ) (came : first.came ≡ To at) where
@@ -207,7 +207,7 @@ module _ (f : Form) (k : Series) (sheet : List ℕ) where
           ap (λ (x : First). contents_by k x.settings x.values) is ∙ (λ j. contents_by k (padded first.settings) (all j).values)
 
       pub kept_right : (contents_right (contents_by k r.settings r.values) ≡ true) × (at ≤ length sheet)
-      kept_right = (rw first_kept contents_right_lem, parted_within (first_taken f k sheet at came).parted)
+      kept_right = (ap contents_right first_kept ∙ contents_right_lem, parted_within (first_taken f k sheet at came).parted)
 
       pub undo_kept : f ≡ Two → (u : Undo) → u ≡ list_as (list_from (contents_by k r.settings r.values) sheet at) → u ≡ list_as (undo_in f k sheet at)
       undo_kept two u e =
@@ -288,7 +288,7 @@ module _ {k : Series} {image : List ℕ} (im : Imaged k image) (sheet : List ℕ
           ∙ contents_cleared im (padded p.settings) p.values (length_laid p.settings (replicate settings_most 0))
           (ap padded (padded_held k p.settings n.settings_long)) n.values_long
 
-      pub loads_one : f ≡ One → at ≡ length sheet → Loads image sheet answer.Loaded two
+      loads_one : f ≡ One → at ≡ length sheet → Loads image sheet answer.Loaded two
       loads_one e here =
           let so = follows_none e (contents_in f k sheet) sheet at here in
           loads_by at (ap (λ (q : Part Entry). q.came) so) two
@@ -303,3 +303,34 @@ module _ {k : Series} {image : List ℕ} (im : Imaged k image) (sheet : List ℕ
           ∙ ap (undo_laid k (list_as (undo_in f k sheet at)).entries (length got)) emptied
           ∙ undo_laid_lem k (padded p.settings) p.values (contents_right_lem f k sheet at to) got (undo_few f (contents_in f k sheet) sheet at)
           (replicate (entries_n - length got) blank_entry))
+
+-- the first form's returns, as the code comes to them: what stands after its lines is the first wrong line, and else the image is that of what they hold
+module _ (image sheet : List ℕ) (right : is_image image ≡ true) (one : form_in sheet ≡ One) where
+  abbrev k : Series
+  k = series_in image
+
+  im : Imaged k image
+  im = record { is = right; series = refl }
+
+  surplus : (at : ℕ) → (first_lines (form_in sheet) k sheet).came ≡ To at → (at ≡ length sheet → ⊥) → Loads image sheet (answer.Wrong at) image
+  surplus at to past =
+      loads_wrong im sheet refl at
+      (undo_came (form_in sheet) k sheet at to (Wrong at) (follows_wrong one (contents_in (form_in sheet) k sheet) sheet at past))
+
+  pub surplus_told : (at : ℕ) → (first_lines (form_in sheet) k sheet).came ≡ To at → (at ≡ length sheet → ⊥)
+      → answer.Wrong at ≡ (loaded image sheet).answer
+  surplus_told at to past = (surplus at to past).0
+
+  pub surplus_left : ((first_lines (form_in sheet) k sheet).came ≡ To (length sheet) → ⊥) → image ≡ (loaded image sheet).image
+  surplus_left past = by (first_lines (form_in sheet) k sheet).came refl
+    where
+      by : (m : Came) → (first_lines (form_in sheet) k sheet).came ≡ m → image ≡ (loaded image sheet).image
+      by (Wrong at) e = (loads_wrong im sheet refl at (first_wrong (form_in sheet) k sheet at e)).1
+      by (To at) e = (surplus at e (λ q. past (e ∙ ap To q))).1
+
+  pub loads_first : (first_lines (form_in sheet) k sheet).came ≡ To (length sheet) → (last : List ℕ)
+      → last ≡ cleared k (contents_laid k (first_as (first_lines (form_in sheet) k sheet)).settings (first_as (first_lines (form_in sheet) k sheet)).values image)
+      → Loads image sheet answer.Loaded last
+  loads_first to last e =
+      let r = first_as (first_lines (form_in sheet) k sheet) in
+      loads_one im sheet refl (length sheet) to r refl (contents_laid k r.settings r.values image) last refl e one refl

@@ -3,7 +3,7 @@ ghost use Rattle.std.specs.Prelude.{◌≡◌};
 ghost use Rattle.sheets.specs.Answers.{sheet_number, sheet_tells};
 
 // Wrong has the start of the first wrong, missing or surplus line; Standing, where undo entries stand in the way of the first form, that of the `undo=` line.
-#[derive(Drop)]
+#[derive(Clone, Copy)]
 pub enum Sheeted {
     NoState,
     Room,

@@ -6,7 +6,7 @@ ghost use Rattle.sheets.specs.Writing.{series_named};
 
 use instrument::settings::Series;
 
-#[derive(Drop)]
+#[derive(Clone, Copy)]
 pub enum Form {
     One,
     Two,

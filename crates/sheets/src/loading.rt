@@ -25,28 +25,28 @@ use state::judging::is_image;
 use state::laying::{clear, put_contents, put_count, put_entry};
 
 // How far the lines of a part were right: the start of the first wrong one, or the place past the last.
-#[derive(Drop)]
+#[derive(Clone, Copy)]
 pub enum Came {
     Wrong(usize),
     To(usize),
 }
 
 // What the settings' lines held; noughts where one is wrong.
-#[derive(Drop)]
+#[derive(Clone, Copy)]
 pub struct Settings {
     pub came: Came,
     pub settings: [u8; SETTINGS],
 }
 
 // What the values' lines held; never put where one is wrong.
-#[derive(Drop)]
+#[derive(Clone, Copy)]
 pub struct Values {
     pub came: Came,
     pub values: [Value; VALUES],
 }
 
 // What the first form's lines held, as the two parts say.
-#[derive(Drop)]
+#[derive(Clone, Copy)]
 pub struct First {
     pub came: Came,
     pub settings: [u8; SETTINGS],
@@ -54,28 +54,28 @@ pub struct First {
 }
 
 // What the digits at the start of some bytes say, three at most, and how many they are.
-#[derive(Drop)]
+#[derive(Clone, Copy)]
 pub struct Digits {
     pub number: u64,
     pub digits: usize,
 }
 
 // The length of a number with its LF, 0 where it isn't right, and the number.
-#[derive(Drop)]
+#[derive(Clone, Copy)]
 pub struct Numbered {
     pub n: usize,
     pub number: u64,
 }
 
 // A line's length, 0 where it isn't right, and the parameter that it holds.
-#[derive(Drop)]
+#[derive(Clone, Copy)]
 pub struct Taken {
     pub n: usize,
     pub parameter: u8,
 }
 
 // The same of a value's line.
-#[derive(Drop)]
+#[derive(Clone, Copy)]
 pub struct TakenValue {
     pub n: usize,
     pub kept: Kept,
@@ -408,6 +408,7 @@ fn put_undo(series: Series, entries: [Entry; ENTRIES], count: usize, image: &mut
 }
 
 // Loads a sheet of the series into an image of it.
+#[tactic(auto, using(crate::proofs::Loads::surplus_told, crate::proofs::Loads::surplus_left, crate::proofs::Loads::loads_first))]
 fn load_as(series: Series, image: &mut [u8], sheet: &[u8]) -> Sheeted
     requires { Imaged series image.old }
     ensures { Loads image.old sheet.now result image.new }

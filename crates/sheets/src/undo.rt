@@ -20,28 +20,28 @@ use instrument::values::{Kept, VALUES, Value, is_put, value_place};
 use state::entries::{ENTRIES, Entry, Former, Item, blank_entry};
 
 // A line's length, 0 where it isn't right, and the entry that it holds.
-#[derive(Drop)]
+#[derive(Clone, Copy)]
 pub struct TakenEntry {
     pub n: usize,
     pub entry: Entry,
 }
 
 // The same of the count's line.
-#[derive(Drop)]
+#[derive(Clone, Copy)]
 pub struct TakenCount {
     pub n: usize,
     pub count: usize,
 }
 
 // What the entries' lines held; blank where one is wrong.
-#[derive(Drop)]
+#[derive(Clone, Copy)]
 pub struct Entries {
     pub came: Came,
     pub entries: [Entry; ENTRIES],
 }
 
 // The undo list: its entries, and how many; none where a line is wrong.
-#[derive(Drop)]
+#[derive(Clone, Copy)]
 pub struct Undo {
     pub came: Came,
     pub entries: [Entry; ENTRIES],

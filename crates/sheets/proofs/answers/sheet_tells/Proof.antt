@@ -29,4 +29,4 @@ sheet_tells_spec =
     (λ c. search rules)
     (λ c. search rules)
     (λ c. search rules)
-    (λ c. rest c.before.args.answer c.match.keys4))
+    (λ c. rest c.args.answer c.in_default.in_default-own.keys4))

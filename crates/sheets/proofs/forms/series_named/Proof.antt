@@ -16,30 +16,30 @@ use Rattle.sheets.proofs.forms.series_named.Statement.{statement}
 use Rattle.sheets.proofs.forms.series_named.Tie as tie
 
 -- past the end nothing is named
-returns : tie.Need-returns
+returns : tie.Need-returns-then-sheet-at
 unfolding starts_with
 returns c =
     let line = c.before in
-    let a = line.before.before.args in
-    rw (drop_of_length-le a.sheet.now {i = length (form_line a.form)} (omega (arith, c.if1.true, line.form-length.ensures)))
+    let a = line.args in
+    rw (drop_of_length-le a.sheet.now {i = length (form_line a.form)} (omega (arith, c.if-sheet-at.true, line.form_length-at.ensures)))
 
-named : (c : tie.After-starts) → let a = c.before.before.before.before.before.before.args in
+named : (c : tie.After-starts) → let a = c.args in
     series_named a.form a.sheet.now ≡ cond c.starts.result Tps300 Tps100
 named c =
     let else = c.before.before.before in
     let line = else.before in
-    let sheet = line.before.before.args.sheet.now in
-    let at = line.form-length.result in
+    let sheet = line.args.sheet.now in
+    let at = line.form_length-at.result in
     let rest : mid_of at (length sheet - at) sheet ≡ drop at sheet = take_all (length sheet - at) (drop at sheet) (omega (arith, length-drop at sheet)) in
-    let place = line.form-length.ensures in
+    let place = line.form_length-at.ensures in
     ap (λ (b : Bool). cond b Tps300 Tps100)
     (ap (λ n. starts_with (series_line Tps300) (drop n sheet)) (sym place) ∙ ap (starts_with (series_line Tps300)) (sym rest) ∙ sym c.starts.ensures)
 
-returns_2 : tie.Need-returns-2
-returns_2 c = sym (named c.before ∙ rw c.if2.true)
+returns_2 : tie.Need-returns-then-starts
+returns_2 c = sym (named c.before ∙ rw c.if-starts.true)
 
-returns_3 : tie.Need-returns-3
-returns_3 c = sym (named c.before ∙ rw c.if2.false)
+returns_3 : tie.Need-returns
+returns_3 c = sym (named c.before ∙ rw c.if-starts.false)
 
 pub series_named_spec : {M : Type 1} → statement M
 series_named_spec =
@@ -47,7 +47,6 @@ series_named_spec =
     (tie.spec
     (λ c κs. search rules)
     returns
-    (λ c. search rules)
     (λ c. search rules)
     (λ c. search rules)
     (λ c. search rules)

@@ -5,15 +5,15 @@ use Rattle.sheets.proofs.Takes.{put_signed, sign_plus}
 use Rattle.sheets.proofs.loading.put_at.Statement.{statement}
 use Rattle.sheets.proofs.loading.put_at.Tie as tie
 
-returns : tie.Need-returns
+returns : tie.Need-returns-then-s-eq43
 returns c =
     let at = c.before.before.before.before.before.before.before.before.before.before.before in
-    put_signed at.args.s.now 0 (sign_plus _ c.before.if1.true).0
+    put_signed at.args.s.now 0 (sign_plus _ c.if-s-eq43.true).0
 
-returns_2 : tie.Need-returns-2
+returns_2 : tie.Need-returns
 returns_2 c =
     let at = c.before.before.before.before.before.before.before.before.before.before.before in
-    put_signed at.args.s.now 1 (rw (ne_eqb _ 43 c.before.if1.false))
+    put_signed at.args.s.now 1 (rw (ne_eqb _ 43 c.if-s-eq43.false))
 
 pub put_at_spec : {M : Type 1} → statement M
 put_at_spec =

@@ -9,33 +9,33 @@ use Rattle.sheets.proofs.Loads.{laid_none, laid_more}
 use Rattle.sheets.proofs.loading.put_undo.Statement.{statement}
 use Rattle.sheets.proofs.loading.put_undo.Tie as tie
 
-abbrev invariant-loop : tie.invariant-loop
+abbrev invariant-loop : tie.invariant-loop-i
 invariant-loop series count image₀ entries i₀ image i = (i ≤ count) × (length image ≡ length image₀) × (image ≡ entries_laid series entries i image₀)
 
-abbrev decreases-loop : tie.decreases-loop
+abbrev decreases-loop : tie.decreases-loop-i
 decreases-loop series count image₀ entries i₀ image i = count - i
 
-loop_holds : tie.Need-loop-init invariant-loop decreases-loop
+loop_holds : tie.Need-loop-i-init invariant-loop decreases-loop
 loop_holds c =
-    let a = c.before.args in
-    (omega arith, refl, laid_none a.series a.t2 a.image.now)
+    let a = c.args in
+    (omega arith, refl, laid_none a.series a.entries a.image.now)
 
-loop_again : tie.Need-loop-preserved invariant-loop decreases-loop
+loop_again : tie.Need-loop-i-preserved invariant-loop decreases-loop
 loop_again c =
     let put = c.before.before in
     let turn = put.before.before.before in
-    let loop = turn.before.loop in
-    let a = turn.before.before.before.args in
-    let more = laid_more a.series a.t2 loop.i a.image.now loop.invariant.2 put.put-entry.ensures in
-    (omega (arith, turn.loop-test.true), put.put-entry.auto.1.1.1.0 ∙ loop.invariant.1, more)
+    let loop = turn.loop-i in
+    let a = turn.args in
+    let more = laid_more a.series a.entries loop.i a.image.now loop.invariant.2 put.put_entry.ensures in
+    (omega (arith, turn.loop-i-test.true), put.put_entry.auto.image ∙ loop.invariant.1, more)
 
 returns : tie.Need-returns invariant-loop decreases-loop
 returns c =
     let put = c.before.before in
     let at = put.before.before.before in
-    let a = at.before.before.args in
-    let i : at.loop.i ≡ a.count = omega (arith, at.loop.invariant.0, put.before.before.loop-test.false) in
-    put.put_count.ensures ∙ ap (count_laid a.series a.count) (at.loop.invariant.2 ∙ ap (λ n. entries_laid a.series a.t2 n a.image.now) i)
+    let a = at.args in
+    let i : at.loop-i.i ≡ a.count = omega (arith, at.loop-i.invariant.0, put.loop-i-test.false) in
+    put.put_count.ensures ∙ ap (count_laid a.series a.count) (at.loop-i.invariant.2 ∙ ap (λ n. entries_laid a.series a.entries n a.image.now) i)
 
 pub put_undo_spec : {M : Type 1} → statement M
 put_undo_spec =
@@ -44,12 +44,12 @@ put_undo_spec =
     invariant-loop
     decreases-loop
     loop_holds
-    (λ c. omega (arith, c.loop-test.true, c.before.before.before.requires))
-    (λ c. omega (arith, c.loop-test.true, c.before.before.before.requires))
+    (λ c. omega (arith, c.loop-i-test.true, c.requires))
+    (λ c. omega (arith, c.loop-i-test.true, c.requires))
     (λ c κs. tt)
     (λ c. omega arith)
     (λ c. omega arith)
     loop_again
     (λ c κs. tt)
-    (λ c. c.before.before.put_count.auto.1.1.0 ∙ c.before.before.before.before.before.loop.invariant.1)
+    (λ c. c.put_count.auto.image ∙ c.loop-i.invariant.1)
     returns)

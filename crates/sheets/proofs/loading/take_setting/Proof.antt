@@ -1,12 +1,11 @@
 -- `take_setting` meets its contract: at each return the tests that led there judge the line.
-use mathlib.Core.Path.{◌≡◌, ap, ◌∙◌}
+use mathlib.Core.Path.{◌≡◌, ap, ◌∙◌, sym}
 use mathlib.Core.Bool.{true}
 use native.Mathlib.Omega.{arith}
 use borrow.Author.Rules.{rules}
 use lib.ListN.{length}
 use Rattle.figures.specs.Bytes.{starts_with}
 use Rattle.figures.proofs.Bytes.{starts_length}
-use Rattle.figures.proofs.Tests.{passed, failed}
 use Rattle.instrument.specs.Settings.{row_at, in_range}
 use Rattle.instrument.specs.declared.settings.Row.{Row}
 use Rattle.instrument.proofs.Ranges.{range_byte}
@@ -18,75 +17,74 @@ use Rattle.sheets.proofs.loading.take_setting.Statement.{statement}
 use Rattle.sheets.proofs.loading.take_setting.Tie as tie
 
 abbrev start : tie.After-starts → tie.Start
-start c = c.before.before.before.before.before.before
+start c = c.before.before.before.before.before
 
 -- the key that was compared
 keyed : (c : tie.After-starts) → let key = setting_key (row_at (start c).args.series (start c).args.place) in
-    (c.before.before.before.key-length.result ≡ length key) × (c.starts.result ≡ starts_with key (start c).args.s.now)
+    (c.key_length-k.result ≡ length key) × (c.starts.result ≡ starts_with key (start c).args.s.now)
 keyed c =
-    let n = c.before.before.before.key-length in
-    let key = c.before.before.before.before.key-at in
+    let n = c.key_length-k in
+    let key = c.key_at-key in
     let k = setting_keyed_lem (start c).args.series (start c).args.place in
     (n.ensures ∙ ap key_length key.ensures ∙ k.long, c.starts.ensures ∙ ap (λ w. starts_with w (start c).args.s.now) (key_part k key.ensures n.ensures))
 
-returns : tie.Need-returns
+returns : tie.Need-returns-then-not-starts
 returns c =
     let a = (start c.before.before).args in
-    c.no-setting.ensures ∙ setting_unkeyed a.series a.place a.s.now (failed (keyed c.before.before).1 c.before.if1.true)
+    c.no_setting.ensures ∙ setting_unkeyed a.series a.place a.s.now (sym (keyed c.before.before).1 ∙ c.if-not-starts.true)
 
-stands : (c : tie.Else1) → let a = (start c.before).args in starts_with (setting_key (row_at a.series a.place)) a.s.now ≡ true
-stands c = passed (keyed c.before).1 c.if1.false
+stands : (c : tie.Else-not-starts) → let a = (start c.before).args in starts_with (setting_key (row_at a.series a.place)) a.s.now ≡ true
+stands c = sym (keyed c.before).1 ∙ c.if-not-starts.false
 
-number_line_requires : tie.Need-number-line-requires
+number_line_requires : tie.Need-number_line-line-requires
 number_line_requires c κs =
     let a = (start c.before).args in
     omega (arith, (keyed c.before).0, starts_length (setting_key (row_at a.series a.place)) a.s.now (stands c))
 
-returns_2 : tie.Need-returns-2
+returns_2 : tie.Need-returns-then-n-eq0
 returns_2 c =
     let line = c.before.before in
     let at = line.before.before in
     let a = (start at).args in
-    c.no-setting2.ensures
-    ∙ setting_unended a.series a.place a.s.now (stands line.before) _ (keyed at).0 _ line.number-line.ensures.0 c.before.if2.true
+    c.no_setting-then-n-eq0.ensures
+    ∙ setting_unended a.series a.place a.s.now (stands line.before) _ (keyed at).0 _ line.number_line-line.ensures.0 c.if-n-eq0.true
 
 -- the row's range, which the number is held to
-ranged : (c : tie.After-in-range) → let line = c.before.before.before in
+ranged : (c : tie.After-in_range) → let line = c.before.before.before in
     let a = (start line.before.before).args in
-    c.in_range.result ≡ in_range (row_at a.series a.place) line.number-line.result.number
-ranged c = c.in_range.ensures ∙ ap (λ (r : Row). in_range r c.before.before.before.number-line.result.number) c.before.row_at_lem.ensures
+    c.in_range.result ≡ in_range (row_at a.series a.place) line.number_line-line.result.number
+ranged c = c.in_range.ensures ∙ ap (λ (r : Row). in_range r c.number_line-line.result.number) c.row_at.ensures
 
-returns_3 : tie.Need-returns-3
+returns_3 : tie.Need-returns-then-not-in_range
 returns_3 c =
     let range = c.before.before in
     let some = range.before.before in
     let line = some.before in
     let at = line.before.before in
     let a = (start at).args in
-    c.no-setting3.ensures
-    ∙ setting_beyond a.series a.place a.s.now (stands line.before) _ (keyed at).0 _ line.number-line.ensures.0 some.if2.false
-    (failed (ranged range) c.before.if3.true)
+    c.no_setting-then-not-in_range.ensures
+    ∙ setting_beyond a.series a.place a.s.now (stands line.before) _ (keyed at).0 _ line.number_line-line.ensures.0 some.if-n-eq0.false
+    ((sym (ranged range) ∙ c.if-not-in_range.true))
 
-add_n : tie.Need-overflow-add-t13
+add_n : tie.Need-overflow_add-result
 add_n c =
     let line = c.before.before.before.before in
-    let n = line.before.before.before.before.before in
-    omega (arith, line.number-line.ensures.1.1, n.key-length.ensures, key_most n.before.key-at.result)
+    omega (arith, line.number_line-line.ensures.1.1, line.key_length-k.ensures, key_most line.key_at-key.result)
 
-cast_parameter : tie.Need-overflow-cast-t18
+cast_parameter : tie.Need-overflow_cast-result
 cast_parameter c =
     let line = c.before.before.before.before in
     let a = (start line.before.before).args in
-    omega (arith, range_byte a.series a.place line.number-line.result.number (passed (ranged c.before) c.if3.false))
+    omega (arith, range_byte a.series a.place line.number_line-line.result.number ((sym (ranged c.before) ∙ c.if-not-in_range.false)))
 
-returns_4 : tie.Need-returns-4
+returns_4 : tie.Need-returns
 returns_4 c =
     let some = c.before.before.before in
     let line = some.before in
     let at = line.before.before in
     let a = (start at).args in
-    setting_is a.series a.place a.s.now (stands line.before) _ (keyed at).0 _ line.number-line.ensures.0 some.if2.false
-    (passed (ranged c.before) c.if3.false)
+    setting_is a.series a.place a.s.now (stands line.before) _ (keyed at).0 _ line.number_line-line.ensures.0 some.if-n-eq0.false
+    ((sym (ranged c.before) ∙ c.if-not-in_range.false))
 
 pub take_setting_spec : {M : Type 1} → statement M
 take_setting_spec =
@@ -96,7 +94,7 @@ take_setting_spec =
     (λ c κs. search rules)
     (λ c. search rules)
     (λ c. search rules)
-    (λ c. omega (arith, key_most c.before.before.key-at.result, c.before.key-length.ensures))
+    (λ c. omega (arith, key_most c.key_at-key.result, c.key_length-k.ensures))
     (λ c κs. search rules)
     (λ c κs. search rules)
     returns

@@ -27,42 +27,41 @@ rest (Written n) h = absurd (miss (0 ∷ 1 ∷ 2 ∷ 3 ∷ 5 ∷ []) 4 tt h)
 rest Loaded h = refl
 
 -- what the write comes to
-out : (w : tie.After-write) (r : ℕ) → r ≡ written_n w.write.result
-    → let a = w.before.before.before.before.before.before.before.before.before.before.before.before.args in
-    Prints a.input.now a.room.now r w.write.new.1.1.0
+out : (w : tie.After-write-answer) (r : ℕ) → r ≡ written_n w.write-answer.result
+    → let a = w.args in
+    Prints a.input.now a.room.now r w.write-answer.new.room
 out w r er =
     let run = w.before.before.before.before in
     let factory = run.before.before.before in
     let even = factory.before.before in
-    let a = even.before.before.before.args in
+    let a = even.args in
     let room : List ℕ = replicate (20 + rest_n) 0 in
-    let first : factory.put-factory.new.1.0 ≡ image_of factory100 = factory.put-factory.ensures ∙ encoded_fits factory100 room (sym image_100) in
-    plays_printed a.input.now run.run.new.1.0 a.room.now w.write.new.1.1.0 w.write.result r even.if1.false
-    (run.run.ensures ∙ ap (run_by (pieces a.input.now)) first) w.write.ensures er
+    let first : factory.put_factory.new.image ≡ image_of factory100 = factory.put_factory.ensures ∙ encoded_fits factory100 room (sym image_100) in
+    plays_printed a.input.now run.run.new.image a.room.now w.write-answer.new.room w.write-answer.result r even.if-input-gt-MOST.false
+    (run.run.ensures ∙ ap (run_by (pieces a.input.now)) first) w.write-answer.ensures er
 
-returns : tie.Need-returns
+returns : tie.Need-returns-then-room-lt14
 returns c =
-    let a = c.before.before.before.before.args in
-    plays_short a.input.now a.room.now c.before.if1.true c.if2.true
+    let a = c.args in
+    plays_short a.input.now a.room.now c.if-input-gt-MOST.true c.if-room-lt14.true
 
-returns_2 : tie.Need-returns-2
+returns_2 : tie.Need-returns-then-input-gt-MOST
 returns_2 c =
     let b = c.before.before.before.before.before in
-    let a = b.before.before.before.before.args in
-    plays_refused a.input.now a.room.now c.before.before.lay.new.1.0 b.before.if1.true b.if2.false c.before.before.lay.ensures
+    let a = b.args in
+    plays_refused a.input.now a.room.now c.lay.new.room b.if-input-gt-MOST.true b.if-room-lt14.false c.lay.ensures
 
-returns_3 : tie.Need-returns-3
-returns_3 c = out c.before.before.before.before.before c.before.answer.given.0.0 (sym (ap written_n c.before.answer.given.1))
+returns_3 : tie.Need-returns-in-Written
+returns_3 c = out c.before.before.before c.in-Written.n (sym (ap written_n c.in-Written.is))
 
-returns_4 : tie.Need-returns-4
-returns_4 c = out c.before.before.before 0 (rest c.before.before.before.write.result c.match.keys2)
+returns_4 : tie.Need-returns
+returns_4 c = out c.before.before.before 0 (rest c.write-answer.result c.in_default.in_default-own.keys2)
 
 pub play_spec : {M : Type 1} → statement M
 play_spec =
     tie.close
     (tie.spec
     returns
-    (λ c. search rules)
     (λ c κs. search rules)
     (λ c. search rules)
     returns_2

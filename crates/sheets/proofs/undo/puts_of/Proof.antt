@@ -17,28 +17,28 @@ use Rattle.sheets.proofs.undo.puts_of.Tie as tie
 abbrev put : Value → Bool
 put v = is_put v.kept
 
-abbrev invariant-loop : tie.invariant-loop
+abbrev invariant-loop : tie.invariant-loop-i
 invariant-loop values puts₀ i₀ puts i = (length puts ≡ values_n) × ((i ≤ values_n) × (take i puts ≡ take i (puts_of values)))
 
-abbrev decreases-loop : tie.decreases-loop
+abbrev decreases-loop : tie.decreases-loop-i
 decreases-loop values puts₀ i₀ puts i = values_n - i
 
-long : (c : tie.Start invariant-loop decreases-loop) → length c.args.t1 ≡ values_n
+long : (c : tie.Start invariant-loop decreases-loop) → length c.args.values ≡ values_n
 long c = search rules
 
-loop_again : tie.Need-loop-preserved invariant-loop decreases-loop
+loop_again : tie.Need-loop-i-preserved invariant-loop decreases-loop
 loop_again c =
     let turn = c.before.before.before in
-    let at = turn.loop in
-    let values = turn.before.args.t1 in
+    let at = turn.loop-i in
+    let values = turn.args.values in
     let more = map_more put values at.puts (value_of Never) at.i (omega (arith, long turn.before)) (omega arith) at.invariant.1.1 in
     let is : put (get_or values at.i (value_of Never)) ≡ c.is_put.result = sym c.is_put.ensures in
     (simp length-set at.invariant.0, (omega arith, rw is at more))
 
 returns : tie.Need-returns invariant-loop decreases-loop
 returns c =
-    let at = c.before.loop in
-    let values = c.before.before.args.t1 in
+    let at = c.loop-i in
+    let values = c.args.values in
     map_all put values at.puts at.i (omega (arith, long c.before.before)) (omega arith) at.invariant.1.1
 
 pub puts_of_spec : {M : Type 1} → statement M

@@ -4,14 +4,19 @@ use borrow.Author.Tests.{eq-eqb, ne_eqb}
 use Rattle.sheets.proofs.writing.key_length.Statement.{statement}
 use Rattle.sheets.proofs.writing.key_length.Tie as tie
 
-returns : tie.Need-returns
-returns c = rw (ne_eqb _ _ c.if1.true)
+returns : tie.Need-returns-then-key-ne0
+returns c = rw (ne_eqb _ _ c.if-key-ne0.true)
 
-returns_2 : tie.Need-returns-2
-returns_2 c = rw (eq-eqb _ _ c.before.if1.false, ne_eqb _ _ c.if2.true)
+returns_2 : tie.Need-returns-then-key-ne0-2
+returns_2 c = rw (eq-eqb _ _ c.if-key-ne0.false, ne_eqb _ _ c.if-key-ne0-2.true)
 
-returns_3 : tie.Need-returns-3
-returns_3 c = rw (eq-eqb _ _ c.before.if1.false, eq-eqb _ _ c.if2.false)
+returns_3 : tie.Need-returns
+returns_3 c = rw (eq-eqb _ _ c.if-key-ne0.false, eq-eqb _ _ c.if-key-ne0-2.false)
 
 pub key_length_spec : {M : Type 1} → statement M
-key_length_spec = tie.close (tie.spec (λ c. search rules) returns (λ c. search rules) returns_2 returns_3)
+key_length_spec = tie.close (tie.spec
+    (λ c. search rules)
+    returns
+    (λ c. search rules)
+    returns_2
+    returns_3)

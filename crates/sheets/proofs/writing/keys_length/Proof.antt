@@ -6,13 +6,13 @@ use Rattle.sheets.specs.Keeping.{keys_n}
 use Rattle.sheets.proofs.writing.keys_length.Statement.{statement}
 use Rattle.sheets.proofs.writing.keys_length.Tie as tie
 
-returns : tie.Need-returns
+returns : tie.Need-returns-in-Tps100
 unfolding keys_n rows100 digits_of digits_nBy
-returns c = rw c.enum_told.given.1
+returns c = rw c.in-Tps100.is
 
-returns_2 : tie.Need-returns-2
+returns_2 : tie.Need-returns-in-Tps300
 unfolding keys_n rows300 digits_of digits_nBy
-returns_2 c = rw c.enum-told2.given.1
+returns_2 c = rw c.in-Tps300.is
 
 pub keys_length_spec : {M : Type 1} → statement M
 keys_length_spec =

@@ -25,8 +25,8 @@ filled room text last at h e =
 returns : tie.Need-returns
 returns c =
     let lay = c.before.before in
-    let a = lay.before.before.before.before.args in
-    (omega arith, filled a.room.now a.text.now lay.lay.new.1.0 a.at (omega arith) lay.lay.ensures)
+    let a = lay.args in
+    (omega arith, filled a.room.now a.text.now lay.lay.new.room a.at (omega arith) lay.lay.ensures)
 
 pub lay_text_spec : {M : Type 1} → statement M
 lay_text_spec =

@@ -8,29 +8,28 @@ use Rattle.sheets.specs.Undo.{form_line}
 use Rattle.sheets.proofs.writing.put_form.Statement.{statement}
 use Rattle.sheets.proofs.writing.put_form.Tie as tie
 
-lay_text_requires : tie.Need-lay-text-requires
+lay_text_requires : tie.Need-lay_text-requires
 lay_text_requires c κs =
     let told = c.before.before in
-    omega (arith, told.before.before.before.requires, ap (λ f. length (form_line f)) told.enum-told2.given.1)
+    omega (arith, told.requires, ap (λ f. length (form_line f)) told.in-Two.is)
 
-returns : tie.Need-returns
+returns : tie.Need-returns-in-One
 returns c =
-    let start = c.before.before.before in
+    let start = c.before.before in
     let room = start.args.room.now in
-    puts_as room 0 _ (form_line start.args.form) (ap form_line c.enum_told.given.1) refl refl (puts_nothing room 0 (omega arith))
+    puts_as room 0 _ (form_line start.args.form) (ap form_line c.in-One.is) refl refl (puts_nothing room 0 (omega arith))
 
-returns_2 : tie.Need-returns-2
+returns_2 : tie.Need-returns-in-Two
 returns_2 c =
     let lay = c.before.before in
     let told = lay.before.before.before in
-    let a = told.before.before.before.args in
-    puts_as a.room.now 0 _ (form_line a.form) (ap form_line told.enum-told2.given.1) refl refl lay.lay-text.ensures
+    let a = told.args in
+    puts_as a.room.now 0 _ (form_line a.form) (ap form_line told.in-Two.is) refl refl lay.lay_text.ensures
 
 pub put_form_spec : {M : Type 1} → statement M
 put_form_spec =
     tie.close
     (tie.spec
-    (λ c. search rules)
     (λ c. search rules)
     (λ c. search rules)
     lay_text_requires

@@ -33,40 +33,40 @@ module _ {i : ℕ} {r : Stored} (separator : ℕ) (kept : Kept) (h : i < values_
 
 -- the two lines as they are made
 
-whole : (c : tie.After-get-word) → let row = c.before.before.before.before in
-    let a = row.before.before.args in
+whole : (c : tie.After-get_word-w) → let row = c.before.before.before in
+    let a = row.args in
     kept_text a.place a.separator a.kept
-    ≡ first_three row.stored_at.result.key ++ (a.separator ∷ (elements 15 0 c.get-word.result ++ codes "\n"))
+    ≡ first_three row.stored_at-row.result.key ++ (a.separator ∷ (elements 15 0 c.get_word-w.result ++ codes "\n"))
 whole c =
-    let row = c.before.before.before.before in
-    let start = row.before.before in
-    put start.args.separator start.args.kept start.requires.0 row.stored_at.ensures c.before.enum_told.given.1 c.get-word.ensures
-
-bare : (c : tie.After-enum-told2) → let row = c.before.before.before in
-    let a = row.before.before.args in
-    kept_text a.place a.separator a.kept ≡ first_three row.stored_at.result.key ++ (a.separator ∷ codes "\n")
-bare c =
     let row = c.before.before.before in
     let start = row.before.before in
-    never start.args.separator start.args.kept start.requires.0 row.stored_at.ensures c.enum-told2.given.1
+    put start.args.separator start.args.kept start.requires.0 row.stored_at-row.ensures c.in-Put.is c.get_word-w.ensures
 
-lay_text_requires : tie.Need-lay-text-requires
+bare : (c : tie.In_default) → let row = c.before.before in
+    let a = row.args in
+    kept_text a.place a.separator a.kept ≡ first_three row.stored_at-row.result.key ++ (a.separator ∷ codes "\n")
+bare c =
+    let row = c.before.before in
+    let start = row.before.before in
+    never start.args.separator start.args.kept start.requires.0 row.stored_at-row.ensures c.in_default.is
+
+lay_text_requires : tie.Need-lay_text-requires
 unfolding elements
 lay_text_requires c κs = omega (arith, ap length (whole c.before.before))
 
-returns : tie.Need-returns
+returns : tie.Need-returns-in-Put
 unfolding elements
 returns c =
     let lay = c.before.before in
-    puts_as _ _ _ _ (whole lay.before.before.before) refl refl lay.lay-text.ensures
+    puts_as _ _ _ _ (whole lay.before.before.before) refl refl lay.lay_text.ensures
 
-lay_text_requires_2 : tie.Need-lay-text-requires-2
+lay_text_requires_2 : tie.Need-lay_text-requires-2
 lay_text_requires_2 c κs = omega (arith, ap length (bare c.before.before))
 
-returns_2 : tie.Need-returns-2
+returns_2 : tie.Need-returns
 returns_2 c =
     let lay = c.before.before in
-    puts_as _ _ _ _ (bare lay.before.before.before) refl refl lay.lay-text2.ensures
+    puts_as _ _ _ _ (bare lay.before.before.before) refl refl lay.lay_text-2.ensures
 
 pub put_kept_spec : {M : Type 1} → statement M
 put_kept_spec =

@@ -19,33 +19,33 @@ use Rattle.sheets.proofs.UndoWrites.{undo_one, undo_two, list_in, entries_few, e
 use Rattle.sheets.proofs.writing.put_undo.Statement.{statement}
 use Rattle.sheets.proofs.writing.put_undo.Tie as tie
 
-abbrev invariant-loop : tie.invariant-loop
+abbrev invariant-loop : tie.invariant-loop-i
 invariant-loop series image room₀ start count number_at at₀ i₀ room at i =
     (count ≡ length (list_in image)) × Puts room₀ at₀ (lines_by (entry_lines (state_in image).series) 0 (take i (list_in image))) at room
 
-abbrev decreases-loop : tie.decreases-loop
+abbrev decreases-loop : tie.decreases-loop-i
 decreases-loop series image room₀ start count number_at at₀ i₀ room at i = count - i
 
 -- the first form has no list
-returns : tie.Need-returns invariant-loop decreases-loop
+returns : tie.Need-returns-in-One invariant-loop decreases-loop
 returns c =
-    let start = c.before.before.before.before in
+    let start = c.before.before.before in
     let a = start.args in
     let s = state_in a.image.now in
-    let none = ap (λ f. undo_text f s) c.enum_told.given.1 ∙ undo_one s in
+    let none = ap (λ f. undo_text f s) c.in-One.is ∙ undo_one s in
     puts_as a.room.now a.start _ (undo_text a.form s) none refl refl (puts_nothing a.room.now a.start (omega (arith, start.requires.1)))
 
-abbrev begun : tie.After-enum-told2 invariant-loop decreases-loop → tie.Start invariant-loop decreases-loop
-begun c = c.before.before.before.before
+abbrev begun : tie.In_default invariant-loop decreases-loop → tie.Start invariant-loop decreases-loop
+begun c = c.before.before.before
 
 -- the list's text in the second form
-text : (c : tie.After-enum-told2 invariant-loop decreases-loop) → let a = (begun c).args in
+text : (c : tie.In_default invariant-loop decreases-loop) → let a = (begun c).args in
     let s = state_in a.image.now in
     undo_text a.form s ≡ list_text s.series (list_in a.image.now)
-text c = let s = state_in (begun c).args.image.now in ap (λ f. undo_text f s) c.enum-told2.given.1 ∙ undo_two s
+text c = let s = state_in (begun c).args.image.now in ap (λ f. undo_text f s) c.in_default.is ∙ undo_two s
 
 -- its length by its two parts, and the count's line by its own
-long : (c : tie.After-enum-told2 invariant-loop decreases-loop) → let a = (begun c).args in
+long : (c : tie.In_default invariant-loop decreases-loop) → let a = (begun c).args in
     let s = state_in a.image.now in
     let entries = list_in a.image.now in
     (length (undo_text a.form s) ≡ length (count_line (length entries)) + length (lines_by (entry_lines s.series) 0 entries))
@@ -58,119 +58,119 @@ long c =
       length-append count_key (decimal_of (length entries) ++ codes "\n"),
     )
 
-counts : (c : tie.After-count-in invariant-loop decreases-loop) → c.count-in.result ≡ length (list_in (begun c.before).args.image.now)
-counts c = c.count-in.ensures ∙ entries_count (begun c.before).pre.0
+counts : (c : tie.After-count_in-count invariant-loop decreases-loop) → c.count_in-count.result ≡ length (list_in (begun c.before).args.image.now)
+counts c = c.count_in-count.ensures ∙ entries_count (begun c.before).requires.0
 
-lay_text_requires : tie.Need-lay-text-requires invariant-loop decreases-loop
+lay_text_requires : tie.Need-lay_text-number_at-requires invariant-loop decreases-loop
 lay_text_requires c κs =
-    let told = c.before.before.before in
+    let told = c.before.before.before.before in
     omega (arith, (begun told).requires.1, long told)
 
-abbrev key_put : tie.After-slice-known2 invariant-loop decreases-loop → tie.After-lay-text invariant-loop decreases-loop
+abbrev key_put : tie.After-slice_known-2-1 invariant-loop decreases-loop → tie.After-lay_text-number_at invariant-loop decreases-loop
 key_put c = c.before.before
 
-abbrev counted : tie.After-lay-text invariant-loop decreases-loop → tie.After-count-in invariant-loop decreases-loop
-counted c = c.before.before.before
+abbrev counted : tie.After-lay_text-number_at invariant-loop decreases-loop → tie.After-count_in-count invariant-loop decreases-loop
+counted c = c.before.before.before.before
 
-cast_put_parameter : tie.Need-overflow-cast-put-parameter invariant-loop decreases-loop
+cast_put_parameter : tie.Need-overflow_cast-count invariant-loop decreases-loop
 cast_put_parameter c =
     let count = counted (key_put c) in
-    omega (arith, counts count, entries_few (begun count.before).pre.0)
+    omega (arith, counts count, entries_few (begun count.before).requires.0)
 
-put_parameter_requires : tie.Need-put-parameter-requires invariant-loop decreases-loop
+put_parameter_requires : tie.Need-put_parameter-at-requires invariant-loop decreases-loop
 put_parameter_requires c κs =
     let lay = key_put c.before in
     let count = counted lay in
     let start = begun count.before in
     let a = start.args in
     rw (counts count) (
-      omega (arith, entries_few start.pre.0),
-      omega (arith, start.pre.1, long count.before, lay.lay-text.ensures.0, puts_long a.room.now a.start count_key lay.lay-text.ensures),
+      omega (arith, entries_few start.requires.0),
+      omega (arith, start.requires.1, long count.before, lay.lay_text-number_at.ensures.0, puts_long a.room.now a.start count_key lay.lay_text-number_at.ensures),
     )
 
 -- the count's line is put
 
-abbrev from_count : tie.After-put-parameter invariant-loop decreases-loop → tie.After-count-in invariant-loop decreases-loop
+abbrev from_count : tie.After-put_parameter-at invariant-loop decreases-loop → tie.After-count_in-count invariant-loop decreases-loop
 from_count c = counted (key_put c.before.before)
 
-count_put : (c : tie.After-put-parameter invariant-loop decreases-loop) → let a = (begun (from_count c).before).args in
-    Puts a.room.now a.start (count_line (length (list_in a.image.now))) c.put-parameter.result c.put-parameter.new.1.0
+count_put : (c : tie.After-put_parameter-at invariant-loop decreases-loop) → let a = (begun (from_count c).before).args in
+    Puts a.room.now a.start (count_line (length (list_in a.image.now))) c.put_parameter-at.result c.put_parameter-at.new.room
 count_put c =
     let count = from_count c in
     let a = (begun count.before).args in
     let number = decimal_of (length (list_in a.image.now)) ++ codes "\n" in
     let same = ap (λ (n : ℕ). decimal_of n ++ codes "\n") (sym (counts count)) in
-    puts_more a.room.now a.start count_key number (key_put c.before.before).lay-text.ensures (puts_as _ _ _ _ same refl refl c.put-parameter.ensures)
+    puts_more a.room.now a.start count_key number (key_put c.before.before).lay_text-number_at.ensures (puts_as _ _ _ _ same refl refl c.put_parameter-at.ensures)
 
 -- and then the lines fit
-fits : (c : tie.After-put-parameter invariant-loop decreases-loop) → let image = (begun (from_count c).before).args.image.now in
-    c.put-parameter.result + length (lines_by (entry_lines (state_in image).series) 0 (list_in image)) ≤ length c.put-parameter.new.1.0
+fits : (c : tie.After-put_parameter-at invariant-loop decreases-loop) → let image = (begun (from_count c).before).args.image.now in
+    c.put_parameter-at.result + length (lines_by (entry_lines (state_in image).series) 0 (list_in image)) ≤ length c.put_parameter-at.new.room
 fits c =
     let told = (from_count c).before in
     let start = begun told in
     let a = start.args in
     let p = count_put c in
-    omega (arith, start.pre.1, (long told).0, p.0, puts_long a.room.now a.start (count_line (length (list_in a.image.now))) p)
+    omega (arith, start.requires.1, (long told).0, p.0, puts_long a.room.now a.start (count_line (length (list_in a.image.now))) p)
 
-abbrev put : tie.At-loop invariant-loop decreases-loop → tie.After-put-parameter invariant-loop decreases-loop
+abbrev put : tie.At-loop-i invariant-loop decreases-loop → tie.After-put_parameter-at invariant-loop decreases-loop
 put c = c.before.before.before
 
-abbrev first : tie.At-loop invariant-loop decreases-loop → tie.Start invariant-loop decreases-loop
+abbrev first : tie.At-loop-i invariant-loop decreases-loop → tie.Start invariant-loop decreases-loop
 first c = begun (from_count (put c)).before
 
 abbrev lines : tie.Start invariant-loop decreases-loop → LinesOf Entry
 lines c = entry_lines (state_in c.args.image.now).series
 
-loop_holds : tie.Need-loop-init invariant-loop decreases-loop
+loop_holds : tie.Need-loop-i-init invariant-loop decreases-loop
 loop_holds c =
     let p = c.before.before in
     let count = from_count p in
     let start = begun count.before in
-    (counts count, lines_none (lines start) p.put-parameter.new.1.0 p.put-parameter.result (list_in start.args.image.now) (omega (arith, fits p)))
+    (counts count, lines_none (lines start) p.put_parameter-at.new.room p.put_parameter-at.result (list_in start.args.image.now) (omega (arith, fits p)))
 
-inside : (c : tie.In-loop invariant-loop decreases-loop) → c.before.loop.i < length (list_in (first c.before).args.image.now)
-inside c = omega (arith, c.loop-test.true, c.before.loop.invariant.0)
+inside : (c : tie.In-loop-i invariant-loop decreases-loop) → c.loop-i.i < length (list_in (first c.before).args.image.now)
+inside c = omega (arith, c.loop-i-test.true, c.loop-i.invariant.0)
 
 -- the line of a turn
-turn : (c : tie.After-entry-at invariant-loop decreases-loop) → let at = c.before.before in
+turn : (c : tie.After-entry_at-entry invariant-loop decreases-loop) → let at = c.before.before in
     let start = first at in
-    let i = at.loop.i in
-    entry_line start.args.series c.entry_at.result ≡ (lines start).write i (get_or (list_in start.args.image.now) i blank_entry)
+    let i = at.loop-i.i in
+    entry_line start.args.series c.entry_at-entry.result ≡ (lines start).write i (get_or (list_in start.args.image.now) i blank_entry)
 turn c =
     let at = c.before.before in
-    entry_text (first at).requires.0 at.loop.i (inside c.before) c.entry_at.result c.entry_at.ensures
+    entry_text (first at).requires.0 at.loop-i.i (inside c.before) c.entry_at-entry.result c.entry_at-entry.ensures
 
-put_entry_requires : tie.Need-put-entry-requires invariant-loop decreases-loop
+put_entry_requires : tie.Need-put_entry-at-requires invariant-loop decreases-loop
 put_entry_requires c κs =
     let read = c.before in
     let at = read.before.before in
     let start = first at in
     let here = inside read.before in
-    let i = at.loop.i in
-    let next = lines_fit (lines start) (put at).put-parameter.new.1.0 (put at).put-parameter.result (list_in start.args.image.now) i blank_entry here
-    (fits (put at)) at.loop.invariant.1 in
-    (rw read.entry_at.ensures (entry_right_lem start.pre.0 i here), omega (arith, ap length (turn read), next))
+    let i = at.loop-i.i in
+    let next = lines_fit (lines start) (put at).put_parameter-at.new.room (put at).put_parameter-at.result (list_in start.args.image.now) i blank_entry here
+    (fits (put at)) at.loop-i.invariant.1 in
+    (rw read.entry_at-entry.ensures (entry_right_lem start.requires.0 i here), omega (arith, ap length (turn read), next))
 
-loop_again : tie.Need-loop-preserved invariant-loop decreases-loop
+loop_again : tie.Need-loop-i-preserved invariant-loop decreases-loop
 loop_again c =
     let done = c.before.before in
     let read = done.before.before in
     let at = read.before.before in
     let start = first at in (
-      at.loop.invariant.0,
-      lines_put (lines start) (put at).put-parameter.new.1.0 (put at).put-parameter.result (list_in start.args.image.now) at.loop.i blank_entry
-          (inside read.before) (turn read) at.loop.invariant.1 done.put-entry.ensures,
+      at.loop-i.invariant.0,
+      lines_put (lines start) (put at).put_parameter-at.new.room (put at).put_parameter-at.result (list_in start.args.image.now) at.loop-i.i blank_entry
+          (inside read.before) (turn read) at.loop-i.invariant.1 done.put_entry-at.ensures,
     )
 
-returns_2 : tie.Need-returns-2 invariant-loop decreases-loop
+returns_2 : tie.Need-returns invariant-loop decreases-loop
 returns_2 c =
     let at = c.before in
     let p = put at in
     let start = first at in
     let a = start.args in
     let entries = list_in a.image.now in
-    let past : length entries ≤ at.loop.i = omega (arith, c.loop-test.false, at.loop.invariant.0) in
-    let all = lines_all (lines start) p.put-parameter.last.1.0 p.put-parameter.result entries at.loop.i past at.loop.invariant.1 in
+    let past : length entries ≤ at.loop-i.i = omega (arith, c.loop-i-test.false, at.loop-i.invariant.0) in
+    let all = lines_all (lines start) p.put_parameter-at.new.room p.put_parameter-at.result entries at.loop-i.i past at.loop-i.invariant.1 in
     let whole = puts_more a.room.now a.start (count_line (length entries)) (lines_by (lines start) 0 entries) (count_put p) all in
     puts_as _ _ _ _ (text (from_count p).before) refl refl whole
 
@@ -184,15 +184,14 @@ put_undo_spec =
     returns
     (λ c. search rules)
     (λ c κs. search rules)
-    (λ c. search rules)
     lay_text_requires
     cast_put_parameter
     put_parameter_requires
     loop_holds
     (λ c κs. search rules)
     put_entry_requires
-    (λ c. omega arith)
-    (λ c. omega arith)
+    (λ c. search rules)
+    (λ c. search rules)
     loop_again
-    (λ c. puts_long _ _ _ c.before.loop.invariant.1 ∙ puts_long _ _ _ (count_put (put c.before)))
+    (λ c. puts_long _ _ _ c.loop-i.invariant.1 ∙ puts_long _ _ _ (count_put (put c.before)))
     returns_2)

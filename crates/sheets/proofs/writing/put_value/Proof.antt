@@ -8,7 +8,7 @@ use Rattle.sheets.proofs.Linewise.{kept_text_lem}
 use Rattle.sheets.proofs.writing.put_value.Statement.{statement}
 use Rattle.sheets.proofs.writing.put_value.Tie as tie
 
-put_kept_requires : tie.Need-put-kept-requires
+put_kept_requires : tie.Need-put_kept-requires
 put_kept_requires c κs =
     let start = c.before.before in
     (start.requires.0, omega (arith, start.requires.1, ap length (kept_text_lem start.args.place start.args.kept)))
@@ -16,8 +16,11 @@ put_kept_requires c κs =
 returns : tie.Need-returns
 returns c =
     let put = c.before.before in
-    let a = put.before.before.before.args in
-    puts_as _ _ _ _ (kept_text_lem a.place a.kept) refl refl put.put_kept_lem.ensures
+    let a = put.args in
+    puts_as _ _ _ _ (kept_text_lem a.place a.kept) refl refl put.put_kept.ensures
 
 pub put_value_spec : {M : Type 1} → statement M
-put_value_spec = tie.close (tie.spec put_kept_requires (λ c. search rules) returns)
+put_value_spec = tie.close (tie.spec
+    put_kept_requires
+    (λ c. search rules)
+    returns)

@@ -3,11 +3,15 @@ use borrow.Author.Rules.{rules}
 use Rattle.sheets.proofs.writing.series_line.Statement.{statement}
 use Rattle.sheets.proofs.writing.series_line.Tie as tie
 
-returns : tie.Need-returns
-returns c = rw c.before.before.enum_told.given.1
+returns : tie.Need-returns-in-Tps100
+returns c = rw c.in-Tps100.is
 
-returns_2 : tie.Need-returns-2
-returns_2 c = rw c.before.before.enum-told2.given.1
+returns_2 : tie.Need-returns-in-Tps300
+returns_2 c = rw c.in-Tps300.is
 
 pub series_line_spec : {M : Type 1} → statement M
-series_line_spec = tie.close (tie.spec (λ c. search rules) (λ c. search rules) returns returns_2)
+series_line_spec = tie.close (tie.spec
+    (λ c. search rules)
+    (λ c. search rules)
+    returns
+    returns_2)

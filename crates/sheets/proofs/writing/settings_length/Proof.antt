@@ -14,31 +14,31 @@ use Rattle.sheets.proofs.Writes.{own_in, own_long, own_count, own_read}
 use Rattle.sheets.proofs.writing.settings_length.Statement.{statement}
 use Rattle.sheets.proofs.writing.settings_length.Tie as tie
 
-abbrev invariant-loop : tie.invariant-loop
+abbrev invariant-loop : tie.invariant-loop-i
 invariant-loop image count n₀ i₀ n i =
     (count ≡ length (own_in image)) × (n ≡ size_to (state_in image).series (own_in image) i) × (n ≤ 164 + 3 * i)
 
-abbrev decreases-loop : tie.decreases-loop
+abbrev decreases-loop : tie.decreases-loop-i
 decreases-loop image count n₀ i₀ n i = count - i
 
-loop_holds : tie.Need-loop-init invariant-loop decreases-loop
+loop_holds : tie.Need-loop-i-init invariant-loop decreases-loop
 loop_holds c =
     let start = c.before.before.before in
     let im = start.requires in
     let image = start.args.image.now in
-    let keys = c.keys_length.ensures in (
-      c.before.settings-of.ensures ∙ own_count im,
+    let keys = c.keys_length-n.ensures in (
+      c.settings_of-count.ensures ∙ own_count im,
       keys ∙ ap keys_n (sym (series_read im)) ∙ size_none (state_in image).series (own_in image),
       omega (arith, keys, keys_few start.args.series),
     )
 
-add_n : tie.Need-overflow-add-n invariant-loop decreases-loop
+add_n : tie.Need-overflow_add-n invariant-loop decreases-loop
 add_n c =
     let turn = c.before.before.before in
     let start = turn.before.before.before.before.before in
-    omega (arith, c.digits_in.ensures.1, turn.loop-test.true, turn.before.loop.invariant, own_count start.requires, settings_few start.args.series)
+    omega (arith, c.digits_in-n.ensures.1, turn.loop-i-test.true, turn.loop-i.invariant, own_count start.requires, settings_few start.args.series)
 
-loop_again : tie.Need-loop-preserved invariant-loop decreases-loop
+loop_again : tie.Need-loop-i-preserved invariant-loop decreases-loop
 loop_again c =
     let wide = c.before in
     let read = wide.before in
@@ -48,19 +48,19 @@ loop_again c =
     let im = start.requires in
     let image = start.args.image.now in
     let own = own_in image in
-    let i = at.loop.i in
-    let here : i < length own = omega (arith, turn.loop-test.true, at.loop.invariant.0) in
-    let digits = c.digits_in.ensures.0 ∙ ap digits_n (wide.wide.ensures ∙ read.parameter-in.ensures ∙ own_read im i here) in
+    let i = at.loop-i.i in
+    let here : i < length own = omega (arith, turn.loop-i-test.true, at.loop-i.invariant.0) in
+    let digits = c.digits_in-n.ensures.0 ∙ ap digits_n (wide.wide.ensures ∙ read.parameter_in.ensures ∙ own_read im i here) in
     let more = size_more (state_in image).series own (own_long im) i here in
-    (at.loop.invariant.0, omega (arith, at.loop.invariant.1, digits, more), omega (arith, at.loop.invariant.2, c.digits_in.ensures.1))
+    (at.loop-i.invariant.0, omega (arith, at.loop-i.invariant.1, digits, more), omega (arith, at.loop-i.invariant.2, c.digits_in-n.ensures.1))
 
 returns : tie.Need-returns invariant-loop decreases-loop
 returns c =
     let at = c.before in
     let start = at.before.before.before.before in
     let image = start.args.image.now in
-    let past : length (own_in image) ≤ at.loop.i = omega (arith, c.loop-test.false, at.loop.invariant.0) in
-    at.loop.invariant.1 ∙ size_all (state_in image).series (own_in image) (own_long start.requires) at.loop.i past
+    let past : length (own_in image) ≤ at.loop-i.i = omega (arith, c.loop-i-test.false, at.loop-i.invariant.0) in
+    at.loop-i.invariant.1 ∙ size_all (state_in image).series (own_in image) (own_long start.requires) at.loop-i.i past
 
 pub settings_length_spec : {M : Type 1} → statement M
 settings_length_spec =

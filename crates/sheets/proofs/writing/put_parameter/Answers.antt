@@ -1,0 +1,46 @@
+-- `put_parameter` meets its contract: up to three digits, and LF.
+use Prim.Native.Nat.{ℕ, ◌+◌, ◌/◌, ◌%◌, ◌<◌, ◌≤◌}
+use mathlib.Core.Path.{◌≡◌, refl, ap}
+use mathlib.Core.List.{[], ◌∷◌, ◌++◌}
+use native.Mathlib.Omega.{arith}
+use lib.ListN.{length}
+use Rattle.figures.specs.Text.{codes}
+use Rattle.figures.specs.Decimal.{decimal_of}
+use Rattle.figures.proofs.Putting.{puts_as}
+use Rattle.sheets.proofs.Linewise.{one_digit, two_digits, three_digits}
+use Rattle.sheets.proofs.writing.put_parameter.Goals as goal
+
+module _ (n : ℕ) {ones : ℕ} (e : ones ≡ 48 + n % 10) where
+  one : n < 10 → decimal_of n ++ codes "\n" ≡ ones ∷ 10 ∷ []
+  one h = rw (one_digit n h, e)
+
+  two : {tens : ℕ} → tens ≡ 48 + n / 10 % 10 → 10 ≤ n → n < 100 → decimal_of n ++ codes "\n" ≡ tens ∷ ones ∷ 10 ∷ []
+  two t low h = rw (two_digits n low h, t, e)
+
+  three : {tens hundreds : ℕ} → tens ≡ 48 + n / 10 % 10 → hundreds ≡ 48 + n / 100 % 10 → 100 ≤ n → n < 1000
+      → decimal_of n ++ codes "\n" ≡ hundreds ∷ tens ∷ ones ∷ 10 ∷ []
+  three t u low h = rw (three_digits n low h, u, t, e)
+
+pub lay_text-requires : goal.lay_text-requires
+lay_text-requires c = omega (arith, c.requires.1, ap length (one c.args.parameter c.figure-ones.ensures c.if-parameter-lt10.true))
+
+pub returns-then-parameter-lt10 : goal.returns-then-parameter-lt10
+returns-then-parameter-lt10 c = puts_as _ _ _ _ (one c.args.parameter c.figure-ones.ensures c.if-parameter-lt10.true) refl refl c.lay_text.ensures
+
+pub lay_text-requires-then-parameter-lt100 : goal.lay_text-requires-then-parameter-lt100
+lay_text-requires-then-parameter-lt100 c =
+    omega (arith, c.requires.1, ap length (two c.args.parameter c.figure-ones.ensures c.figure-tens.ensures (omega arith) c.if-parameter-lt100.true))
+
+pub returns-then-parameter-lt100 : goal.returns-then-parameter-lt100
+returns-then-parameter-lt100 c =
+    puts_as _ _ _ _ (two c.args.parameter c.figure-ones.ensures c.figure-tens.ensures (omega arith) c.if-parameter-lt100.true) refl refl
+    c.lay_text-then-parameter-lt100.ensures
+
+pub lay_text-requires-2 : goal.lay_text-requires-2
+lay_text-requires-2 c =
+    omega (arith, c.requires.1, ap length (three c.args.parameter c.figure-ones.ensures c.figure-tens.ensures c.figure.ensures (omega arith) c.requires.0))
+
+pub returns : goal.returns
+returns c =
+    puts_as _ _ _ _ (three c.args.parameter c.figure-ones.ensures c.figure-tens.ensures c.figure.ensures (omega arith) c.requires.0) refl refl
+    c.lay_text-2.ensures
