@@ -3,93 +3,100 @@
 // byte of the line. A table is one text. A row of it is a letter and a blank, a name, a bar, the bytes that are read, and a semicolon. The letter: S a total
 // station's block, L a level's, F a line on a fresh image, M a line 64 times on a fresh image, and how often it was accepted, I a line on the image as the
 // row before left it.
+#![tactic(auto)]
+
 ghost use Rattle.std.specs.Prelude.{◌≤◌, length};
+ghost use Rattle.streams.specs.Written.{WritesStart};
 
 use blocks::answers::{Answer, refusal_number, refusal_tells};
 use blocks::judging::{answer_of, start_of};
 use figures::run_before;
 use instrument::settings::Series;
-use libc::STDOUT_FILENO;
 use lines::machine::{Told, line};
 use lines::verdicts::{Verdict, verdict_byte, verdict_number, verdict_which};
 use state::image::IMAGE_100;
 use state::laying::put_factory;
+use std::io::Write;
+use streams::write_all;
 use units::kinds::Family;
 use words::reading::{read_word, width_of};
 use words::records::Word;
 
-fn put(text: &[u8]) {
-    io::write_all(STDOUT_FILENO, text);
+// Writes a text, as far as that can be done.
+fn put<W: Write>(out: &mut W, text: &[u8])
+    ensures { WritesStart (W.contents out.old) (W.contents out.new) text.now }
+{
+    let _ = write_all(out, text);
 }
 
-fn tell(what: &[u8], n: u64) {
-    put(what);
-    io::print_decimal(STDOUT_FILENO, n);
+fn tell<W: Write>(out: &mut W, what: &[u8], n: u64) {
+    put(out, what);
+    let _ = write!(out, "{n}");
 }
 
-fn put_value(word: Word) {
-    tell(b" ", word.index as u64);
+fn put_value<W: Write>(out: &mut W, word: Word) {
+    tell(out, b" ", word.index as u64);
     if word.minus == 1 {
-        tell(b"=-", word.size);
+        tell(out, b"=-", word.size);
     } else {
-        tell(b"=+", word.size);
+        tell(out, b"=+", word.size);
     }
 }
 
-fn put_value_at(family: Family, block: &[u8], wide: bool, place: usize) {
+fn put_value_at<W: Write>(out: &mut W, family: Family, block: &[u8], wide: bool, place: usize) {
     if place <= block.len() {
         let one = read_word(&block[place..], family, wide);
-        put_value(one.word);
+        put_value(out, one.word);
     }
 }
 
 // Shows the values of the n words of a block that was read.
-fn put_values(family: Family, block: &[u8], wide: bool, n: usize) {
+fn put_values<W: Write>(out: &mut W, family: Family, block: &[u8], wide: bool, n: usize) {
     let size = width_of(wide) + 8;
     let mut place = start_of(wide);
     let mut i = 0;
     while i < 32 {
         if i < n {
-            put_value_at(family, block, wide, place);
+            put_value_at(out, family, block, wide, place);
         }
         place += size;
         i += 1;
     }
 }
 
-fn put_answer(answer: Answer) {
+fn put_answer<W: Write>(out: &mut W, answer: Answer) {
     match answer {
         Answer::Refused(refusal) => {
-            tell(b" refused=", refusal_number(refusal));
-            tell(b" place=", refusal_tells(refusal) as u64);
+            tell(out, b" refused=", refusal_number(refusal));
+            tell(out, b" place=", refusal_tells(refusal) as u64);
         }
         Answer::Read(reading) => {
-            tell(b" words=", reading.words as u64);
-            tell(b" bytes=", reading.used as u64);
+            tell(out, b" words=", reading.words as u64);
+            tell(out, b" bytes=", reading.used as u64);
         }
     }
 }
 
-fn put_verdict(verdict: Verdict) {
-    tell(b" number=", verdict_number(verdict));
+fn put_verdict<W: Write>(out: &mut W, verdict: Verdict) {
+    tell(out, b" number=", verdict_number(verdict));
     if verdict_which(verdict) != 0 {
-        tell(b" which=", verdict_which(verdict));
-        tell(b" byte=", verdict_byte(verdict) as u64);
+        tell(out, b" which=", verdict_which(verdict));
+        tell(out, b" byte=", verdict_byte(verdict) as u64);
     }
 }
 
-fn put_accepted(n: u64) {
-    tell(b" accepted=", n);
-    put(b"\n");
+fn put_accepted<W: Write>(out: &mut W, n: u64) {
+    tell(out, b" accepted=", n);
+    put(out, b"\n");
 }
 
-fn judge_block(family: Family, block: &[u8]) {
+fn judge_block<W: Write>(out: &mut W, family: Family, block: &[u8]) {
     let answer = answer_of(block, family);
-    put_answer(answer);
+    put_answer(out, answer);
     if let Answer::Read(reading) = answer {
-        put_values(family, block, reading.wide, reading.words);
+        put_values(out, family, block, reading.wide, reading.words);
     }
-    put(b"\n");
+    put(out, b"\n");
 }
 
 // Runs the line on the image, with room for a TPS100's longest reply.
@@ -98,12 +105,12 @@ fn answer(image: &mut [u8], text: &[u8]) -> Told {
     line(image, text, &mut reply)
 }
 
-fn send_line(image: &mut [u8], text: &[u8]) {
+fn send_line<W: Write>(out: &mut W, image: &mut [u8], text: &[u8]) {
     let told = answer(image, text);
     let verdict = told.verdict;
-    put_verdict(verdict);
-    tell(b" reply=", told.count as u64);
-    put(b"\n");
+    put_verdict(out, verdict);
+    tell(out, b" reply=", told.count as u64);
+    put(out, b"\n");
 }
 
 fn renew(image: &mut [u8]) {
@@ -125,23 +132,23 @@ fn send_often(image: &mut [u8], text: &[u8]) -> u64 {
     accepted
 }
 
-fn run(image: &mut [u8], letter: u8, bytes: &[u8]) {
+fn run<W: Write>(out: &mut W, image: &mut [u8], letter: u8, bytes: &[u8]) {
     match letter {
-        b'S' => judge_block(Family::Station, bytes),
-        b'L' => judge_block(Family::Level, bytes),
+        b'S' => judge_block(out, Family::Station, bytes),
+        b'L' => judge_block(out, Family::Level, bytes),
         b'F' => {
             renew(image);
-            send_line(image, bytes);
+            send_line(out, image, bytes);
         }
         b'M' => {
             renew(image);
-            put_accepted(send_often(image, bytes));
+            put_accepted(out, send_often(image, bytes));
         }
-        _ => send_line(image, bytes),
+        _ => send_line(out, image, bytes),
     }
 }
 
-fn run_row(image: &mut [u8], row: &[u8]) {
+fn run_row<W: Write>(out: &mut W, image: &mut [u8], row: &[u8]) {
     let bar = run_before(row, b'|');
     if bar < 2 {
         return;
@@ -149,8 +156,8 @@ fn run_row(image: &mut [u8], row: &[u8]) {
     if row.len() <= bar {
         return;
     }
-    put(&row[2..bar]);
-    run(image, row[0], &row[bar + 1..]);
+    put(out, &row[2..bar]);
+    run(out, image, row[0], &row[bar + 1..]);
 }
 
 // Tells where the row that starts at a place ends.
@@ -161,24 +168,25 @@ fn row_end(table: &[u8], at: usize) -> usize
     at + run_before(&table[at..], b';')
 }
 
-fn run_rows(image: &mut [u8], table: &[u8]) {
+fn run_rows<W: Write>(out: &mut W, image: &mut [u8], table: &[u8]) {
     let mut at = 0;
     while at < table.len() {
         let end = row_end(table, at);
-        run_row(image, &table[at..end]);
+        run_row(out, image, &table[at..end]);
         at = end + 1;
     }
 }
 
 // Runs a table on an image of its own, which is no state until a row renews it.
-fn run_table(table: &[u8]) {
+fn run_table<W: Write>(out: &mut W, table: &[u8]) {
     let mut image = [0; IMAGE_100];
-    run_rows(&mut image, table);
+    run_rows(out, &mut image, table);
 }
 
 // Runs P1 to P11.
-fn readings() {
+fn readings<W: Write>(out: &mut W) {
     run_table(
+        out,
         b"S P1|110014+00000003 21.324+27952530 22.324+27000430 31..01+00265965 51..1.+0009+000 \r\n;\
           S P2|\r;\
           S P3|*11....+000000000PNC0058 \r;\
@@ -199,8 +207,9 @@ fn readings() {
 }
 
 // Reads a level's words: a backsight, a difference below zero, a ground height; inches, a unit that doesn't exist, a wide word.
-fn level_words() {
+fn level_words<W: Write>(out: &mut W) {
     run_table(
+        out,
         b"L 331106|331106+00010198 \r;\
           L 573..0|573..0-00000880 \r;\
           L 83..16|83..16+00187430 \r;\
@@ -212,8 +221,9 @@ fn level_words() {
 }
 
 // Reads words whose index is just inside or just outside what a level has.
-fn level_edges() {
+fn level_edges<W: Write>(out: &mut W) {
     run_table(
+        out,
         b"L 330|330..0+00000001 \r;\
           L 336|336..0+00000001 \r;\
           L 374|374..0+00000001 \r;\
@@ -231,8 +241,9 @@ fn level_edges() {
 }
 
 // Reads 003's listing of a level.
-fn level_listing() {
+fn level_listing<W: Write>(out: &mut W) {
     run_table(
+        out,
         b"L block 1|410001+00000020 42....+10842V02 \r\n;\
           L block 2|410002+00000021 42....+00007330 \r\n;\
           L block 3|410003+00000022 42....+00261001 \r\n;\
@@ -252,8 +263,9 @@ fn level_listing() {
 
 // Reads minus nought: a level's difference, an angle in seconds, the halves of a pair, a wide word; then an angle out of its range; then minus
 // nought is put over nought and taken back.
-fn noughts() {
+fn noughts<W: Write>(out: &mut W) {
     run_table(
+        out,
         b"L 573..0 minus nought|573..0-00000000 \r;\
           S 21.104 minus nought|21.104-00000000 \r;\
           S 51..1. minus nought|51..1.-0000-000 \r;\
@@ -268,8 +280,9 @@ fn noughts() {
 
 // Shows the byte that each refusal of a word tells, 5 to 10 and 15, and then what a line is refused for: no keyword, a keyword with a wrong
 // remainder, a PUT word by each of its rules.
-fn told() {
+fn told<W: Write>(out: &mut W) {
     run_table(
+        out,
         b"S 1A....|1A....+00000001 \r;\
           S 14....|14....+00000001 \r;\
           S 110.14|110.14+00000001 \r;\
@@ -294,8 +307,9 @@ fn told() {
 }
 
 // Fills the undo list, and sends the longest GET and one that is longer.
-fn longest() {
+fn longest<W: Write>(out: &mut W) {
     run_table(
+        out,
         b"M 64 times SET/30/1|SET/30/1\r;\
           I one more|SET/30/1\r;\
           I UNDO|UNDO\r;\
@@ -306,12 +320,13 @@ fn longest() {
     );
 }
 
-fn main() {
-    readings();
-    level_words();
-    level_edges();
-    level_listing();
-    noughts();
-    told();
-    longest();
+fn main(rt: HostRuntime) {
+    let mut out = rt.stdout();
+    readings(&mut out);
+    level_words(&mut out);
+    level_edges(&mut out);
+    level_listing(&mut out);
+    noughts(&mut out);
+    told(&mut out);
+    longest(&mut out);
 }

@@ -5,7 +5,7 @@ ghost use Rattle.files.specs.Asked.{asked_by};
 use units::kinds::Family;
 
 // A file of the family, or the usage.
-#[derive(Drop)]
+#[derive(Clone, Copy)]
 pub enum Asked {
     Usage,
     File(Family),

@@ -1,3 +1,5 @@
 // What the programs that read a file of either family share: what they are asked for, and counts that stop at the largest number.
+#![tactic(auto)]
+
 pub mod asked;
 pub mod counting;

@@ -216,7 +216,7 @@ unfolding put_by handed_from after_bytes
 put_on f [] rest s = refl
 put_on f (b ∷ l) rest s = ap (both (handed f s b)) (put_on f l rest (next f s b)) ∙ sym (both_assoc (handed f s b) _ _)
 
-next_out : (f : Family) (s : Standing) (rest : List ℕ) → (after : Put) × (put_by f s rest ≡ both (handed_next f s rest) after)
+pub next_out : (f : Family) (s : Standing) (rest : List ℕ) → (after : Put) × (put_by f s rest ≡ both (handed_next f s rest) after)
 unfolding put_by
 next_out f s [] =
     let last = closing f s in

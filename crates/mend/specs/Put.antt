@@ -1,6 +1,7 @@
 -- What is put out for a listing: on standard output the block of each line that reads, mended or as it was, and nothing else; on standard error what is told of
 -- each line, and the counts at the end.
-use Rattle.std.specs.Prelude.{ℕ, suc, min, ◌+◌, ◌≡◌, List, [], ◌∷◌, ◌++◌, length, take}
+use Rattle.std.specs.Prelude.{ℕ, suc, min, ◌+◌, ◌≡◌, ◌⊎◌, List, [], ◌∷◌, ◌++◌, length, take, Option}
+use Rattle.std.specs.Io.KnownBytes.{Appends, Consumes, IsAtEnd}
 use Rattle.figures.specs.Rooms.{put_at}
 use Rattle.units.specs.declared.kinds.Family.{Family}
 use Rattle.errata.specs.Errata.{block_of, told_of, fate_of}
@@ -55,3 +56,33 @@ handed_next f s (b ∷ l) = handed f s b
 -- the first n bytes of the one room and m of the other are what is handed over next, somewhere in some listing
 abbrev pub Due : Family → List ℕ → ℕ → List ℕ → ℕ → Type 0
 Due f out n text m = (file rest : List ℕ) × (record { blocks = take n out; told = take m text } ≡ handed_next f (after_bytes f begun file) rest)
+
+-- the first n bytes of the one room and m of the other
+abbrev pub put_in : List ℕ → ℕ → List ℕ → ℕ → Put
+put_in out n text m = record { blocks = take n out; told = take m text }
+
+-- all of it was written, where the writers' bytes are known
+abbrev pub Wrote : (told told' blocks blocks' : Option (List ℕ)) → Put → Type 0
+Wrote told told' blocks blocks' p = Appends told told' p.told × Appends blocks blocks' p.blocks
+
+-- the start of it: some of what is told, and of the block only where all is told
+abbrev pub IsStart : Put → Put → Type 0
+IsStart p all = (n m : ℕ) × (p.told ≡ take n all.told) × (p.blocks ≡ take m all.blocks) × ((p.told ≡ all.told) ⊎ (p.blocks ≡ []))
+
+abbrev pub WroteStart : (told told' blocks blocks' : Option (List ℕ)) → Put → Type 0
+WroteStart told told' blocks blocks' all = (p : Put) × IsStart p all × Wrote told told' blocks blocks' p
+
+-- it breaks off: all that some bytes of the listing hand over was written, and the start of what is handed over next
+abbrev pub BreaksOff : Family → Standing → List ℕ → (told told' blocks blocks' : Option (List ℕ)) → Type 0
+BreaksOff f s file told told' blocks blocks' =
+    (seen rest : List ℕ) × (file ≡ seen ++ rest) × ((p : Put) × IsStart p (handed_next f (after_bytes f s seen) rest)
+    × Wrote told told' blocks blocks' (both (handed_from f s seen) p))
+
+-- a turn that goes on: some bytes were read, and what they hand over was written
+abbrev pub GoesFurther : Family → Standing → Standing → (unread unread' told told' blocks blocks' : Option (List ℕ)) → Type 0
+GoesFurther f s s' unread unread' told told' blocks blocks' =
+    (bytes : List ℕ) × Consumes unread unread' bytes × (after_bytes f s bytes ≡ s') × Wrote told told' blocks blocks' (handed_from f s bytes)
+
+-- the last turn: there was nothing more to read, and what the listing's end puts out was written
+abbrev pub Ends : Family → Standing → (unread unread' told told' blocks blocks' : Option (List ℕ)) → Type 0
+Ends f s unread unread' told told' blocks blocks' = Consumes unread unread' [] × IsAtEnd unread' × Wrote told told' blocks blocks' (closing f s)

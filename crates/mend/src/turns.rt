@@ -21,7 +21,7 @@ pub const BLOCK: usize = 771;
 pub const TEXT: usize = ENOUGH + 120;
 
 // The lines that have ended: how many read as they were, were mended and were refused.
-#[derive(Drop)]
+#[derive(Clone, Copy)]
 pub struct Counts {
     pub lines: u64,
     pub unchanged: u64,
@@ -30,7 +30,7 @@ pub struct Counts {
 }
 
 // How far the listing is read: of the line that comes in its mark and how many of its bytes are kept, and the lines before it.
-#[derive(Drop)]
+#[derive(Clone, Copy)]
 pub struct Progress {
     pub mark: Mark,
     pub kept: usize,
@@ -38,7 +38,7 @@ pub struct Progress {
 }
 
 // How far it is read then, how many bytes of block there are, and how many of what is told.
-#[derive(Drop)]
+#[derive(Clone, Copy)]
 pub struct Turn {
     pub progress: Progress,
     pub bytes: usize,
@@ -46,7 +46,7 @@ pub struct Turn {
 }
 
 // How many bytes there are at the listing's end.
-#[derive(Drop)]
+#[derive(Clone, Copy)]
 pub struct Last {
     pub bytes: usize,
     pub count: usize,

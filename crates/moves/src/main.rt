@@ -1,22 +1,31 @@
 // The program moves: reads a sheet of one form on standard input and writes it in the other on standard output; `move` takes the first form to the second, and
 // `back` the second to the first. What is refused, and where, goes to standard error, with the line that is in the way.
+#![tactic(auto)]
+
+ghost use Rattle.streams.specs.Written.{WritesStart};
+
 use figures::pointing::put_shown;
 use figures::{run_before, same};
-use libc::{STDERR_FILENO, STDIN_FILENO, STDOUT_FILENO};
 use sheets::answers::{Sheeted, sheet_number, sheet_tells};
 use sheets::forms::{Form, SHEET_MOST};
 use sheets::moving::move_from;
+use std::io::{Read, Write};
 use std::num::wrapping_add_usize;
+use streams::arguments::{argument, count};
+use streams::{fill, write_all};
 
 // The most that is shown of a line.
 const LINE: usize = 80;
 
-fn put(text: &[u8]) {
-    io::write_all(STDERR_FILENO, text);
+// Writes a text, as far as that can be done.
+fn put<E: Write>(err: &mut E, text: &[u8])
+    ensures { WritesStart (E.contents err.old) (E.contents err.new) text.now }
+{
+    let _ = write_all(err, text);
 }
 
-fn put_number(n: usize) {
-    io::print_decimal(STDERR_FILENO, n as u64);
+fn put_number<E: Write>(err: &mut E, n: usize) {
+    let _ = write!(err, "{n}");
 }
 
 // Counts the lines that end in some bytes.
@@ -33,7 +42,7 @@ fn lines_in(s: &[u8]) -> usize {
 }
 
 // Shows the first line of some bytes, as much of it as a sheet's has; where there are none, nothing.
-fn put_line(rest: &[u8]) {
+fn put_line<E: Write>(err: &mut E, rest: &[u8]) {
     if rest.len() == 0 {
         return;
     }
@@ -43,57 +52,77 @@ fn put_line(rest: &[u8]) {
     if room.len() < end {
         return;
     }
-    put(&room[..end]);
-    put(b"\n");
+    put(err, &room[..end]);
+    put(err, b"\n");
 }
 
-fn refused(word: &[u8], answer: Sheeted, sheet: &[u8]) {
+fn refused<E: Write>(err: &mut E, word: &[u8], answer: Sheeted, sheet: &[u8]) {
     let place = sheet_tells(answer);
-    put(word);
-    put(b": refused=");
-    io::print_decimal(STDERR_FILENO, sheet_number(answer));
-    put(b" place=");
-    put_number(place);
+    put(err, word);
+    put(err, b": refused=");
+    let number = sheet_number(answer);
+    let _ = write!(err, "{number}");
+    put(err, b" place=");
+    put_number(err, place);
     if sheet.len() < place {
-        put(b"\n");
+        put(err, b"\n");
         return;
     }
-    put(b" line=");
-    put_number(wrapping_add_usize(lines_in(&sheet[..place]), 1));
-    put(b"\n");
-    put_line(&sheet[place..]);
+    put(err, b" line=");
+    put_number(err, wrapping_add_usize(lines_in(&sheet[..place]), 1));
+    put(err, b"\n");
+    put_line(err, &sheet[place..]);
 }
 
 // Moves the sheet on standard input from the form; a byte more than the longest sheet has shows that an input is none.
-fn run(word: &[u8], form: Form) {
+fn run<R: Read, W: Write, E: Write>(
+    input: &mut R,
+    output: &mut W,
+    err: &mut E,
+    word: &[u8],
+    form: Form,
+) {
     let mut sheet = [0u8; SHEET_MOST + 1];
-    let n = io::read_full(STDIN_FILENO, &mut sheet);
+    let (n, _) = fill(input, &mut sheet);
     let mut moved = [0u8; SHEET_MOST];
     let answer = move_from(form, &sheet[..n], &mut moved);
     match answer {
         Sheeted::Written(m) => {
             if m <= SHEET_MOST {
-                io::write_all(STDOUT_FILENO, &moved[..m]);
+                let _ = write_all(output, &moved[..m]);
             }
         }
-        _ => refused(word, answer, &sheet[..n]),
+        _ => refused(err, word, answer, &sheet[..n]),
     }
 }
 
-fn main() {
+fn main(rt: HostRuntime) {
     let mut word = [0u8; 4];
-    let n = os::arg(1, &mut word);
-    if os::arg_count() == 2 {
+    let n = argument(&rt, 1, &mut word);
+    if count(&rt) == 2 {
         if same(&word[..n], b"move") {
-            run(&word, Form::One);
+            run(
+                &mut rt.stdin(),
+                &mut rt.stdout(),
+                &mut rt.stderr(),
+                &word,
+                Form::One,
+            );
             return;
         }
         if same(&word[..n], b"back") {
-            run(&word, Form::Two);
+            run(
+                &mut rt.stdin(),
+                &mut rt.stdout(),
+                &mut rt.stderr(),
+                &word,
+                Form::Two,
+            );
             return;
         }
     }
     put(
+        &mut rt.stderr(),
         b"usage: move < SHEET > FILE\n       back < SHEET > FILE\ndocs/REFUSALS.md says what the number of each refusal means.\n",
     );
 }

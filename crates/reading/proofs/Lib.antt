@@ -1,3 +1,5 @@
 pub mod Turning
 pub mod Kept
 pub mod Printed
+pub mod Writing
+pub mod Reading

@@ -3,12 +3,11 @@ use Prim.Native.Nat.{ℕ, suc, ◌+◌, ◌<◌, ◌≤◌, min}
 use mathlib.Core.Path.{◌≡◌, refl, sym, ap, ◌∙◌}
 use mathlib.Core.Bool.{Bool, true, false, cond}
 use mathlib.Core.List.{List, [], ◌∷◌, ◌++◌, append_assoc, append-nil}
-use native.Mathlib.Nat.{min-eq_left, min-le_left, le-min}
+use native.Mathlib.Nat.{min-le_left, le-min}
 use native.Mathlib.Omega.{arith}
 use borrow.Author.Tests.{eq-eqb, ne_eqb}
 use lib.Dec.{eqb, eqb-suc-zero}
-use lib.ListN.{length, take, drop, length-append, length-drop, replicate}
-use lib.Seq.{take_at, length-take-le}
+use lib.ListN.{length, take, length-append, replicate}
 use Rattle.figures.proofs.Decimal.{digits_length}
 use Rattle.units.specs.declared.kinds.Family.{Family}
 use Rattle.pieces.specs.Pieces.{is_joined, mark_after, fed_from}

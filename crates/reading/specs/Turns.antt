@@ -101,6 +101,9 @@ pub record Standing : Type 0 where
   pub room : List ℕ
   pub text : List ℕ
 
+abbrev pub standing_at : List ℕ → Progress → List ℕ → Standing
+standing_at room g text = record { progress = g; room = room; text = text }
+
 abbrev pub fed_at : Family → Standing → ℕ → Fed
 fed_at f s b = fed f s.room s.progress b s.text
 

@@ -18,7 +18,7 @@ pub const TEXT: usize = ENOUGH + 87;
 
 // How far the file is read: of the piece that comes in its mark, how many of its bytes are kept and where it starts; the place of the next byte;
 // and the blocks before it.
-#[derive(Drop)]
+#[derive(Clone, Copy)]
 pub struct Progress {
     pub mark: Mark,
     pub kept: usize,
@@ -30,7 +30,7 @@ pub struct Progress {
 }
 
 // How far it is read then, and how many bytes of report there are.
-#[derive(Drop)]
+#[derive(Clone, Copy)]
 pub struct Turn {
     pub progress: Progress,
     pub count: usize,

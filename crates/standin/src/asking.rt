@@ -1,8 +1,10 @@
 // What the arguments ask for.
 use figures::{same, starts};
+use std::env::Env;
+use streams::arguments::{argument, count};
 
 // Whether reasons are told, and which argument names the file that the state is kept in and which what to start from; 0 where none does.
-#[derive(Drop)]
+#[derive(Clone, Copy)]
 pub(crate) struct Asked {
     pub(crate) why: bool,
     pub(crate) keep: usize,
@@ -20,15 +22,15 @@ pub(crate) fn wrong() -> Asked {
 }
 
 // Reads the arguments, in any order. A name that starts with two hyphens is no file, but ./--NAME is.
-pub(crate) fn ask() -> Asked {
-    let count = os::arg_count();
+pub(crate) fn ask<V: Env>(env: &V) -> Asked {
+    let count = count(env);
     let mut why = false;
     let mut keep = 0;
     let mut name = 0;
     let mut i = 1;
     while i < count {
         let mut word = [0u8; 7];
-        let n = os::arg(i, &mut word);
+        let n = argument(env, i, &mut word);
         if same(&word[..n], b"--why") {
             if why {
                 return wrong();

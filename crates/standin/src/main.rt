@@ -1,18 +1,23 @@
 // The program standin: plays the instrument on standard input and output, from a series' factory state or from a sheet file, of the series that it names.
 // With --why it says on standard error why each refused line was refused. With --keep FILE it goes on from that sheet file, where there is one, and has the
 // state in it, undo list and all, before each reply goes out.
+#![tactic(auto)]
+
 mod asking;
 mod keeping;
+mod paths;
 
-ghost use Rattle.io.specs.Counts.{IsPrefixLen};
+ghost use Rattle.std.specs.Prelude.{◌≡◌, ◌≤◌, true, length, take};
+ghost use Rattle.std.specs.Io.KnownBytes.{Appends};
+ghost use Rattle.streams.specs.Written.{WritesStart};
 
 use asking::{Asked, ask};
 use figures::same;
 use instrument::settings::Series;
 use keeping::keep;
-use libc::{STDERR_FILENO, STDIN_FILENO, STDOUT_FILENO};
 use lines::replies::REPLY_MOST;
 use lines::verdicts::{Verdict, verdict_number};
+use paths::{failed, no_file, path_text, too_long};
 use port::why::{ENOUGH, put_why};
 use port::{Port, hear, quiet};
 use sheets::answers::{Sheeted, sheet_number, sheet_tells};
@@ -21,13 +26,21 @@ use sheets::loading::load;
 use sheets::writing::write;
 use state::image::{IMAGE_100, IMAGE_300};
 use state::laying::put_factory;
+use std::env::Env;
+use std::fs::{File, Files};
+use std::io;
+use std::io::{ErrorKind, Read, Write};
+use streams::{fill, write_all};
 
-fn put(text: &[u8]) {
-    io::write_all(STDERR_FILENO, text);
+// Writes a text on standard error, as far as that can be done.
+fn put<E: Write>(err: &mut E, text: &[u8])
+    ensures { WritesStart (E.contents err.old) (E.contents err.new) text.now }
+{
+    let _ = write_all(err, text);
 }
 
 // The port after a byte, how many lines were run, and whether to go on: not at the end of the input, nor where nothing can be written any more.
-#[derive(Drop)]
+#[derive(Clone, Copy)]
 struct Next {
     port: Port,
     lines: u64,
@@ -43,28 +56,57 @@ fn over(port: Port, lines: u64) -> Next {
 }
 
 // Says why the line that the port had kept was refused, and nothing of one that was accepted.
-fn say_why(number: u64, port: Port, verdict: Verdict) {
+fn say_why<E: Write>(err: &mut E, number: u64, port: Port, verdict: Verdict) {
     let mut room = [0u8; ENOUGH];
     let n = put_why(&mut room, number, port, verdict);
-    put(&room[..n]);
+    put(err, &room[..n]);
 }
 
 // Tells whether the reply to a line may go out: where a file is kept, once that has what the line left. An empty path keeps none.
-fn kept(path: &[u8], image: &[u8], last: &mut [u8], verdict: Verdict) -> bool {
+fn kept<F: Files, E: Write>(
+    files: &F,
+    err: &mut E,
+    path: &[u8],
+    image: &[u8],
+    last: &mut [u8],
+    verdict: Verdict,
+) -> bool {
     if path.len() == 0 {
         return true;
     }
     if verdict_number(verdict) != 0 {
         return true;
     }
-    keep(path, image, last)
+    keep(files, err, path, image, last)
+}
+
+// Sends a reply at once, and answers whether it went out whole.
+fn reply<W: Write>(output: &mut W, bytes: &[u8]) -> bool
+    ensures whole { result ≡ true → Appends (W.contents output.old) (W.contents output.new) bytes.now }
+    ensures start { WritesStart (W.contents output.old) (W.contents output.new) bytes.now }
+{
+    if write_all(output, bytes).is_err() {
+        return false;
+    }
+    output.flush().is_ok()
 }
 
 // Waits for one byte, and replies at once where it ends a line.
-fn turn(image: &mut [u8], port: Port, lines: u64, why: bool, path: &[u8], last: &mut [u8]) -> Next {
+fn turn<F: Files, R: Read, W: Write, E: Write>(
+    files: &F,
+    input: &mut R,
+    output: &mut W,
+    err: &mut E,
+    image: &mut [u8],
+    port: Port,
+    lines: u64,
+    why: bool,
+    path: &[u8],
+    last: &mut [u8],
+) -> Next {
     let mut byte = [0u8; 1];
-    let got = libc::read(STDIN_FILENO, &mut byte);
-    if got <= 0 {
+    let got = input.read(&mut byte).unwrap_or(0);
+    if got == 0 {
         return over(port, lines);
     }
     let mut room = [0u8; REPLY_MOST];
@@ -80,13 +122,13 @@ fn turn(image: &mut [u8], port: Port, lines: u64, why: bool, path: &[u8], last: 
         };
     }
     let verdict = told.verdict;
-    if !kept(path, image, last, verdict) {
+    if !kept(files, err, path, image, last, verdict) {
         return over(next, lines);
     }
-    let on = io::write_all(STDOUT_FILENO, &room[..n]);
+    let on = reply(output, &room[..n]);
     let number = std::num::wrapping_add_u64(lines, 1);
     if why {
-        say_why(number, port, verdict);
+        say_why(err, number, port, verdict);
     }
     Next {
         port: next,
@@ -96,7 +138,15 @@ fn turn(image: &mut [u8], port: Port, lines: u64, why: bool, path: &[u8], last: 
 }
 
 // Plays until the input ends. A proved loop has to end, so this one counts its turns down from a number that no run uses up.
-fn play(image: &mut [u8], why: bool, path: &[u8]) {
+fn play<F: Files, R: Read, W: Write, E: Write>(
+    files: &F,
+    input: &mut R,
+    output: &mut W,
+    err: &mut E,
+    image: &mut [u8],
+    why: bool,
+    path: &[u8],
+) {
     // The sheet of the state that is started from: only what a line alters goes into the file.
     let mut last = [0u8; SHEET_MOST];
     write(Form::Two, image, &mut last);
@@ -104,7 +154,9 @@ fn play(image: &mut [u8], why: bool, path: &[u8]) {
     let mut lines = 0;
     let mut turns = u64::MAX;
     while turns > 0 {
-        let next = turn(image, port, lines, why, path, &mut last);
+        let next = turn(
+            files, input, output, err, image, port, lines, why, path, &mut last,
+        );
         if !next.on {
             return;
         }
@@ -114,23 +166,20 @@ fn play(image: &mut [u8], why: bool, path: &[u8]) {
     }
 }
 
-fn refused(path: &[u8], answer: Sheeted) {
-    put(b"standin: ");
-    put(path);
-    put(b" refused=");
-    io::print_decimal(STDERR_FILENO, sheet_number(answer));
-    put(b" place=");
-    io::print_decimal(STDERR_FILENO, sheet_tells(answer) as u64);
-    put(b"\n");
-}
-
-pub(crate) fn failed(what: &[u8]) {
-    put(b"standin: ");
-    os::fail(what);
+fn refused<E: Write>(err: &mut E, path: &[u8], answer: Sheeted) {
+    put(err, b"standin: ");
+    put(err, path);
+    put(err, b" refused=");
+    let number = sheet_number(answer);
+    let _ = write!(err, "{number}");
+    put(err, b" place=");
+    let place = sheet_tells(answer);
+    let _ = write!(err, "{place}");
+    put(err, b"\n");
 }
 
 // What to start from: the series, whether a sheet was read, how many bytes came of it, whether to play at all, and whether the file isn't there.
-#[derive(Drop)]
+#[derive(Clone, Copy)]
 struct Start {
     series: Series,
     loads: bool,
@@ -166,33 +215,38 @@ fn fresh(series: Series) -> Start {
     }
 }
 
-fn usage() {
+fn usage<E: Write>(err: &mut E) {
     put(
+        err,
         b"usage: standin [--why] [--keep FILE] [TPS100 | TPS300 | SHEET]\ndocs/REFUSALS.md says what the number of each refusal means.\n",
     );
 }
 
+fn open<F: Files>(files: &F, path: &[u8]) -> io::Result<F::File> {
+    File::open(files, path_text(path)?)
+}
+
 // Reads a sheet file; of a longer file a byte more than the longest sheet has shows that it is none.
-fn read_file(path: &[u8], sheet: &mut [u8]) -> Start {
-    let fd = os::open_read(path);
-    if fd < 0 {
-        if os::errno() == libc::ENOENT {
-            return missing();
+fn read_file<F: Files, E: Write>(files: &F, err: &mut E, path: &[u8], sheet: &mut [u8]) -> Start {
+    let mut file = match open(files, path) {
+        Ok(file) => file,
+        Err(error) => {
+            if error.kind() == ErrorKind::NotFound {
+                return missing();
+            }
+            failed(err, path, error);
+            return none();
         }
-        failed(path);
-        return none();
-    }
-    let n = io::read_full(fd, sheet);
+    };
+    let (n, _) = fill(&mut file, sheet);
     // Nothing came: the file is empty, or no file, as a folder.
     if n == 0 {
         let mut byte = [0u8; 1];
-        let got = libc::read(fd, &mut byte);
-        if got < 0 {
-            failed(path);
+        if let Err(error) = file.read(&mut byte) {
+            failed(err, path, error);
             return none();
         }
     }
-    libc::close(fd);
     let series = series_named(form_in(sheet), sheet);
     Start {
         series: series,
@@ -204,16 +258,16 @@ fn read_file(path: &[u8], sheet: &mut [u8]) -> Start {
 }
 
 // Starts from what the name says: a series or a sheet file.
-fn from_name(name: &[u8], sheet: &mut [u8]) -> Start {
+fn from_name<F: Files, E: Write>(files: &F, err: &mut E, name: &[u8], sheet: &mut [u8]) -> Start {
     if same(name, b"TPS100") {
         return fresh(Series::Tps100);
     }
     if same(name, b"TPS300") {
         return fresh(Series::Tps300);
     }
-    let start = read_file(name, sheet);
+    let start = read_file(files, err, name, sheet);
     if start.missing {
-        failed(name);
+        failed(err, name, no_file());
     }
     start
 }
@@ -227,25 +281,31 @@ fn other(series: Series, name: &[u8]) -> bool {
 }
 
 // Starts from the file that the state is kept in, where it is there.
-fn from_kept(path: &[u8], name: &[u8], sheet: &mut [u8]) -> Start {
-    let start = read_file(path, sheet);
+fn from_kept<F: Files, E: Write>(
+    files: &F,
+    err: &mut E,
+    path: &[u8],
+    name: &[u8],
+    sheet: &mut [u8],
+) -> Start {
+    let start = read_file(files, err, path, sheet);
     if !start.loads {
         return start;
     }
     let series = start.series;
     if other(series, name) {
-        put(b"standin: ");
-        put(path);
-        put(b" is no sheet of a ");
-        put(name);
-        put(b"\n");
+        put(err, b"standin: ");
+        put(err, path);
+        put(err, b" is no sheet of a ");
+        put(err, name);
+        put(err, b"\n");
         return none();
     }
     start
 }
 
 // Lays the series' factory state down, and loads the sheet where there is one; answers whether to play.
-fn ready(image: &mut [u8], start: Start, path: &[u8], sheet: &[u8]) -> bool {
+fn ready<E: Write>(err: &mut E, image: &mut [u8], start: Start, path: &[u8], sheet: &[u8]) -> bool {
     let series = start.series;
     put_factory(series, image);
     if !start.loads {
@@ -259,58 +319,79 @@ fn ready(image: &mut [u8], start: Start, path: &[u8], sheet: &[u8]) -> bool {
     if let Sheeted::Loaded = answer {
         return true;
     }
-    refused(path, answer);
+    refused(err, path, answer);
     false
 }
 
 // Plays from a start; a sheet that doesn't load is told with the path that it was read from.
-fn run(start: Start, from: &[u8], sheet: &[u8], why: bool, keep: &[u8]) {
+fn run<F: Files, R: Read, W: Write, E: Write>(
+    files: &F,
+    input: &mut R,
+    output: &mut W,
+    err: &mut E,
+    start: Start,
+    from: &[u8],
+    sheet: &[u8],
+    why: bool,
+    keep: &[u8],
+) {
     let series = start.series;
     match series {
         Series::Tps100 => {
             let mut image = [0; IMAGE_100];
-            if ready(&mut image, start, from, sheet) {
-                play(&mut image, why, keep);
+            if ready(err, &mut image, start, from, sheet) {
+                play(files, input, output, err, &mut image, why, keep);
             }
         }
         Series::Tps300 => {
             let mut image = [0; IMAGE_300];
-            if ready(&mut image, start, from, sheet) {
-                play(&mut image, why, keep);
+            if ready(err, &mut image, start, from, sheet) {
+                play(files, input, output, err, &mut image, why, keep);
             }
         }
     }
 }
 
+// Room for the longest path that the system takes.
+const PATH: usize = 4096;
+
 // How long an argument is, and whether it could be read whole.
-#[derive(Drop)]
+#[derive(Clone, Copy)]
 struct Given {
     n: usize,
     read: bool,
 }
 
 // Reads an argument; where its number is 0 there is none.
-fn argument(i: usize, room: &mut [u8]) -> Given
-    ensures { IsPrefixLen result.n room.new }
+fn argument<V: Env>(env: &V, i: usize, room: &mut [u8]) -> Given
+    ensures in_bounds { result.n ≤ length room.new }
+    ensures prefix { result.n ≡ length (take result.n room.new) }
 {
     if i == 0 {
         return Given { n: 0, read: true };
     }
-    let n = os::arg(i, room);
-    Given {
-        n: n,
-        read: os::errno() == 0,
+    match env.arg(i, room) {
+        Ok(n) => Given { n: n, read: true },
+        Err(_) => Given { n: 0, read: false },
     }
 }
 
 // Starts from the file that the state is kept in, or, where there is none yet, from what the name says.
-fn begin(asked: Asked, keep: &[u8], name: &[u8]) {
+fn begin<F: Files, R: Read, W: Write, E: Write>(
+    files: &F,
+    input: &mut R,
+    output: &mut W,
+    err: &mut E,
+    asked: Asked,
+    keep: &[u8],
+    name: &[u8],
+) {
     let mut sheet = [0u8; SHEET_MOST + 1];
     let why = asked.why;
     if asked.keep != 0 {
-        let start = from_kept(keep, name, &mut sheet);
+        let start = from_kept(files, err, keep, name, &mut sheet);
         if start.on {
-            run(start, keep, &sheet, why, keep);
+            run(files, input, output, err, start, keep, &sheet, why, keep);
         }
         if !start.missing {
             return;
@@ -319,35 +400,44 @@ fn begin(asked: Asked, keep: &[u8], name: &[u8]) {
     let start = if asked.name == 0 {
         fresh(Series::Tps100)
     } else {
-        from_name(name, &mut sheet)
+        from_name(files, err, name, &mut sheet)
     };
     if start.on {
-        run(start, name, &sheet, why, keep);
+        run(files, input, output, err, start, name, &sheet, why, keep);
     }
 }
 
-fn main() {
-    let asked = ask();
+fn main(rt: HostRuntime) {
+    let mut err = rt.stderr();
+    let asked = ask(&rt);
     if !asked.right {
-        usage();
+        usage(&mut err);
         return;
     }
-    let mut keep = io::buffer();
-    let file = argument(asked.keep, &mut keep);
+    let mut keep = [0u8; PATH];
+    let file = argument(&rt, asked.keep, &mut keep);
     if !file.read {
-        failed(b"FILE");
+        failed(&mut err, b"FILE", too_long());
         return;
     }
-    let mut name = io::buffer();
-    let named = argument(asked.name, &mut name);
+    let mut name = [0u8; PATH];
+    let named = argument(&rt, asked.name, &mut name);
     if !named.read {
-        failed(b"SHEET");
+        failed(&mut err, b"SHEET", too_long());
         return;
     }
     // An empty name is no file, and would keep nothing.
     if asked.keep != 0 && file.n == 0 {
-        usage();
+        usage(&mut err);
         return;
     }
-    begin(asked, &keep[..file.n], &name[..named.n]);
+    begin(
+        &rt,
+        &mut rt.stdin(),
+        &mut rt.stdout(),
+        &mut err,
+        asked,
+        &keep[..file.n],
+        &name[..named.n],
+    );
 }
