@@ -8,7 +8,7 @@ cd "$(dirname "$0")/.."
 work=$(mktemp -d)
 trap 'rm -rf "$work"' EXIT
 echo "bench/run.sh: proving and building the library, where that isn't done yet .." >&2
-rt staticlib host >"$work/log" 2>&1 || { tail -n 5 "$work/log" >&2 && exit 1; }
+sh tests/library.sh
 defines=${EVERY:+EVERY_LENGTH} against= under=C
 if [ -n "${2:-}" ]; then
     objcopy=$(command -v x86_64-linux-gnu-objcopy || command -v objcopy)
@@ -30,5 +30,4 @@ for shift in $(seq 16 $((4096 / places)) 4095 | head -n "$places"); do
     sh tests/c.sh --run "$work/bench" "${1:-15}" >"$work/rows.$shift" || { cat "$work/rows.$shift" && exit 1; }
 done
 head -n 1 "$work/rows.16"
-[ "$(uname -m)" = x86_64 ] || echo "This machine is $(uname -m): x86-64 code ran under the kit's emulator, where calls and jumps by table weigh more than on a processor."
 awk -v under="$under" -v places="$places" -f bench/table.awk "$work"/rows.*

@@ -1,4 +1,4 @@
-# table.awk: the tables of run.sh and native.sh, from the rows that bench.c prints at each place. `under` is what the library is measured beside, C or before;
+# table.awk: the tables of run.sh, from the rows that bench.c prints at each place. `under` is what the library is measured beside, C or before;
 # `places` how often the program was linked. A figure is the median over the places.
 BEGIN { FS = "\t" }
 

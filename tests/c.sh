@@ -1,19 +1,15 @@
 #!/bin/sh
-# c.sh OUT FILE.c ..: compiles C for x86-64 with the kit's compiler (FILE.o is taken as it is) and links it with target/staticlib/libhost.a and the kit's C
-# library, so that the toolchain is all that a machine needs; the kit has no headers, so the files declare what they call. c.sh --run OUT ARG ..: runs it, under
-# the kit's emulator where this machine is no x86-64.
+# c.sh OUT FILE.c ..: compiles C for x86-64 with the kit's compiler (FILE.o is taken as it is) and links it with crates/host/out/libhost.a and the kit's C
+# library, so that the toolchain is all that a machine needs; the kit has no headers, so the files declare what they call. c.sh --run OUT ARG ..: runs it.
 set -eu
 here=$(CDPATH='' cd -- "$(dirname -- "$0")/.." && pwd)
-kit=$(dirname "$(dirname "$(rt doc)")")
+kit=$(dirname "$(rt doc)")
 lib=$kit/toolchain/lib
-bin=$kit/on/$(uname -m)/toolchain/bin
+bin=$kit/toolchain/bin
 
 if [ "$1" = --run ]; then
     shift
-    case $(uname -m) in
-    x86_64) exec "$lib/ld-linux-x86-64.so.2" --library-path "$lib" "$@" ;;
-    *) exec "$bin/qemu-x86_64" "$lib/ld-linux-x86-64.so.2" --library-path "$lib" "$@" ;;
-    esac
+    exec "$lib/ld-linux-x86-64.so.2" --library-path "$lib" "$@"
 fi
 
 out=$1
@@ -27,4 +23,4 @@ for file in "$@"; do
 done
 # shellcheck disable=SC2086
 "$bin/ld.lld" -pie -dynamic-linker /lib64/ld-linux-x86-64.so.2 -o "$out" "$lib/Scrt1.o" "$lib/crti.o" "$lib/crtbeginS.o" $objects \
-    "$here/target/staticlib/libhost.a" "$lib/libc.so.6" "$lib/libc_nonshared.a" "$lib/libgcc.a" "$lib/crtendS.o" "$lib/crtn.o"
+    "$here/crates/host/out/libhost.a" "$lib/libc.so.6" "$lib/libc_nonshared.a" "$lib/libgcc.a" "$lib/crtendS.o" "$lib/crtn.o"

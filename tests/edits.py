@@ -2,36 +2,45 @@
 """What the checker said of each wrong program: the function that it changes is itself refused, and at a fact.
 
 An .edit of crates/NAME/must-fail holds one or more wrong programs, each a line 'name: what it does' and its file:, old: and new:. rt only asks that the
-crate as a whole is refused; this asks it of every program, by the logs that `rt ci` or `rt must-fail` left under target/must-fail:
+crate as a whole is refused, and keeps no more than the first thing that was found; this asks it of every program. It checks a copy of the crate with all the
+programs of a file made, a few crates at a time, and reads all that the checker says:
 
-- a function that is changed is "not proved", and not because it calls another that isn't; an error stands in its own proof, and it is a fact that fails
-  there, not the proof's shape (a need, a field or a name that the changed code no longer has);
+- a function that is changed is "not proved" or has "no proof", and not because it calls another that hasn't; a goal of its own isn't proved, or an error
+  stands in its own files of proof, and it is a fact that fails there, not the proof's shape (a goal, a need, a field or a name that the changed code no longer
+  has);
 - of a constant that is changed the same holds for a function that reads it, and reads no other constant that the same file changes;
 - a definition that is changed stands in a file by itself, and some function or theorem fails at a fact.
 
 It also holds docs/GATE.md and docs/PROMISES.md to the edits: the first lists each wrong program in its table, the second names none that doesn't exist.
 
-    python3 tests/edits.py [CRATE ..]     the edits of these crates, or of all
-    python3 tests/edits.py --self-test    on logs made up here: each thing above that must fail does
+    python3 tests/edits.py [CRATE ..]       the edits of these crates, or of all, after a check of each as it stands
+    python3 tests/edits.py ci [CRATE ..]    the same, where `rt ci` has just run here: over the libraries that it left, with no check but the edits'
+    python3 tests/edits.py --self-test      on logs made up here: each thing above that must fail does
 """
+import concurrent.futures
 import glob
 import os
 import re
+import shutil
+import subprocess
 import sys
 import tempfile
+
+sys.dont_write_bytecode = True
+import times
 
 ROOT = os.path.dirname(os.path.dirname(os.path.abspath(__file__)))
 
 # What the checker says of a declaration that only cites one that was refused.
-CITES = re.compile(r"was not admitted \(.*\), so this cannot be checked")
-# What it says where a proof no longer has the shape of the code: a need, a field or a name that isn't there any more; in the declaration that hands a
-# function's needs over, an answer to another need; of a walk that is a law's instance, other code than the law's. All else that it refuses in a proof is a fact.
+CITES = re.compile(r"declarations? that depends? on .*, which was (?:rejected|not admitted)")
+# What it says where a proof no longer has the shape of the code: a goal, a need, a field or a name that isn't there any more; another place of the code than the
+# one meant; in the declaration that hands a function's needs over, an answer to another need. All else that it refuses in a proof is a fact.
 SHAPE = re.compile(
-    r"has no field|that can be named from here|is not a field|is not in scope"
-    r"|^`[^`]*-spec`: (?:expected type `tie\.Need-|computed as far as they go, the two values are|.* where one has `[^`]*\.function )"
+    r"has no field|that can be named from here|is not a field|is not in scope|expected type `(?:[\w.-]+\.)?Lts\."
+    r"|^`[^`]*[-_]spec`: (?:expected type `(?:[\w.-]+\.)?[Tt]ie\.Need-|computed as far as they go, the two values are|.* where one has `[^`]*\.function )"
 )
-# What it says of a function that has no file of proof, where it finds none by itself: what is returned is not what the contract says.
-SEARCHED = re.compile(r"no proof: .*`search` does not close .*`returns")
+# What it says of a function where no file of proof answers a goal, and it finds no answer by itself.
+SEARCHED = re.compile(r"(?:no proof|not proved): .*`search` did not prove `")
 
 
 class Program:
@@ -95,13 +104,11 @@ class Crate:
 class Log:
     """What the checker said of an edited crate."""
 
-    def __init__(self, path):
-        text = open(path, encoding="utf-8").read()
+    def __init__(self, text):
         self.verdicts = dict(re.findall(r"^fn (\S+): (.*)$", text, re.M))
-        self.errors = []  # the file below the crate, the declaration, what is wrong with it
-        for file, said in re.findall(r"^(.+?):\d+:\d+: error: (.*(?:\n  .*)?)$", text, re.M):  # a long name ends a line, and the sentence goes on in the next
-            below = re.search(r"must-fail/[^/]+/[^/]+/((?:src|specs|proofs)/.*)", file)
-            self.errors.append((below.group(1) if below else file, re.sub(r"\s+", " ", said)))
+        self.errors = []  # the file below the crate, and what is wrong there, with the declaration
+        for file, said in re.findall(r"^(?:\./)?((?:src|specs|proofs)/.+?):\d+:\d+: error: (.*(?:\n  .*)?)$", text, re.M):
+            self.errors.append((file, re.sub(r"\s+", " ", said)))
 
     def facts(self, function=None):
         """Where a fact fails: in the proof of that function, or anywhere."""
@@ -119,12 +126,12 @@ class Log:
     def refused(self, function):
         """What is missing for the function to be refused at a fact of its own; an empty text where nothing is."""
         verdict = self.verdicts.get(function, "not named")
+        if self.shapes(function):
+            return f"{function} fails at the shape of its proof: {self.shapes(function)[0][:160]}"
         if SEARCHED.match(verdict):
             return ""
         if not verdict.startswith("not proved") or "it calls" in verdict:  # of a walk by hand it says more than "not proved"
             return f"{function} is {verdict}"
-        if self.shapes(function):
-            return f"{function} fails at the shape of its proof: {self.shapes(function)[0][:160]}"
         return "" if self.facts(function) else f"{function} is not proved, but at no fact of its own"
 
 
@@ -136,7 +143,7 @@ def judge(crate, programs, log):
             return ["a definition is changed beside another program: it stands in a file by itself"]
         if not programs[0].file.startswith("specs/"):
             return [f"{programs[0].name}: it changes {programs[0].file}, and neither code nor a definition"]
-        return [] if log.facts() else [f"{programs[0].name}: no function and no theorem fails at a fact"]
+        return [] if log.facts() or any(map(SEARCHED.match, log.verdicts.values())) else [f"{programs[0].name}: no function and no theorem fails at a fact"]
     items = {p.name: crate.item(p) for p in programs}
     for p in programs:
         item = items[p.name]
@@ -175,17 +182,100 @@ def edits_of(root, crates):
     return edits, wrong
 
 
-def run(root, crates):
+def changed(path, folder):
+    """Makes all the programs of an edit in a copy of its crate; what is wrong with it, None where nothing is."""
+    texts, file, old = {}, None, None
+    for line in open(path, encoding="utf-8").read().splitlines():
+        if line.startswith("file: "):
+            file = os.path.join(folder, line[6:])
+        elif line.startswith("old: "):
+            old = line[5:]
+        elif line.startswith("new:"):
+            if not os.path.isfile(file):
+                return f"there is no file {os.path.relpath(file, folder)}"
+            text = texts.setdefault(file, open(file, encoding="utf-8").read())
+            if text.count(old) != 1:
+                return f"{old.strip()!r} stands in {os.path.relpath(file, folder)} {text.count(old)} times, and not once"
+            texts[file] = text.replace(old, line[5:])
+    for file, text in texts.items():
+        open(file, "w", encoding="utf-8").write(text)
+    return None
+
+
+def linked(one, other):
+    """Gives what an earlier check kept a second name: a check replaces such a file, and changes none."""
+    try:
+        os.link(one, other)
+    except OSError:
+        shutil.copy2(one, other)
+
+
+def logs_of(root, crate, labels):
+    """What the checker says of a crate with each of its edits; a pair of what is wrong and None instead, where it can't be asked."""
+    home = os.path.join(root, "crates", crate)
+    with tempfile.TemporaryDirectory() as folder:
+        kept = os.path.join(folder, "kept")
+        if os.path.isdir(os.path.join(home, "out", "incremental")):
+            shutil.copytree(os.path.join(home, "out", "incremental"), kept, copy_function=lambda a, b: (linked if a.endswith(".oantt") else shutil.copy2)(a, b))
+        for label in labels:
+            copy = os.path.join(folder, crate)
+            shutil.rmtree(copy, ignore_errors=True)
+            for part in ("src", "specs", "proofs"):
+                if os.path.isdir(os.path.join(home, part)):
+                    shutil.copytree(os.path.join(home, part), os.path.join(copy, part))
+            wrong = changed(os.path.join(home, "must-fail", label + ".edit"), copy)
+            if wrong:
+                yield label, wrong, None
+                continue
+            for jobs in (2, 1):  # a second time where it was killed, most likely for memory
+                ended = subprocess.run(times.command(crate, kept, jobs), cwd=copy, stdout=subprocess.PIPE, stderr=subprocess.STDOUT, text=True, errors="replace")
+                if ended.returncode >= 0:
+                    break
+            said = [line for line in ended.stdout.splitlines() if re.match(r"logic=|rattle: no verdict|\S*error\b", line)]
+            if ended.returncode < 0 or not said or not re.match(r"logic=|rattle: no verdict", said[-1]):
+                yield label, f"its check gives no verdict: {(said or ended.stdout.splitlines() or ['it was killed'])[-1][:160]}", None
+            else:
+                yield label, None, ended.stdout
+
+
+def has_libraries(root, crate):
+    """Whether the libraries below a crate stand as `rt ci` leaves them: one with a stamp is an earlier `rt check`'s, and only rt can tell of which files it is."""
+    places = [(name, os.path.join(root, "crates", name, "out", "rlib")) for name in times.below(crate, times.needs())]
+    return all(os.path.isdir(os.path.join(at, name + ".rlib")) and not os.path.exists(os.path.join(at, "stamp")) for name, at in places)
+
+
+def checked(root, edits, after_ci):
+    """What the checker says with each edit, by its crate and label, and what is wrong where it can't be asked."""
+    labels, wrong, logs = {}, [], {}
+    for crate, label, _ in edits:
+        labels.setdefault(crate, []).append(label)
+    for crate in [] if after_ci and all(has_libraries(root, it) for it in labels) else [*labels]:
+        # this also builds the libraries below, where they aren't of today's files
+        ended = subprocess.run(["rt", "check"], cwd=os.path.join(root, "crates", crate), stdout=subprocess.PIPE, stderr=subprocess.STDOUT, text=True, errors="replace")
+        if ended.returncode or not re.search(r"^logic=proved", ended.stdout, re.M):
+            wrong.append(f"{crate} isn't proved as it stands: `rt check` there says more")
+            del labels[crate]
+    free = int(re.search(r"^MemAvailable: *(\d+)", open("/proc/meminfo", encoding="utf-8").read(), re.M).group(1)) // 1_000_000
+    with concurrent.futures.ThreadPoolExecutor(max(1, min(len(os.sched_getaffinity(0)) // 2, free // 3))) as pool:
+        size = lambda crate: -sum(os.path.getsize(f) for f in glob.glob(os.path.join(root, "crates", crate, "*", "**", "*.*t"), recursive=True)) * len(labels[crate])
+        for crate, found in [(it, pool.submit(lambda it=it: list(logs_of(root, it, labels[it])))) for it in sorted(labels, key=size)]:
+            for label, fault, log in found.result():
+                wrong += [f"{crate}/{label}: {fault}"] if fault else []
+                logs[crate, label] = log
+    return logs, wrong
+
+
+def run(root, crates, check):
     """All that is wrong, and a line for each edit."""
     edits, wrong = edits_of(root, crates)
+    logs, faults = check(root, edits)
+    wrong += faults
     lines, known = [], {}
     for crate, label, programs in edits:
-        path = os.path.join(root, "target", "must-fail", crate, label, ".log")
-        if not os.path.exists(path):
-            wrong.append(f"{crate}/{label}: there is no log of it; rt must-fail {crate} makes it")
+        if logs.get((crate, label)) is None:
             continue
         known.setdefault(crate, Crate(root, crate))
-        faults = judge(known[crate], programs, Log(path))
+        faults = judge(known[crate], programs, Log(logs[crate, label]))
         wrong += [f"{crate}/{label}: {f}" for f in faults]
         if not faults:
             lines.append(f"{crate}/{label}: {', '.join(p.name for p in programs)}")
@@ -230,44 +320,65 @@ def self_test():
     """Logs that must not pass, and one that must: what is left wrong, as texts."""
     source = "const LOW: u8 = 1;\n\nconst PAIR: Row = Row(LOW, 2);\n\nfn low() -> u8 {\n    LOW\n}\n\nfn both(a: u8) -> u8 {\n    low() + a\n}\n\nfn pair() -> Row {\n    PAIR\n}\n"
     two = "first: x.\nfile: src/lib.rt\nold:     low() + a\nnew:     low() + 1\nsecond: y.\nfile: src/lib.rt\nold: const PAIR: Row = Row(LOW, 2);\nnew: const PAIR: Row = Row(LOW, 3);\n"
-    fact = "/src/must-fail/things/both/proofs/{0}/Proof.antt:1:1: error: `returns`: `omega`: the goal does not follow from what it read\n"
-    cites = "`{0}-spec`: `returns` was not admitted (it has holes), so this cannot be checked"
+    fact = "./proofs/{0}/Proof.antt:1:1: error: `returns`: `omega`: the goal does not follow from what it read\n"
+    cites = "./proofs/{0}/Proof.antt:9:5: error: 1 declaration that depends on `{1}`, which was {2}, was not checked: {0}_spec\n"
+    spec = "./proofs/both/Proof.antt:9:5: error: `both_spec`: "
     others = [
-        "`both-spec`: computed as far as they go, the two values are `a`",
-        "`both-spec`: expected type `tie.Need-add`, but this has type `tie.Need-returns`",
-        "`both-spec`: as printed, the two types differ only where one has `(Law.function Level)`",
+        spec + "computed as far as they go, the two values are `a`\n",
+        spec + "expected type `tie.Need-overflow_add-low`, but this has type `tie.Need-returns`\n",
+        spec + "as printed, the two types differ only where one has `(Law.function Level)`\n",
     ]
-    cited = "/src/must-fail/things/both/proofs/{0}/Proof.antt:2:1: error: " + cites + "\n"
-    searched = "fn things::both: no proof: expected `both-spec` in /src/must-fail/things/both/proofs/both/Proof.antt; `search` does not close `returns`\n"
-    shape = "/src/must-fail/things/both/proofs/{0}/Proof.antt:1:1: error: `returns`: record `Start` has no field `before`\n"
+    cited = cites.format("{0}", "close", "not admitted")
+    searched = "fn things::{0}: no proof: expected answers in ./proofs/{0}/Answers.antt; `search` did not prove `returns-then-a`, `returns`\n"
+    lacks = "fn things::both: no proof: expected ./proofs/both/Invariants.antt\n"
+    unable = "fn things::both: could not tell\n"
+    gone = "./proofs/both/Answers.antt:6:27: error: `returns-a`: `goal.returns-a`: module `Rattle.things.proofs.both.Goals` has no `returns-a` that can be named from here\n"
+    field = "./proofs/both/Answers.antt:1:1: error: `returns`: record `Rattle.things.proofs.both.Lts.Start` has no field `if-a`\n"
+    place = "./proofs/both/Proof.antt:1:1: error: `returns`: expected type `Rattle.things.proofs.both.Lts.Then-a`, but this has type `Rattle.things.proofs.both.Lts.Start`\n"
     no = "fn things::{0}: not proved\n"
     calls = "fn things::{0}: not proved; it calls `things::low`, which is not proved\n"
+    calling = "fn things::{0}: no proof: it calls `things::low`, which is not proved\n"
     yes = "fn things::{0}: proved\n"
-    right = fact.format("both") + cited.format("both") + fact.format("pair") + yes.format("low") + no.format("both") + no.format("pair")
+    end = "logic=not-proved\n"
+    right = fact.format("both") + cites.format("both", "returns", "rejected") + fact.format("pair") + yes.format("low") + no.format("both") + no.format("pair") + end
+    answers = right.replace("both/Proof", "both/Answers")
+    definition = "first: x.\nfile: specs/Lib.antt\nold: a\nnew: b\n"
     cases = [
         ("each refused at a fact of its own", two, right, True),
+        ("the same, in a file of answers", two, answers, True),
         ("one of two changes nothing", two, fact.format("pair") + yes.format("both") + no.format("pair"), False),
         ("one of two is refused for what it calls", two, cited.format("both") + fact.format("pair") + calls.format("both") + no.format("pair"), False),
-        ("one of two fails at the shape", two, right.replace(fact.format("both"), shape.format("both")), False),
-        ("one of two fails at the shape besides a fact", two, shape.format("both") + right, False),
-        ("the same, in two lines", two, shape.format("both").replace(" has no", "\n  has no") + right, False),
-        *((f"one of two answers needs of another shape: {o}", two, right.replace(cites.format("both"), o), False) for o in others),
-        ("one of two has no file of proof", two, right.replace(no.format("both"), searched), True),
+        ("the same, with no file of proof", two, fact.format("pair") + calling.format("both") + no.format("pair"), False),
+        ("one of two only cites what was rejected", two, cites.format("both", "returns", "rejected") + fact.format("pair") + no.format("both") + no.format("pair"), False),
+        *((f"one of two fails at the shape: {s}", two, right.replace(fact.format("both"), s), False) for s in (gone, field, place)),
+        *((f"one of two fails at the shape besides a fact: {s}", two, s + right, False) for s in (gone, field, place)),
+        ("the same, in two lines", two, field.replace(" has no", "\n  has no") + right, False),
+        *((f"one of two answers needs of another shape: {o}", two, right.replace(cites.format("both", "returns", "rejected"), o), False) for o in others),
+        ("one of two has no file of proof", two, right.replace(fact.format("both"), "").replace(no.format("both"), searched.format("both")), True),
+        ("neither has a file of proof", two, searched.format("both") + searched.format("pair") + end, True),
+        ("one of two has no file of proof and fails at the shape", two, field + right.replace(no.format("both"), searched.format("both")), False),
+        ("one of two lacks a file", two, right.replace(no.format("both"), lacks), False),
+        ("of one of two the checker can't tell", two, right.replace(no.format("both"), unable), False),
+        ("of one of two nothing is said", two, right.replace(no.format("both"), ""), False),
         ("the fact is another function's", two, cited.format("both") + fact.format("pair") + no.format("both") + no.format("pair"), False),
+        ("the goal is another function's", two, searched.format("low") + searched.format("pair") + calling.format("both"), False),
         ("no reader of the constant is refused", two, fact.format("both") + no.format("both") + yes.format("pair"), False),
         ("two change one function", two.replace("const PAIR: Row = Row(LOW, 2);", "fn both(a: u8) -> u8 {", 1), right, False),
         ("a definition beside another", two.replace("file: src/lib.rt\nold: const", "file: specs/Lib.antt\nold: const"), right, False),
-        ("a definition at a fact", "first: x.\nfile: specs/Lib.antt\nold: a\nnew: b\n", fact.format("both") + no.format("both"), True),
-        ("a definition at a shape", "first: x.\nfile: specs/Lib.antt\nold: a\nnew: b\n", shape.format("both") + no.format("both"), False),
+        ("a definition at a fact", definition, fact.format("both") + no.format("both"), True),
+        ("a definition at a goal", definition, searched.format("both"), True),
+        ("a definition at a shape", definition, field + no.format("both"), False),
+        ("a definition at nothing", definition, yes.format("both"), False),
         ("a pair without a name", two.replace("second: y.\n", ""), right, False),
+        ("nothing can be asked", two, None, False),
     ]
     wrong = []
     for what, edit, log, passes in cases:
         with tempfile.TemporaryDirectory() as root:
-            for path, text in (("crates/things/src/lib.rt", source), ("crates/things/must-fail/both.edit", edit), ("target/must-fail/things/both/.log", log)):
+            for path, text in (("crates/things/src/lib.rt", source), ("crates/things/must-fail/both.edit", edit)):
                 os.makedirs(os.path.dirname(os.path.join(root, path)), exist_ok=True)
                 open(os.path.join(root, path), "w", encoding="utf-8").write(text)
-            faults = run(root, [])[2]
+            faults = run(root, [], lambda root, edits, log=log: ({("things", "both"): log}, [] if log else ["things/both: there is no log"]))[2]
             if (faults == []) != passes:
                 wrong.append(f"'{what}' {'does not pass: ' + faults[0] if passes else 'passes'}")
     return len(cases), wrong
@@ -278,8 +389,9 @@ def main():
         count, wrong = self_test()
         done = f"tests/edits.py: {count} made-up logs judged as they must be"
     else:
-        edits, lines, wrong = run(ROOT, sys.argv[1:])
-        wrong += pages(ROOT) if not sys.argv[1:] else []
+        crates = [it for it in sys.argv[1:] if it != "ci"]
+        edits, lines, wrong = run(ROOT, crates, lambda root, edits: checked(root, edits, sys.argv[1:2] == ["ci"]))
+        wrong += pages(ROOT) if not crates else []
         print("\n".join(lines))
         done = f"tests/edits.py: {sum(len(p) for _, _, p in edits)} wrong programs in {len(edits)} checks, each refused at a fact of its own"
     for fault in wrong:

@@ -6,7 +6,7 @@ cd "$(dirname "$0")/.."
 work=$(mktemp -d)
 trap 'rm -rf "$work"' EXIT
 copy=$work/copy
-mkdir -p "$copy/crates" "$work/bin" "$work/tmp" "$work/kit/toolchain/lib" "$work/kit/on/$(uname -m)/toolchain/bin"
+mkdir -p "$copy/crates/sheet/src" "$work/bin" "$work/tmp"
 cp gsi "$copy/gsi"
 
 fail() {
@@ -22,29 +22,30 @@ same() {
     }
 }
 
-# Five crates for the program sheet, and one that it doesn't need. rt takes figures and pieces first, then words, sheets and sheet.
+# Five crates for the program sheet, and two that it doesn't need. rt takes words after figures, then pieces, sheets and sheet.
 cat >"$copy/crates.txt" <<'END'
 # NAME: DEP DEP ..
-sheet: sheets io libc
+sheet: sheets std_io
 blocks: words figures
 sheets: words pieces figures # but not blocks: it is for the program reading
+host staticlib: sheets
 figures:
 pieces:
 words: figures
 END
+echo 'fn main() {}' >"$copy/crates/sheet/src/main.rt"
 
-# rt, the kit's loader and its emulator. What a check does is in the file check.
+# rt: what `rt run` does is in the file check. Its words come on standard error, and what the program prints on standard output.
 cat >"$work/bin/rt" <<'END'
 #!/bin/sh
-proved() { echo "fn $1::first: proved" && echo "rt: $1 proved ($2)"; }
-case $1 in
-doc) echo "$WORK/kit/docs/START-HERE.md" ;;
-check) [ "$#" -eq 2 ] && [ "$2" = sheet ] && [ -f crates.txt ] && mkdir "$TMPDIR/left" && . "$WORK/check" ;;
-esac
+begun() { echo "rt: chose --jobs 2 for $1" && echo "fn $1::first: proved"; }
+proved() { begun "$1" && echo 'logic=proved functions=1'; }
+[ "$*" = run ] && [ "$(basename "$PWD")" = sheet ] && [ -f ../../crates.txt ] && mkdir "$TMPDIR/left" && echo 'what the program prints' && exec 1>&2 && . "$WORK/check"
 END
-printf '#!/bin/sh\nshift 2\nexec "$@"\n' >"$work/kit/toolchain/lib/ld-linux-x86-64.so.2"
-printf '#!/bin/sh\nexec "$@"\n' >"$work/kit/on/$(uname -m)/toolchain/bin/qemu-x86_64"
-chmod +x "$work/bin/rt" "$work/kit/toolchain/lib/ld-linux-x86-64.so.2" "$work/kit/on/$(uname -m)/toolchain/bin/qemu-x86_64"
+chmod +x "$work/bin/rt"
+
+# seconds FILE: the same words with each time as `N s`
+seconds() { sed 's/, [0-9][0-9]* s/, N s/g' "$1"; }
 
 # terminal.py TEXT COMMAND..: runs a command on a terminal, shows what comes there, and types Ctrl-C once TEXT has come, if it isn't empty
 cat >"$work/terminal.py" <<'END'
@@ -87,44 +88,43 @@ done
 ! grep -q benchreadings "$work/out" || fail "the usage names a program of the gate's"
 grep -q 'docs/REFUSALS\.md' "$work/out" && [ -f docs/REFUSALS.md ] || fail "the usage doesn't lead to the refusals"
 
-# a check that goes well, with one crate proved before; it goes on from the first crate only once that has been seen
+# a check that goes well, with one crate proved before, of which rt says nothing; it goes on from the first crate only once that has been seen
 cat >"$work/check" <<'END'
-proved figures '4 s'
+proved figures
 tries=0
 until [ -e "$WORK/seen" ]; do
     [ "$tries" -lt 50 ] || { echo "rt: nobody saw the first crate" && exit 2; }
     tries=$((tries + 1)) && sleep 0.1
 done
-echo 'rt: pieces proved (unchanged since it was last proved)'
+proved words
 sleep 0.1
-proved words '36 s'
-sleep 0.1
-proved sheets '141 s'
-mkdir -p target/bin && printf '#!/bin/sh\necho arguments "$@"\ncat\n' >target/bin/sheet && chmod +x target/bin/sheet
-proved sheet '10 s' >&2
-echo "rt: sheet ran as nobody, and wrote what its file 'stdout' has (0 s)"
-echo 'rt: ok, 5 crates proved'
+proved sheets
+mkdir -p out && printf '#!/bin/sh\necho arguments "$@"\ncat\n' >out/sheet && chmod +x out/sheet
+proved sheet
+echo 'rt: running out/sheet; to give it other input, run that file yourself'
+exit 3 # the program's own status
 END
 cat >"$work/log" <<'END'
+rt: chose --jobs 2 for figures
 fn figures::first: proved
-rt: figures proved (4 s)
-rt: pieces proved (unchanged since it was last proved)
+logic=proved functions=1
+rt: chose --jobs 2 for words
 fn words::first: proved
-rt: words proved (36 s)
+logic=proved functions=1
+rt: chose --jobs 2 for sheets
 fn sheets::first: proved
-rt: sheets proved (141 s)
+logic=proved functions=1
+rt: chose --jobs 2 for sheet
 fn sheet::first: proved
-rt: sheet proved (10 s)
-rt: sheet ran as nobody, and wrote what its file 'stdout' has (0 s)
-rt: ok, 5 crates proved
+logic=proved functions=1
+rt: running out/sheet; to give it other input, run that file yourself
 END
 cat >"$work/lines" <<'END'
 gsi: proving and building sheet; this takes some minutes the first time ..
-1 of 5: figures, 4 s
-2 of 5: pieces, proved before
-3 of 5: words, 36 s
-4 of 5: sheets, 141 s
-5 of 5: sheet, 10 s
+1 of 5: figures, N s
+2 of 5: words, N s
+4 of 5: sheets, N s
+5 of 5: sheet, N s
 gsi: sheet is proved and built
 status 0
 END
@@ -134,64 +134,69 @@ END
     echo "status $status"
 } | while IFS= read -r line; do
     echo "$line"
-    [ "$line" != '1 of 5: figures, 4 s' ] || : >"$work/seen"
-done >"$work/err"
+    case $line in '1 of 5: figures, '*) : >"$work/seen" ;; esac
+done >"$work/came"
+seconds "$work/came" >"$work/err"
 same "the lines on a pipe are others" "$work/lines" "$work/err"
 same "the first run's standard output is another" "$work/printed" "$work/out"
-same "the log lacks some of the check's words" "$work/log" "$copy/target/gsi.log"
+same "the log lacks some of the check's words" "$work/log" "$copy/crates/sheet/out/gsi.log"
 
-# once more: nothing is checked
+# once more: nothing is checked, whatever rt wrote into a crate's out/ meanwhile
+sleep 0.1
+: >"$copy/crates/sheet/out/later"
 (cd "$work" && copy/gsi sheet a b <"$work/in" >"$work/out" 2>"$work/err") || fail "the second run fails"
 [ ! -s "$work/err" ] || fail "the second run says something"
 same "the second run's standard output is another" "$work/printed" "$work/out"
 
-# the same check on a terminal
-rm -r "$copy/target"
+# a file of a crate that is newer: the same check, on a terminal
+echo 'fn main() { }' >"$copy/crates/sheet/src/main.rt"
 printf '%s\r\n' 'gsi: proving and building sheet; this takes some minutes the first time ..' >"$work/lines"
-printf '%s' '1 of 5: figures ..' "${over}1 of 5: figures, 4 s; 2 of 5: pieces .." "${over}2 of 5: pieces, proved before; 3 of 5: words .." \
-    "${over}3 of 5: words, 36 s; 4 of 5: sheets .." "${over}4 of 5: sheets, 141 s; 5 of 5: sheet .." "${over}5 of 5: sheet, 10 s" >>"$work/lines"
+printf '%s' "${over}1 of 5: figures ..${over}1 of 5: figures, N s${over}2 of 5: words ..${over}2 of 5: words, N s" \
+    "${over}4 of 5: sheets ..${over}4 of 5: sheets, N s${over}5 of 5: sheet ..${over}5 of 5: sheet, N s" >>"$work/lines"
 printf '%s\r\n' "${over}gsi: sheet is proved and built" >>"$work/lines"
-python3 "$work/terminal.py" '' sh -c 'exec "$0" sheet a b <"$WORK/in" >"$WORK/out"' "$copy/gsi" >"$work/err" || fail "the run on a terminal fails"
+python3 "$work/terminal.py" '' sh -c 'exec "$0" sheet a b <"$WORK/in" >"$WORK/out"' "$copy/gsi" >"$work/came" || fail "the run on a terminal fails"
+seconds "$work/came" >"$work/err"
 same "what a terminal shows is another" "$work/lines" "$work/err"
 same "the standard output beside a terminal is another" "$work/printed" "$work/out"
-same "the log beside a terminal lacks some of the check's words" "$work/log" "$copy/target/gsi.log"
+same "the log beside a terminal lacks some of the check's words" "$work/log" "$copy/crates/sheet/out/gsi.log"
 
-# a check that fails, on a pipe and on a terminal
+# a check that fails, on a pipe and on a terminal: no program is left, the one of before neither
 cat >"$work/check" <<'END'
-proved figures '4 s' && proved pieces '3 s'
-sleep 0.1
-echo 'crates/words/src/lib.rt:3:5: error' && echo 'rt: words NOT PROVED (exit 1, 12 s)'
-echo 'rt: sheets NOT PROVED: its dependency words is not proved'
-echo 'rt: sheet NOT PROVED: its dependency sheets is not proved'
-echo 'rt: FAILED: words sheets sheet'
+proved figures
+begun words
+echo 'note: src/lib.rt:3:5: it is not proved that what the function ensures holds when it returns'
+echo 'src/lib.rt:7:5: error: the sum may wrap'
+echo 'fn words::second: no proof: expected answers in ./proofs/second/Answers.antt'
+echo 'logic=not-proved'
+echo 'rattle build: nothing was built, since only a proved crate is built'
+echo 'rt: the library words did not build, so nothing above it was checked'
 exit 1
 END
 cat >"$work/last" <<'END'
-gsi: sheet isn't proved; target/gsi.log has the check's words, the last of them:
-crates/words/src/lib.rt:3:5: error
-rt: words NOT PROVED (exit 1, 12 s)
-rt: sheets NOT PROVED: its dependency words is not proved
-rt: sheet NOT PROVED: its dependency sheets is not proved
-rt: FAILED: words sheets sheet
+gsi: sheet isn't proved; crates/sheet/out/gsi.log has the check's words, the last of them:
+src/lib.rt:7:5: error: the sum may wrap
+fn words::second: no proof: expected answers in ./proofs/second/Answers.antt
+rattle build: nothing was built, since only a proved crate is built
+rt: the library words did not build, so nothing above it was checked
 END
 cat - "$work/last" >"$work/lines" <<'END'
 gsi: proving and building sheet; this takes some minutes the first time ..
-1 of 5: figures, 4 s
-2 of 5: pieces, 3 s
-3 of 5: words, not proved
-4 of 5: sheets, not proved
-5 of 5: sheet, not proved
+1 of 5: figures, N s
+2 of 5: words, not proved
 END
-rm -r "$copy/target"
-status=0
-"$copy/gsi" sheet <"$work/in" >"$work/out" 2>"$work/err" || status=$?
-[ "$status" -eq 1 ] || fail "a check that fails gives the status $status"
-[ ! -s "$work/out" ] || fail "a check that fails prints something"
-same "the lines of a check that fails are others" "$work/lines" "$work/err"
+echo 'fn main() {  }' >"$copy/crates/sheet/src/main.rt"
+for again in no yes; do
+    status=0
+    "$copy/gsi" sheet <"$work/in" >"$work/out" 2>"$work/came" || status=$?
+    [ "$status" -eq 1 ] || fail "a check that fails gives the status $status (again: $again)"
+    [ ! -s "$work/out" ] || fail "a check that fails prints something"
+    seconds "$work/came" >"$work/err"
+    same "the lines of a check that fails are others" "$work/lines" "$work/err"
+done
 status=0
 python3 "$work/terminal.py" '' "$copy/gsi" sheet >"$work/err" || status=$?
 [ "$status" -eq 1 ] || fail "a check that fails on a terminal gives the status $status"
-{ printf '%s' "${over}5 of 5: sheet, not proved$over" && sed "s/\$/$(printf '\r')/" "$work/last"; } >"$work/lines"
+{ printf '%s' "${over}2 of 5: words, not proved$over" && sed "s/\$/$(printf '\r')/" "$work/last"; } >"$work/lines"
 tail -c "$(wc -c <"$work/lines")" "$work/err" >"$work/end"
 same "a check that fails leaves another end on the terminal" "$work/lines" "$work/end"
 
@@ -200,7 +205,8 @@ same "a check that fails leaves another end on the terminal" "$work/lines" "$wor
 cat >"$work/check" <<'END'
 sleep 30 &
 echo "$!" >"$WORK/prover"
-proved figures '4 s'
+proved figures
+begun words
 wait
 END
 cat >"$work/shell" <<'END'
@@ -214,7 +220,7 @@ done
 exit "$status"
 END
 status=0
-python3 "$work/terminal.py" '2 of 5: pieces ..' sh "$work/shell" >"$work/err" || status=$?
+python3 "$work/terminal.py" '2 of 5: words ..' sh "$work/shell" >"$work/err" || status=$?
 [ "$status" -ne 99 ] || fail "Ctrl-C leaves a prover"
 [ "$status" -eq 130 ] || fail "Ctrl-C gives the status $status"
 printf '%s\r\n' "${over}gsi: the check of sheet was interrupted" >"$work/lines"
