@@ -3,12 +3,11 @@ use Prim.Native.Nat.{ℕ, suc, ◌+◌, ◌*◌, ◌≤◌, ◌<◌}
 use mathlib.Core.Path.{◌≡◌, refl, sym, ap, ◌∙◌}
 use mathlib.Core.Bool.{Bool, true, false, false≢true}
 use mathlib.Core.List.{List}
-use native.Mathlib.Nat.{mul-le-mul_right, add-zero}
+use native.Mathlib.Nat.{mul-le-mul_right}
 use native.Mathlib.Omega.{arith}
-use borrow.Author.Tests.{leb-true, leb-false, lt-ltb}
+use borrow.Author.Tests.{leb-true, leb-false}
 use lib.Dec.{eqb, leb}
-use lib.ListN.{length, get_or, take, drop, length-drop, length-take}
-use lib.Seq.{get_or-drop}
+use lib.ListN.{length, take, drop, length-take}
 use Rattle.units.specs.declared.kinds.Family.{Family}
 use Rattle.words.specs.Reading.{fault_number, word_size}
 use Rattle.words.specs.declared.reading.Fault.{Fault}
@@ -18,14 +17,11 @@ use Rattle.blocks.specs.Rules.{read_as, word_start}
 use Rattle.blocks.specs.declared.answers.Refusal.TheVariants.{Wrong}
 use Rattle.blocks.specs.declared.answers.Reading.{Reading}
 use Rattle.blocks.specs.declared.answers.Answer.TheVariants.{Refused, Read}
-use Rattle.blocks.proofs.Steps.{is_inside}
+use Rattle.blocks.proofs.Steps.{is_in, is_inside}
 use Rattle.blocks.proofs.Accepted.{accepted}
 use Rattle.blocks.proofs.Typed.{block_words, block_ends}
 use Rattle.damage.proofs.Breaks.{same_byte, take_later}
 use Rattle.damage.proofs.Blocks.{block_breaks}
-
-is_in : (b : ℕ) (s : List ℕ) (at : ℕ) → at < length s → is_at b (drop at s) ≡ eqb (get_or s at 0) b
-is_in b s at h = rw (lt-ltb 0 (length (drop at s)) (omega (arith, length-drop at s)), get_or-drop at s 0 0, add-zero at)
 
 -- an end that stands in one of two inputs up to where they are the same stands in the other
 same_end : (s t : List ℕ) (n p : ℕ) → take n t ≡ take n s → p < n → is_at 13 (drop p t) ≡ true → is_at 13 (drop p s) ≡ true
