@@ -6,7 +6,9 @@ use Prim.Native.Nat.{ℕ}
 use Rattle.figures.specs.Promises.{Determined}
 use Rattle.figures.proofs.Determined.{by_equation}
 use Rattle.commands.specs.Shapes.{end_of, is_plain, order_of}
+use Rattle.std.specs.Prelude.{Result}
 use Rattle.commands.specs.declared.shapes.Order.{Order}
+use Rattle.commands.specs.declared.shapes.NoOrder.{NoOrder}
 
 pub end_of_determined : Determined (List ℕ) ℕ (λ i r. r ≡ end_of i)
 end_of_determined = by_equation (List ℕ) ℕ end_of
@@ -14,5 +16,5 @@ end_of_determined = by_equation (List ℕ) ℕ end_of
 pub is_plain_determined : Determined (List ℕ) Bool (λ i r. r ≡ is_plain i)
 is_plain_determined = by_equation (List ℕ) Bool is_plain
 
-pub order_of_determined : Determined (List ℕ) Order (λ i r. r ≡ order_of i)
-order_of_determined = by_equation (List ℕ) Order order_of
+pub order_of_determined : Determined (List ℕ) (Result Order NoOrder) (λ i r. r ≡ order_of i)
+order_of_determined = by_equation (List ℕ) (Result Order NoOrder) order_of

@@ -1,3 +1,2 @@
 pub mod Shape
 pub mod Determined
-pub mod Plain

@@ -1,12 +1,12 @@
 -- A line's end and its shape. "One call takes exactly one line with its CR or CR LF, whatever setting 73 says .. Upper case only."
-use Rattle.std.specs.Prelude.{ℕ, zero, suc, ◌+◌, ◌-◌, ◌/◌, Bool, cond, not, ◌&&◌, ◌||◌, List, [], ◌∷◌, eqb, leb, ltb, length, get_or, take, drop}
+use Rattle.std.specs.Prelude.{ℕ, zero, suc, ◌+◌, ◌-◌, ◌/◌, Bool, cond, not, ◌&&◌, ◌||◌, List, [], ◌∷◌, eqb, leb, ltb, length, get_or, take, drop, Option, Some, None, Result, Ok, Err}
 use Rattle.figures.specs.Text.{codes, byte, cr, lf}
 use Rattle.figures.specs.Bytes.{within, every, run_of, is_other, starts_with, same_bytes}
 use Rattle.figures.specs.Decimal.{is_digit, number_of, are_digits}
-use Rattle.figures.specs.declared.Said.{Said}
-use Rattle.figures.specs.declared.Said.TheVariants as said
 use Rattle.commands.specs.declared.shapes.Order.{Order}
-use Rattle.commands.specs.declared.shapes.Order.TheVariants.{WrongShape, Set, Conf, Put, Get, Undo, Keep, NoKeyword}
+use Rattle.commands.specs.declared.shapes.Order.TheVariants.{Set, Conf, Put, Get, Undo, Keep}
+use Rattle.commands.specs.declared.shapes.NoOrder.{NoOrder}
+use Rattle.commands.specs.declared.shapes.NoOrder.TheVariants.{WrongShape, NoKeyword}
 
 -- the byte at a place from the end, the last at 1
 abbrev pub from_end : ℕ → List ℕ → ℕ
@@ -31,22 +31,22 @@ is_ended l = ltb 0 (end_of l) && is_plain (text_of l)
 abbrev pub number_right : List ℕ → Bool
 number_right s = within 1 4 (length s) && ((eqb (length s) 1 || not (eqb (get_or s 0 0) (byte "0"))) && every is_digit s)
 
-abbrev pub number_shape : List ℕ → Said
-number_shape s = cond (number_right s) (said.Number (number_of s)) said.Not
+abbrev pub number_shape : List ℕ → Option ℕ
+number_shape s = cond (number_right s) (Some (number_of s)) None
 
 -- the place of the first slash, or the length where there is none
 abbrev pub slash_at : List ℕ → ℕ
 slash_at s = run_of (is_other (byte "/")) s
 
 -- `number/parameter`
-abbrev pub set_order : List ℕ → Order
+abbrev pub set_order : List ℕ → Result Order NoOrder
 set_order s =
     cond (ltb (slash_at s) (length s) && (number_right (take (slash_at s) s) && number_right (drop (slash_at s + 1) s)))
-    (Set (number_of (take (slash_at s) s)) (number_of (drop (slash_at s + 1) s))) WrongShape
+    (Ok (Set (number_of (take (slash_at s) s)) (number_of (drop (slash_at s + 1) s)))) (Err WrongShape)
 
 -- `number`
-abbrev pub conf_order : List ℕ → Order
-conf_order s = cond (number_right s) (Conf (number_of s)) WrongShape
+abbrev pub conf_order : List ℕ → Result Order NoOrder
+conf_order s = cond (number_right s) (Ok (Conf (number_of s))) (Err WrongShape)
 
 -- `/WI` and two digits
 abbrev pub group_right : List ℕ → Bool
@@ -61,8 +61,8 @@ abbrev pub groups_in : List ℕ → ℕ
 groups_in s = length s / 5
 
 -- "one or more `/WI` with two digits"
-abbrev pub get_order : List ℕ → Order
-get_order s = cond (ltb 0 (length s) && groups_right (groups_in s) s) Get WrongShape
+abbrev pub get_order : List ℕ → Result Order NoOrder
+get_order s = cond (ltb 0 (length s) && groups_right (groups_in s) s) (Ok Get) (Err WrongShape)
 
 -- the numbers after each `/WI` of n groups
 unfoldable pub indexes_in : ℕ → List ℕ → List ℕ
@@ -100,12 +100,12 @@ has_keyword t =
     || (starts_with (codes "PUT") t || (starts_with (codes "GET") t || (starts_with undo_word t || starts_with keep_word t))))
 
 -- the shapes; "`PUT/` and 16 characters". WrongShape is "a known keyword with a wrong remainder"
-abbrev pub order_of : List ℕ → Order
+abbrev pub order_of : List ℕ → Result Order NoOrder
 order_of t =
     cond (starts_with set_slash t) (set_order (drop 4 t))
     (cond (starts_with conf_slash t) (conf_order (drop 5 t))
-    (cond (starts_with put_slash t) (cond (eqb (length t) 20) Put WrongShape)
+    (cond (starts_with put_slash t) (cond (eqb (length t) 20) (Ok Put) (Err WrongShape))
     (cond (starts_with get_i t) (get_order (drop 5 t))
-    (cond (same_bytes t undo_word) Undo
-    (cond (same_bytes t keep_word) Keep
-    (cond (has_keyword t) WrongShape NoKeyword))))))
+    (cond (same_bytes t undo_word) (Ok Undo)
+    (cond (same_bytes t keep_word) (Ok Keep)
+    (cond (has_keyword t) (Err WrongShape) (Err NoKeyword)))))))

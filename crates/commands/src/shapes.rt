@@ -1,20 +1,24 @@
 // A line's end and its shape.
-ghost use Rattle.std.specs.Prelude.{◌≡◌, ◌≤◌, length, drop};
+ghost use Rattle.std.specs.Prelude.{◌≡◌};
 ghost use Rattle.commands.specs.Shapes.{end_of, is_plain, number_shape, set_order, conf_order, group_right, get_order, has_keyword, order_of};
 
-use figures::{Said, digit, number, run_before, same, starts};
+use figures::{digit, number, run_before, same, starts};
 
-// What a line of a right shape orders. PUT's word and GET's indexes stand in the line. WrongShape is a line whose keyword goes on wrongly, NoKeyword one
-// that starts with none.
-#[derive(Clone, Copy)]
+// What a line of a right shape orders. PUT's word and GET's indexes stand in the line.
+#[derive(Clone, Copy, PartialEq, Eq)]
 pub enum Order {
-    WrongShape,
     Set(u64, u64),
     Conf(u64),
     Put,
     Get,
     Undo,
     Keep,
+}
+
+// Why a line orders nothing: its keyword goes on wrongly, or it starts with none.
+#[derive(Clone, Copy, PartialEq, Eq)]
+pub enum NoOrder {
+    WrongShape,
     NoKeyword,
 }
 
@@ -22,173 +26,105 @@ pub enum Order {
 pub fn end_of(line: &[u8]) -> usize
     ensures { result ≡ end_of line.now }
 {
-    let n = line.len();
-    if n == 0 {
-        return 0;
+    match line {
+        [.., b'\r'] => 1,
+        [.., b'\r', b'\n'] => 2,
+        _ => 0,
     }
-    if line[n - 1] == 13 {
-        return 1;
-    }
-    if line[n - 1] != 10 {
-        return 0;
-    }
-    if n == 1 {
-        return 0;
-    }
-    if line[n - 2] == 13 {
-        return 2;
-    }
-    0
 }
 
 // Tells whether there is no CR and no LF.
-#[tactic(auto, using(crate::proofs::Plain::plain_more, crate::proofs::Plain::plain_cr, crate::proofs::Plain::plain_lf, crate::proofs::Plain::plain_end))]
 pub fn is_plain(s: &[u8]) -> bool
     ensures { result ≡ is_plain s.now }
 {
-    let mut i = 0;
-    while i < s.len() {
-        if s[i] == 13 {
-            return false;
-        }
-        if s[i] == 10 {
-            return false;
-        }
-        i += 1;
-    }
-    true
+    s.iter().all(|b| *b != b'\r' && *b != b'\n')
 }
 
 // Reads a number: 1 to 4 digits and no leading zero, save 0 itself.
-fn number_of(s: &[u8]) -> Said
+fn number_of(s: &[u8]) -> Option<u64>
     ensures { result ≡ number_shape s.now }
 {
     let n = s.len();
-    if n == 0 {
-        return Said::Not;
-    }
-    if 4 < n {
-        return Said::Not;
-    }
-    if 1 < n {
-        if s[0] == b'0' {
-            return Said::Not;
-        }
+    if n == 0 || 4 < n || (1 < n && s[0] == b'0') {
+        return None;
     }
     number(s)
 }
 
-fn set_order(s: &[u8]) -> Order
+fn set_order(s: &[u8]) -> Result<Order, NoOrder>
     ensures { result ≡ set_order s.now }
 {
     let cut = run_before(s, b'/');
     if s.len() <= cut {
-        return Order::WrongShape;
+        return Err(NoOrder::WrongShape);
     }
-    let Said::Number(setting) = number_of(&s[0..cut]) else {
-        return Order::WrongShape;
-    };
-    let from = cut + 1;
-    let Said::Number(parameter) = number_of(&s[from..]) else {
-        return Order::WrongShape;
-    };
-    Order::Set(setting, parameter)
+    let setting = number_of(&s[..cut]).ok_or(NoOrder::WrongShape)?;
+    let parameter = number_of(&s[cut + 1..]).ok_or(NoOrder::WrongShape)?;
+    Ok(Order::Set(setting, parameter))
 }
 
-fn conf_order(s: &[u8]) -> Order
+fn conf_order(s: &[u8]) -> Result<Order, NoOrder>
     ensures { result ≡ conf_order s.now }
 {
-    let Said::Number(setting) = number_of(s) else {
-        return Order::WrongShape;
-    };
-    Order::Conf(setting)
+    let setting = number_of(s).ok_or(NoOrder::WrongShape)?;
+    Ok(Order::Conf(setting))
 }
 
-// Tells whether one group of GET stands there: /WI and two digits.
-fn group_right(s: &[u8], at: usize) -> bool
-    requires { at ≤ length s.now }
-    ensures { result ≡ group_right (drop at s.now) }
+// Tells whether one group of GET stands first: /WI and two digits.
+fn group_right(s: &[u8]) -> bool
+    ensures { result ≡ group_right s.now }
 {
-    let group = &s[at..];
-    if group.len() < 5 {
-        return false;
-    }
-    if !starts(group, b"/WI") {
-        return false;
-    }
-    if !digit(group[3]) {
-        return false;
-    }
-    digit(group[4])
+    5 <= s.len() && starts(s, b"/WI") && digit(s[3]) && digit(s[4])
 }
 
-fn get_order(s: &[u8]) -> Order
+fn get_order(s: &[u8]) -> Result<Order, NoOrder>
     ensures { result ≡ get_order s.now }
 {
-    if s.len() == 0 {
-        return Order::WrongShape;
+    if s.is_empty() || s.len() % 5 != 0 || !s.chunks_exact(5).all(group_right) {
+        return Err(NoOrder::WrongShape);
     }
-    if s.len() % 5 != 0 {
-        return Order::WrongShape;
-    }
-    let mut at = 0;
-    while at < s.len() {
-        if !group_right(s, at) {
-            return Order::WrongShape;
-        }
-        at += 5;
-    }
-    Order::Get
+    Ok(Order::Get)
 }
 
 fn has_keyword(text: &[u8]) -> bool
     ensures { result ≡ has_keyword text.now }
 {
-    if starts(text, b"SET") {
-        return true;
-    }
-    if starts(text, b"CONF") {
-        return true;
-    }
-    if starts(text, b"PUT") {
-        return true;
-    }
-    if starts(text, b"GET") {
-        return true;
-    }
-    if starts(text, b"UNDO") {
-        return true;
-    }
-    starts(text, b"KEEP")
+    starts(text, b"SET")
+        || starts(text, b"CONF")
+        || starts(text, b"PUT")
+        || starts(text, b"GET")
+        || starts(text, b"UNDO")
+        || starts(text, b"KEEP")
 }
 
 // Finds the shape of a line without its end.
-pub fn order_of(text: &[u8]) -> Order
+#[tactic(auto, using(figures::proofs::Bytes::starts_strip))]
+pub fn order_of(text: &[u8]) -> Result<Order, NoOrder>
     ensures { result ≡ order_of text.now }
 {
-    if starts(text, b"SET/") {
-        return set_order(&text[4..]);
+    if let Some(rest) = text.strip_prefix(b"SET/") {
+        return set_order(rest);
     }
-    if starts(text, b"CONF/") {
-        return conf_order(&text[5..]);
+    if let Some(rest) = text.strip_prefix(b"CONF/") {
+        return conf_order(rest);
     }
     if starts(text, b"PUT/") {
         if text.len() == 20 {
-            return Order::Put;
+            return Ok(Order::Put);
         }
-        return Order::WrongShape;
+        return Err(NoOrder::WrongShape);
     }
-    if starts(text, b"GET/I") {
-        return get_order(&text[5..]);
+    if let Some(groups) = text.strip_prefix(b"GET/I") {
+        return get_order(groups);
     }
     if same(text, b"UNDO") {
-        return Order::Undo;
+        return Ok(Order::Undo);
     }
     if same(text, b"KEEP") {
-        return Order::Keep;
+        return Ok(Order::Keep);
     }
     if has_keyword(text) {
-        return Order::WrongShape;
+        return Err(NoOrder::WrongShape);
     }
-    Order::NoKeyword
+    Err(NoOrder::NoKeyword)
 }

@@ -1,15 +1,22 @@
 -- Laws of byte strings: what every byte is, a string laid down in a room part by part, a string at the start of another.
-use Prim.Native.Nat.{ℕ, suc, ◌+◌, ◌-◌, ◌<◌, ◌≤◌}
+use Prim.Native.Nat.{ℕ, suc, ◌+◌, ◌-◌, ◌<◌, ◌≤◌, min}
 use mathlib.Core.Path.{◌≡◌, refl, sym, ap, ◌∙◌}
 use mathlib.Core.Bool.{Bool, true, false, cond, ◌&&◌, false≢true, and-eq-true_iff, and_assoc}
 use mathlib.Core.List.{List, [], ◌∷◌, ◌++◌, append_assoc, append-nil}
 use native.Mathlib.Numerals.{add-one}
 use native.Mathlib.Omega.{arith}
-use borrow.Author.Tests.{eq-eqb, ne_eqb, eqb-true, leb-true, le-leb, lt-leb}
+use borrow.Author.Tests.{ltb-false, eq-eqb, ne_eqb, eqb-true, leb-true, leb-false, le-leb, lt-leb}
 use borrow.Rule.Slice.PartMut.{put_mid, mid_of}
-use lib.Dec.{eqb, leb}
+use lib.Dec.{eqb, leb, ltb}
 use lib.ListN.{length, get_or, set, take, drop, drop_of_length-le, length-drop, length-append}
 use lib.Seq.{drop-cons, take-suc, set_at, append_snoc, length-take-le, take_at, drop_at, take_all, drop-drop, take-nil, take-length, drop-length}
+use lib.Pointwise.{pointwise}
+use Rattle.std.specs.Prelude.{Option, Some, None, not}
+use Rattle.std.specs.Option.{unwrap_or}
+use Rattle.std.specs.List.{list_all, position_or_len, position}
+use Rattle.std.proofs.lemmas.Bool.Decides.{same_from_decides}
+use Rattle.std.proofs.lemmas.List.Recursion.{is_position_or_len}
+use Rattle.std.proofs.lemmas.Slice.Eq.{bytes_eq-Decides}
 use Rattle.figures.specs.Text.{end_bytes}
 use Rattle.figures.specs.Bytes.{within, every, run_of, is_other, laid, starts_with, same_bytes}
 
@@ -22,9 +29,6 @@ within_bounds low high b e =
 
 pub bounds_within : (low high b : ℕ) → low ≤ b → b ≤ high → within low high b ≡ true
 bounds_within low high b hl hh = rw (le-leb low b hl, le-leb b high hh)
-
-pub below_within : (low high b : ℕ) → b < low → within low high b ≡ false
-below_within low high b h = rw (lt-leb low b h)
 
 pub above_within : (low high b : ℕ) → low ≤ b → high < b → within low high b ≡ false
 above_within low high b hl hh = rw (le-leb low b hl, lt-leb b high hh)
@@ -66,30 +70,12 @@ pub run_more : (p : ℕ → Bool) (s : List ℕ) (i : ℕ) → i < length s → 
 unfolding run_of
 run_more p s i h e = rw (drop-cons s i 0 h, e, add-one i) (omega arith)
 
-pub run_here : (p : ℕ → Bool) (s : List ℕ) (i : ℕ) → i < length s → p (get_or s i 0) ≡ false → run_of p (drop i s) ≡ 0
-unfolding run_of
-run_here p s i h e = rw (drop-cons s i 0 h, e)
-
 pub run_none : (p : ℕ → Bool) (s : List ℕ) (i : ℕ) → length s ≤ i → run_of p (drop i s) ≡ 0
 unfolding run_of
 run_none p s i h = rw (drop_of_length-le s h)
 
 pub is_other_lem : (x b : ℕ) → (b ≡ x → ⊥) → is_other x b ≡ true
 is_other_lem x b h = rw (ne_eqb b x h)
-
-pub not_other : (x b : ℕ) → b ≡ x → is_other x b ≡ false
-not_other x b h = rw (eq-eqb b x h)
-
--- a byte below, above and within ends the run or takes it on
-pub run_below : (low high : ℕ) (s : List ℕ) (i : ℕ) → i < length s → get_or s i 0 < low → run_of (within low high) (drop i s) ≡ 0
-run_below low high s i h below = run_here (within low high) s i h (below_within low high _ below)
-
-pub run_above : (low high : ℕ) (s : List ℕ) (i : ℕ) → i < length s → low ≤ get_or s i 0 → high < get_or s i 0 → run_of (within low high) (drop i s) ≡ 0
-run_above low high s i h from above = run_here (within low high) s i h (above_within low high _ from above)
-
-pub run_on : (low high : ℕ) (s : List ℕ) (i : ℕ) → i < length s → low ≤ get_or s i 0 → get_or s i 0 ≤ high
-    → i + run_of (within low high) (drop i s) ≡ i + 1 + run_of (within low high) (drop (i + 1) s)
-run_on low high s i h from to = run_more (within low high) s i h (bounds_within low high _ from to)
 
 pub run_most : (p : ℕ → Bool) (s : List ℕ) → run_of p s ≤ length s
 unfolding run_of
@@ -159,6 +145,14 @@ lay_cut w room i e h = rw (e, drop-length, append-nil) (sym (laid_cut w room (om
 pub lay_all : (w room : List ℕ) (i : ℕ) → i ≡ length w → i ≤ length room → take i w ++ drop i room ≡ laid w room
 lay_all w room i e h = rw (e, take-length) (sym (laid_fits w room (omega arith)))
 
+-- both in one
+pub lay_done : (w room : List ℕ) (n : ℕ) → n ≡ min (length w) (length room) → take n w ++ drop n room ≡ laid w room
+lay_done w room n e = by (leb (length w) (length room)) refl
+  where
+    by : (fits : Bool) → leb (length w) (length room) ≡ fits → take n w ++ drop n room ≡ laid w room
+    by true h = lay_all w room n (omega (arith, leb-true (length w) (length room) h)) (omega (arith, leb-true (length w) (length room) h))
+    by false h = lay_cut w room n (omega (arith, leb-false (length w) (length room) h)) (omega (arith, leb-false (length w) (length room) h))
+
 -- a room that holds done from its start, and then more after that
 
 pub length_on : (done room₀ room : List ℕ) → length done ≤ length room₀ → room ≡ done ++ drop (length done) room₀ → length room ≡ length room₀
@@ -201,34 +195,6 @@ fill_on done room₀ room last a k ea e el =
     put_on done room₀ room last a k ea e ∙ rw (length-append done last, el, append_assoc)
 
 -- at the start of another
-
-pub starts_more : (w s : List ℕ) (i : ℕ) → i < length w → i < length s → get_or s i 0 ≡ get_or w i 0
-    → starts_with (drop i w) (drop i s) ≡ starts_with (drop (i + 1) w) (drop (i + 1) s)
-unfolding starts_with
-starts_more w s i hw hs e = rw (drop-cons w i 0 hw, drop-cons s i 0 hs, eq-eqb (get_or s i 0) (get_or w i 0) e, add-one i)
-
-pub starts_not : (w s : List ℕ) (i : ℕ) → i < length w → i < length s → (get_or s i 0 ≡ get_or w i 0 → ⊥) → starts_with (drop i w) (drop i s) ≡ false
-unfolding starts_with
-starts_not w s i hw hs e = rw (drop-cons w i 0 hw, drop-cons s i 0 hs, ne_eqb (get_or s i 0) (get_or w i 0) e)
-
-pub starts_short : (w s : List ℕ) (i : ℕ) → i < length w → length s ≤ i → starts_with (drop i w) (drop i s) ≡ false
-unfolding starts_with
-starts_short w s i hw hs = rw (drop-cons w i 0 hw, drop_of_length-le s hs)
-
-pub starts_all : (w s : List ℕ) (i : ℕ) → length w ≤ i → starts_with (drop i w) (drop i s) ≡ true
-unfolding starts_with
-starts_all w s i h = rw (drop_of_length-le w h)
-
--- a turn of a loop that compares every byte, whatever it found so far, and its end
-pub starts_on : (w s : List ℕ) (i : ℕ) (so : Bool) → i < length w → i < length s
-    → so && starts_with (drop i w) (drop i s) ≡ (so && eqb (get_or s i 0) (get_or w i 0)) && starts_with (drop (i + 1) w) (drop (i + 1) s)
-unfolding starts_with
-starts_on w s i false hw hs = refl
-starts_on w s i true hw hs = rw (drop-cons w i 0 hw, drop-cons s i 0 hs, add-one i)
-
-pub starts_done : (w s : List ℕ) (i : ℕ) (so : Bool) → length w ≤ i → so && starts_with (drop i w) (drop i s) ≡ so
-starts_done w s i false h = refl
-starts_done w s i true h = starts_all w s i h
 
 pub starts_append : (w s : List ℕ) → starts_with w (w ++ s) ≡ true
 unfolding starts_with
@@ -276,3 +242,48 @@ unfolding starts_with
 starts_length [] s e = omega arith
 starts_length (x ∷ w) [] e = absurd (false≢true e)
 starts_length (x ∷ w) (y ∷ s) e = omega (arith, starts_length w s ((and-eq-true_iff (eqb y x) (starts_with w s)).0 e).1)
+
+-- the words of std that say the same, so that its methods answer them
+
+pub every_is : (p : ℕ → Bool) (s : List ℕ) → every p s ≡ list_all p s
+unfolding every
+every_is p [] = refl
+every_is p (b ∷ s) = rw (every_is p s)
+
+run_step : (t u : Bool) (n : ℕ) → not u ≡ t → cond t (suc n) 0 ≡ cond u 0 (1 + n)
+run_step t true n e = rw (sym e)
+run_step t false n e = rw (sym e) (omega arith)
+
+-- the place of the first byte that isn't so, or the length
+pub run_is : (p q : ℕ → Bool) → ((b : ℕ) → not (q b) ≡ p b) → (s : List ℕ) → run_of p s ≡ position_or_len q s
+unfolding run_of
+run_is p q same s = is_position_or_len (run_of p) q refl (λ b l. run_step (p b) (q b) (run_of p l) (same b)) s
+
+or_len : {n m : ℕ} → n ≤ m → (t : Bool) → ltb n m ≡ t → unwrap_or (cond t (Some n) None) m ≡ n
+or_len h true e = refl
+or_len {n} {m} h false e = omega (arith, ltb-false n m e)
+
+pub run_first : (p q : ℕ → Bool) (s : List ℕ) → ((b : ℕ) → not (q b) ≡ p b) → {o : Option ℕ} {r : ℕ} → o ≡ position q s → r ≡ unwrap_or o (length s)
+    → (r ≡ run_of p s) × (r ≤ length s)
+run_first p q s same {o} {r} eo er =
+    let is = run_is p q same s in
+    let most = run_most p s in
+    let first : r ≡ run_of p s = rw (eo, ← is) at er ∙ or_len most (ltb (run_of p s) (length s)) refl in
+    (first, omega arith)
+
+pub same_is : (a b : List ℕ) → same_bytes a b ≡ pointwise eqb a b
+same_is a b = same_from_decides (same_bytes a b) (pointwise eqb a b) (same_true a b, λ e. rw e (same_refl b)) (bytes_eq-Decides a b)
+
+pub starts_is : (w s : List ℕ) → starts_with w s ≡ pointwise eqb w (take (length w) s)
+starts_is w s =
+    same_from_decides (starts_with w s) (pointwise eqb w (take (length w) s)) (λ e. sym (starts_true w s e), λ e. take_starts w s (sym e))
+    (bytes_eq-Decides w (take (length w) s))
+
+-- the same the other way round, as `strip_prefix` says it
+pub starts_strip : (w s : List ℕ) → starts_with w s ≡ pointwise eqb (take (length w) s) w
+starts_strip w s =
+    same_from_decides (starts_with w s) (pointwise eqb (take (length w) s) w) (starts_true w s, take_starts w s) (bytes_eq-Decides (take (length w) s) w)
+
+pub not_not : (t : Bool) → not (not t) ≡ t
+not_not true = refl
+not_not false = refl

@@ -6,14 +6,13 @@ use mathlib.Core.List.{List, [], ◌∷◌, ◌++◌, append-nil}
 use native.Mathlib.Nat.{add-zero, zero-add, pow-suc, pow-succ', mul_assoc, mul-le-mul_right, lt_of_lt_of_le, one-mul, div-lt_iff_lt-mul, pow-le-pow_right}
 use native.Mathlib.Numerals.{add-one}
 use native.Mathlib.Omega.{arith}
-use borrow.Author.Tests.{le-leb, ne_eqb}
+use borrow.Author.Tests.{ne_eqb}
 use borrow.Rule.Slice.PartMut.{put_mid, mid_of}
 use lib.Dec.{eqb}
 use lib.ListN.{length, get_or, set, take, drop, length-append, drop_of_length-le}
 use lib.Seq.{drop-cons, set_split, append_snoc, drop_at, length-take-le}
 use Rattle.figures.specs.Bytes.{every}
-use Rattle.figures.specs.Decimal.{is_digit, number_from, number_of, digits_of, number_in}
-use Rattle.figures.specs.declared.Said.TheVariants.{Number}
+use Rattle.figures.specs.Decimal.{is_digit, number_from, number_of, digits_of}
 use Rattle.figures.proofs.Bytes.{within_bounds, bounds_within, every_append, length_on, length_mid, fill_on}
 
 -- a digit is none of the bytes below `0`
@@ -94,15 +93,16 @@ digits_more n (suc j) out h hl =
     let dropped = drop_at (take j out) (last ∷ rest) j (length-take-le j out (omega arith)) in
     rw (q, set_split out j last hl, dropped, append_snoc (digits_of j (n / 10)) last rest)
 
+pub digits_done : (n i : ℕ) (out : List ℕ) → i ≡ 0 → digits_of i n ++ drop i out ≡ out
+unfolding digits_of
+digits_done n i out e = rw e
+
 -- a number that at most fifteen digits say
 pub few_digits : (n i : ℕ) → i < 16 → n < 10 ^ i → n < 10 ^ 15
 few_digits n i h e = lt_of_lt_of_le e (pow-le-pow_right {n = 10} (omega arith) {i = i} {j = 15} (omega arith))
 
 pub one_digit_more : (n d i : ℕ) → d < 10 → n < 10 ^ i → n * 10 + d < 10 ^ (i + 1)
 one_digit_more n d i h e = rw (add-one i, pow-suc 10 i) (omega arith)
-
-pub number_in_lem : (s : List ℕ) → length s ≤ 16 → every is_digit s ≡ true → number_in s ≡ Number (number_of s)
-number_in_lem s h e = rw (le-leb (length s) 16 h, e)
 
 -- `put_number` filled the k bytes after done
 pub digits_on : (done room₀ room last : List ℕ) (a k n : ℕ) → a ≡ length done → length done + k ≤ length room₀

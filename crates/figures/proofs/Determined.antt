@@ -9,7 +9,7 @@ use Rattle.figures.specs.Bytes.{within, every, run_of, is_other, laid, starts_wi
 use Rattle.figures.specs.Decimal.{is_digit, number_in, digits_of, decimal_of}
 use Rattle.figures.specs.Rooms.{put_at, Puts}
 use Rattle.figures.specs.Pointing.{shown, caret_text}
-use Rattle.figures.specs.declared.Said.{Said}
+use Rattle.std.specs.Prelude.{Option}
 
 -- one equation: the answer, or the one thing that is lent
 pub by_equation : (In Out : Type 0) (f : In → Out) → Determined In Out (λ i o. o ≡ f i)
@@ -34,8 +34,8 @@ by_three In A B C f g h i a b p q =
 pub digit_determined : Determined ℕ Bool (λ b r. r ≡ is_digit b)
 digit_determined = by_equation ℕ Bool is_digit
 
-pub number_determined : Determined (List ℕ) Said (λ s r. r ≡ number_in s)
-number_determined = by_equation (List ℕ) Said number_in
+pub number_determined : Determined (List ℕ) (Option ℕ) (λ s r. r ≡ number_in s)
+number_determined = by_equation (List ℕ) (Option ℕ) number_in
 
 pub put_number_determined : Determined (ℕ × List ℕ) (List ℕ) (λ i out. out ≡ digits_of (length i.1) i.0)
 put_number_determined = by_equation (ℕ × List ℕ) (List ℕ) (λ i. digits_of (length i.1) i.0)
@@ -58,7 +58,7 @@ starts_determined = by_equation (List ℕ × List ℕ) Bool (λ i. starts_with i
 pub same_determined : Determined (List ℕ × List ℕ) Bool (λ i r. r ≡ same_bytes i.0 i.1)
 same_determined = by_equation (List ℕ × List ℕ) Bool (λ i. same_bytes i.0 i.1)
 
--- a room, a place in it and a text go in; where the next part begins and the room come out
+-- a room, a place in it and a text go in; where the next part begins and the room come out: of a `Room` it is what `Fills` says
 pub put_determined : Determined (List ℕ × ℕ × List ℕ) (ℕ × List ℕ) (λ i o. Puts i.0 i.1 i.2 o.0 o.1)
 put_determined =
     by_two (List ℕ × ℕ × List ℕ) ℕ (List ℕ) (λ i. min (i.1 + length i.2) (length i.0)) (λ i. put_at i.0 i.1 i.2)
@@ -71,7 +71,3 @@ put_shown_determined i = put_determined (i.0, i.1, map shown i.2)
 
 pub put_caret_determined : Determined (List ℕ × ℕ × ℕ) (ℕ × List ℕ) (λ i o. Puts i.0 i.1 (caret_text i.2) o.0 o.1)
 put_caret_determined i = put_determined (i.0, i.1, caret_text i.2)
-
--- `wide`, `place_of`, `figure`, `wide_index` and `wide_count`: the same number
-pub cast_determined : Determined ℕ ℕ (λ n r. r ≡ n)
-cast_determined = by_equation ℕ ℕ (λ n. n)

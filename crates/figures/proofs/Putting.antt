@@ -1,19 +1,18 @@
 -- Text put part by part: one put and then another come to one put of both.
 use Prim.Native.Nat.{ℕ, ◌+◌, ◌-◌, ◌≤◌, min}
-use mathlib.Core.Path.{◌≡◌, refl, sym, ap, ◌∙◌}
+use mathlib.Core.Path.{subst, ◌≡◌, refl, sym, ap, ◌∙◌}
 use mathlib.Core.Bool.{Bool, true, false}
 use mathlib.Core.List.{List, [], ◌++◌, append_assoc, append-nil}
 use native.Mathlib.Omega.{arith}
 use borrow.Author.Tests.{leb-true, leb-false}
-use borrow.Rule.Slice.PartMut.{put_mid, mid_of, same_len_mid}
+use borrow.Rule.Slice.PartMut.{put_mid, mid_of}
 use lib.Dec.{leb}
 use lib.ListN.{length, take, drop, length-append, length-take, length-drop, take-append-drop, drop_of_length-le}
 use lib.Seq.{take_all, drop-nil, take-nil, take_at, drop_at, take-append-le, take-append-add, drop-drop, length-take-le}
 use Rattle.figures.specs.Bytes.{laid}
-use Rattle.figures.specs.Decimal.{digits_of}
-use Rattle.figures.proofs.Bytes.{length_laid, laid_fits, laid_cut, length_mid}
-use Rattle.figures.proofs.Decimal.{digits_length}
-use Rattle.figures.specs.Rooms.{put_at, Puts}
+use Rattle.figures.proofs.Bytes.{length_laid, laid_fits, laid_cut}
+use Rattle.figures.specs.declared.rooms.Room.{Room}
+use Rattle.figures.specs.Rooms.{put_at, Puts, Fills}
 
 pub put_length : (room t : List ℕ) (at : ℕ) → length (put_at room at t) ≡ length room
 put_length room t at =
@@ -65,28 +64,27 @@ lay_put room t last at h e =
     let size = length-drop at room in
     rw (e, take_all (length room - at) rest (omega arith), drop_of_length-le rest {i = length room - at} (omega arith), append-nil)
 
--- the digits that `put_number` wrote at the start of a list that is long enough
-module _ (zeros last : List ℕ) (k n : ℕ) (h : k ≤ length zeros) (e : last ≡ digits_of (length (mid_of 0 (k - 0) zeros)) n) where
-  pub digits_long : k ≤ length (put_mid 0 (k - 0) zeros last)
-  digits_long = omega (arith, same_len_mid 0 (k - 0) zeros last (ap length e ∙ digits_length (length (mid_of 0 (k - 0) zeros)) n))
-
-  pub digits_put : (room room' : List ℕ) (at r : ℕ) → Puts room at (mid_of 0 (k - 0) (put_mid 0 (k - 0) zeros last)) r room' → Puts room at (digits_of k n) r room'
-  digits_put room room' at r p =
-      let all : k - 0 ≡ k = omega arith in
-      let is : last ≡ digits_of k n = rw (length_mid 0 (k - 0) zeros (omega arith), all) at e in
-      let part : mid_of 0 (k - 0) (put_mid 0 (k - 0) zeros last) ≡ digits_of k n = rw (is, all) (take_at (digits_of k n) (drop k zeros) k (digits_length k n)) in
-      rw part at p
-
 -- the room is as long as it was
 pub puts_long : (room : List ℕ) (at : ℕ) (t : List ℕ) {room' : List ℕ} {r : ℕ} → Puts room at t r room' → length room' ≡ length room
 puts_long room at t p = ap length p.1 ∙ put_length room t at
-
-pub puts_as : (room : List ℕ) (at : ℕ) (t t' : List ℕ) {one one' : List ℕ} {m m' : ℕ} → t' ≡ t → one' ≡ one → m' ≡ m
-    → Puts room at t m one → Puts room at t' m' one'
-puts_as room at t t' e one m p = rw (e, one, m) p
 
 pub puts_nothing : (room : List ℕ) (at : ℕ) → at ≤ length room → Puts room at [] at room
 puts_nothing room at h = (omega arith, rw take-nil (sym (take-append-drop at room)))
 
 pub puts_within : (room : List ℕ) (at : ℕ) (t : List ℕ) {room' : List ℕ} {r : ℕ} → Puts room at t r room' → r ≤ length room'
 puts_within room at t p = omega (arith, p.0, puts_long room at t p)
+
+-- a text and then another come to both
+
+pub fills_more : {a b c : Room} {s t : List ℕ} → Fills a s b → Fills b t c → Fills a (s ++ t) c
+fills_more p q = record { puts = puts_more _ _ _ _ p.puts q.puts; same = q.same ∙ p.same }
+
+pub fills_as : {a b : Room} {s t : List ℕ} → Fills a s b → s ≡ t → Fills a t b
+fills_as {a} {b} p e = subst (λ x. Fills a x b) e p
+
+-- a room that was lent bytes, filled from its start
+pub fills_new : {a b : Room} {bytes t : List ℕ} → a.bytes.now ≡ bytes → a.at ≡ 0 → Fills a t b → Puts bytes 0 t b.at b.bytes.now
+fills_new eb ea p = rw (eb, ea) at p.puts
+
+pub fills_nothing : (a : Room) → a.at ≤ length a.bytes.now → Fills a [] a
+fills_nothing a h = record { puts = puts_nothing a.bytes.now a.at h; same = refl }

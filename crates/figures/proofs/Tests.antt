@@ -7,7 +7,7 @@ use mathlib.Core.Logic.{⊎_elim}
 use native.Mathlib.Nat.{eq-or-lt_of_le}
 use native.Mathlib.Omega.{arith}
 use borrow.Author.Tests.{not-true, not-false, ne_eqb, leb-true}
-use lib.Dec.{eqb, leb}
+use lib.Dec.{leb}
 use lib.ListN.{replicate}
 use Rattle.figures.specs.Bytes.{among, every}
 
@@ -61,12 +61,6 @@ in_run f {a} low (suc k) n e hl hh =
 
 pub along : {A : Type 0} (f : ℕ → A) {a : A} (low high : ℕ) {n : ℕ} → Even f a low high → low ≤ n → n < high → a ≡ f n
 along f low high {n} e hl hh = in_run f low (high - low) n e hl (omega arith)
-
--- the same, but at one number
-pub along_but : {A : Type 0} (f : ℕ → A) {a : A} (low high but : ℕ) {n : ℕ} → Even (λ x. cond (eqb x but) a (f x)) a low high
-    → low ≤ n → n < high → (n ≡ but → ⊥) → a ≡ f n
-along_but f {a} low high but {n} e hl hh hn =
-    rw (ne_eqb n but hn) at (along (λ x. cond (eqb x but) a (f x)) low high e hl hh)
 
 pub among_above : (high : ℕ) (l : List ℕ) → every (λ x. leb x high) l ≡ true → (n : ℕ) → high < n → among n l ≡ false
 unfolding among every

@@ -1,8 +1,6 @@
 -- Decimal digits as bytes, and the number that they say.
-use Rattle.std.specs.Prelude.{ℕ, zero, suc, ◌+◌, ◌-◌, ◌*◌, ◌/◌, ◌%◌, Bool, cond, ◌&&◌, List, [], ◌∷◌, ◌++◌, leb, ltb, length}
+use Rattle.std.specs.Prelude.{ℕ, zero, suc, ◌+◌, ◌-◌, ◌*◌, ◌/◌, ◌%◌, Bool, cond, ◌&&◌, List, [], ◌∷◌, ◌++◌, leb, ltb, length, Option, Some, None}
 use Rattle.figures.specs.Bytes.{within, every}
-use Rattle.figures.specs.declared.Said.{Said}
-use Rattle.figures.specs.declared.Said.TheVariants.{Not, Number}
 
 -- `0` to `9`
 abbrev pub is_digit : ℕ → Bool
@@ -25,8 +23,8 @@ digits_of zero n = []
 digits_of (suc k) n = digits_of k (n / 10) ++ ((48 + n % 10) ∷ [])
 
 -- no word has more than 16 digits
-abbrev pub number_in : List ℕ → Said
-number_in s = cond (leb (length s) 16 && every is_digit s) (Number (number_of s)) Not
+abbrev pub number_in : List ℕ → Option ℕ
+number_in s = cond (leb (length s) 16 && every is_digit s) (Some (number_of s)) None
 
 -- how many digits a number has; one below 2^64 has 20 at most
 unfoldable pub digits_nBy : ℕ → ℕ → ℕ

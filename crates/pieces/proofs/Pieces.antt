@@ -1,40 +1,49 @@
 -- Laws of the pieces of an input: a piece ends within what is left, and pieces are taken one after the other to the end.
-use Prim.Native.Nat.{ℕ, zero, suc, ◌+◌, ◌<◌, ◌≤◌}
-use mathlib.Core.Path.{◌≡◌, refl, ap}
-use mathlib.Core.Bool.{Bool, true, false, cond}
+use Prim.Native.Nat.{ℕ, zero, suc, ◌+◌, ◌-◌, ◌<◌, ◌≤◌}
+use mathlib.Core.Path.{◌≡◌, ◌∙◌, refl, ap}
+use mathlib.Core.Bool.{Bool, true, false, cond, not}
 use mathlib.Core.List.{List, [], ◌∷◌}
-use native.Mathlib.Numerals.{add-one}
 use native.Mathlib.Omega.{arith}
-use borrow.Author.Tests.{eq-eqb, ne_eqb}
+use borrow.Author.Tests.{eq-eqb}
 use lib.Dec.{eqb, eqb-suc-zero}
-use lib.ListN.{length, get_or, take, drop, length-drop, drop_of_length-le}
-use lib.Seq.{drop-cons}
-use Rattle.figures.specs.Bytes.{starts_with}
+use lib.ListN.{length, take, drop, length-drop}
+use lib.Seq.{take_all}
+use Rattle.figures.specs.Bytes.{run_of, is_other, starts_with}
 use Rattle.pieces.specs.Pieces.{cut_of, pieces_by, pieces}
 
--- the first piece, looked for from a place on
+-- the first piece, by the place of the first CR
 
-pub cut_more : (s : List ℕ) (i : ℕ) → i < length s → (get_or s i 0 ≡ 13 → ⊥) → cut_of (drop i s) ≡ cut_of (drop (i + 1) s) + 1
-unfolding cut_of
-cut_more s i h b = rw (drop-cons s i 0 h, ne_eqb (get_or s i 0) 13 b, add-one i)
+pub cut_all : (s : List ℕ) → run_of (is_other 13) s ≡ length s → cut_of s ≡ length s
+unfolding cut_of run_of
+cut_all [] e = refl
+cut_all (b ∷ s) e = by (eqb b 13) (cut_all s) e
+  where
+    by : (q : Bool) → (run_of (is_other 13) s ≡ length s → cut_of s ≡ length s) → cond (not q) (suc (run_of (is_other 13) s)) 0 ≡ suc (length s) → cond q (cond (starts_with (10 ∷ []) s) 2 1) (cut_of s + 1) ≡ suc (length s)
+    by true on e = absurd (omega arith)
+    by false on e = omega (arith, on (omega arith))
 
-pub cut_lf : (s : List ℕ) (i : ℕ) → i + 1 < length s → get_or s i 0 ≡ 13 → get_or s (i + 1) 0 ≡ 10 → cut_of (drop i s) ≡ 2
-unfolding cut_of starts_with
-cut_lf s i h b c =
-    rw (drop-cons s i 0 (omega arith), eq-eqb (get_or s i 0) 13 b, ← add-one i, drop-cons s (i + 1) 0 h, eq-eqb (get_or s (i + 1) 0) 10 c)
+pub cut_at : (s : List ℕ) → run_of (is_other 13) s < length s
+    → cut_of s ≡ run_of (is_other 13) s + cond (starts_with (10 ∷ []) (drop (run_of (is_other 13) s + 1) s)) 2 1
+unfolding cut_of run_of
+cut_at [] h = absurd (omega arith)
+cut_at (b ∷ s) h = by (eqb b 13) (cut_at s) h
+  where
+    by : (q : Bool)
+        → (run_of (is_other 13) s < length s → cut_of s ≡ run_of (is_other 13) s + cond (starts_with (10 ∷ []) (drop (run_of (is_other 13) s + 1) s)) 2 1)
+        → cond (not q) (suc (run_of (is_other 13) s)) 0 < suc (length s)
+        → cond q (cond (starts_with (10 ∷ []) s) 2 1) (cut_of s + 1)
+        ≡ cond (not q) (suc (run_of (is_other 13) s)) 0 + cond (starts_with (10 ∷ []) (drop (cond (not q) (suc (run_of (is_other 13) s)) 0 + 1) (b ∷ s))) 2 1
+    by true on h = omega arith
+    by false on h =
+        let past : suc (run_of (is_other 13) s) + 1 ≡ suc (run_of (is_other 13) s + 1) = omega arith in
+        rw past (omega (arith, on (omega arith)))
 
-pub cut_cr : (s : List ℕ) (i : ℕ) → i + 1 < length s → get_or s i 0 ≡ 13 → (get_or s (i + 1) 0 ≡ 10 → ⊥) → cut_of (drop i s) ≡ 1
-unfolding cut_of starts_with
-cut_cr s i h b c =
-    rw (drop-cons s i 0 (omega arith), eq-eqb (get_or s i 0) 13 b, ← add-one i, drop-cons s (i + 1) 0 h, ne_eqb (get_or s (i + 1) 0) 10 c)
-
-pub cut_last : (s : List ℕ) (i : ℕ) → i < length s → length s ≤ i + 1 → get_or s i 0 ≡ 13 → cut_of (drop i s) ≡ 1
-unfolding cut_of starts_with
-cut_last s i h e b = rw (drop-cons s i 0 h, eq-eqb (get_or s i 0) 13 b, ← add-one i, drop_of_length-le s e)
-
-pub cut_none : (s : List ℕ) (i : ℕ) → length s ≤ i → cut_of (drop i s) ≡ 0
-unfolding cut_of
-cut_none s i h = rw (drop_of_length-le s h)
+-- the same of what was found: where the CR is, and whether what is left starts with an LF
+pub cut_found : (s : List ℕ) {r : ℕ} {b : Bool} → r ≡ run_of (is_other 13) s → r < length s
+    → b ≡ starts_with (10 ∷ []) (take (length s - (r + 1)) (drop (r + 1) s)) → cut_of s ≡ r + cond b 2 1
+cut_found s {r} {b} er h eb =
+    let rest : take (length s - (r + 1)) (drop (r + 1) s) ≡ drop (r + 1) s = take_all (length s - (r + 1)) (drop (r + 1) s) (omega (arith, length-drop (r + 1) s)) in
+    cut_at s (omega arith) ∙ rw (← er, rw rest at eb)
 
 -- a piece has a byte at least, and no more than there are
 

@@ -4,8 +4,10 @@
 ghost use Rattle.std.specs.Prelude.{◌≡◌, ◌≤◌, length};
 ghost use Rattle.pieces.specs.Pieces.{cut_of, is_joined, mark_after};
 
+use figures::{run_before, starts};
+
 // How far the piece that comes in has got: no CR yet, a CR as its last byte, or both its CR and its LF.
-#[derive(Clone, Copy)]
+#[derive(Clone, Copy, PartialEq, Eq)]
 pub enum Mark {
     Open,
     Cr,
@@ -13,23 +15,19 @@ pub enum Mark {
 }
 
 // Gives the length of the first piece, which goes up to a CR, with an LF that follows it, or takes all.
+#[tactic(auto, using(crate::proofs::Pieces::cut_all))]
 pub fn cut(s: &[u8]) -> usize
     ensures { (result ≡ cut_of s.now) × (result ≤ length s.now) }
 {
-    let mut i = 0;
-    while i < s.len() {
-        if s[i] == 13 {
-            let past = i + 1;
-            if past < s.len() {
-                if s[past] == 10 {
-                    return past + 1;
-                }
-            }
-            return past;
-        }
-        i += 1;
+    let cr = run_before(s, b'\r');
+    if cr == s.len() {
+        return cr;
     }
-    i
+    if starts(&s[cr + 1..], b"\n") {
+        cr + 2
+    } else {
+        cr + 1
+    }
 }
 
 // Tells whether the next byte still belongs to the piece.
@@ -38,7 +36,7 @@ pub fn joins(mark: Mark, b: u8) -> bool
 {
     match mark {
         Mark::Open => true,
-        Mark::Cr => b == 10,
+        Mark::Cr => b == b'\n',
         Mark::Whole => false,
     }
 }
@@ -48,13 +46,8 @@ pub fn after(mark: Mark, b: u8) -> Mark
     ensures { result ≡ mark_after mark b }
 {
     match mark {
-        Mark::Open => {
-            if b == 13 {
-                return Mark::Cr;
-            }
-            Mark::Open
-        }
-        Mark::Cr => Mark::Whole,
-        Mark::Whole => Mark::Whole,
+        Mark::Open if b == b'\r' => Mark::Cr,
+        Mark::Open => Mark::Open,
+        Mark::Cr | Mark::Whole => Mark::Whole,
     }
 }

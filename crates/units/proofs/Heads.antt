@@ -6,6 +6,7 @@ use mathlib.Core.List.{List, [], ◌∷◌}
 use native.Mathlib.Omega.{arith}
 use borrow.Author.Tests.{eqb-true, ltb-true, ltb-false, lt-ltb, le-ltb}
 use lib.Dec.{eqb, ltb}
+use Rattle.std.specs.Prelude.{Ok}
 use Rattle.figures.specs.Decimal.{is_digit, digits_of, are_digits}
 use Rattle.figures.proofs.Bytes.{within_bounds}
 use Rattle.figures.proofs.Tests.{both, by_test}
@@ -16,7 +17,6 @@ use Rattle.units.specs.declared.kinds.Family.{Family}
 use Rattle.units.specs.declared.kinds.Family.TheVariants.{Station, Level}
 use Rattle.units.specs.declared.kinds.Kind.{Kind}
 use Rattle.units.specs.declared.kinds.Kind.TheVariants.{Missing, Numbered, Text, Angle, Length, Constant, Pair}
-use Rattle.units.specs.declared.kinds.Indexed.TheVariants.{Listed}
 use Rattle.units.proofs.ThreeDigits.{numbered_class, class_high}
 use Rattle.units.proofs.Levels.{Found, alone, block, long, an_index, of_kind_lem, found, three_below, two_back}
 use Rattle.units.proofs.Positions.{index_below, index_back, index_on, two_digits, tens_of, ones_of, tens_digit, ones_digit}
@@ -50,7 +50,7 @@ module _ (t o c b m u : ℕ) (dt : is_digit t ≡ true) (dq : is_digit o ≡ tru
   by_level i k (block d l) = short
   by_level i k (long d high l) = rw (le-ltb (three_of (index_of t o) c) 100 high, three_digits t o c dt dq d)
 
-  by_family : (f : Family) (i : ℕ) (k : Kind) → listed_at f (index_of t o) c ≡ Listed i k → HeadAt i
+  by_family : (f : Family) (i : ℕ) (k : Kind) → listed_at f (index_of t o) c ≡ Ok (i, k) → HeadAt i
   by_family Station i k is = let (l, index, kind) = of_kind_lem (index_of t o) i (station_kind (index_of t o)) k is in rw (← index) short
   by_family Level i k is = by_level i k (found (index_of t o) c i k is)
 

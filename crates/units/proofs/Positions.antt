@@ -1,43 +1,29 @@
--- Positions 1-7: an index and its two digits, and a sign and its byte, say each other; four marks are equal where each is, and a level's are all wrong at
--- a kind that it doesn't have.
+-- Positions 1-7: an index and its two digits, and a sign and its byte, say each other.
 use Prim.Native.Nat.{ℕ, ◌+◌, ◌/◌, ◌%◌, ◌<◌, ◌≤◌}
 use mathlib.Core.Path.{◌≡◌, refl, sym, ap, ◌∙◌}
-use mathlib.Core.Bool.{Bool, true, false, cond, not, ◌&&◌, false≢true}
+use mathlib.Core.Bool.{Bool, true, false, cond, not, false≢true}
 use mathlib.Core.List.{List, [], ◌∷◌}
 use native.Mathlib.Omega.{arith}
-use types.Run.{OneOf, miss}
-use denote.Enum.Declared.{tag_of}
 use borrow.Author.Tests.{eqb-true, eqb-false, leb-true, leb-false}
 use lib.Dec.{eqb, leb}
 use Rattle.figures.specs.Bytes.{among, every}
-use Rattle.figures.specs.Decimal.{is_digit, are_digits, digits_of}
+use Rattle.figures.specs.Decimal.{is_digit, digits_of}
 use Rattle.figures.proofs.Bytes.{within_bounds, bounds_within, above_within}
-use Rattle.units.specs.Kinds.{station_kind, is_listed, is_textual, index_of, named_by, listed_at, index_at}
-use Rattle.units.specs.Information.{marks, level_marks, all_right, first_wrong, sign_byte, sign_of, is_sign, sign_right}
+use Rattle.units.specs.Kinds.{station_kind, is_listed, is_textual, index_of}
+use Rattle.units.specs.Information.{first_wrong, sign_byte, sign_of, is_sign, sign_right}
 use Rattle.units.specs.declared.information.Marks.{Marks}
-use Rattle.units.specs.declared.kinds.Family.{Family}
 use Rattle.units.specs.declared.kinds.Kind.{Kind}
-use Rattle.units.specs.declared.kinds.Kind.TheVariants.{Missing, Numbered, Text, Angle, Length, Constant, Pair}
-use Rattle.units.specs.declared.kinds.Indexed.{Indexed}
-use Rattle.units.specs.declared.kinds.Named.{Named}
-use Rattle.units.specs.declared.kinds.Named.TheVariants as named
-use Rattle.figures.proofs.Tests.{clash, both, by_test, among_above}
-use Rattle.units.specs.contracts.kinds.Kind.{the_type}
+use Rattle.units.specs.declared.kinds.Kind.TheVariants.{Missing}
+use Rattle.figures.proofs.Tests.{both, by_test, among_above}
 
 -- the index
 
--- what an answer of `named_by` says of the two characters
-pub named_not : (tens ones : ℕ) {r : Named} → r ≡ named_by tens ones → r ≡ named.Not → is_digit tens && is_digit ones ≡ false
-named_not tens ones e f =
-    by_test (is_digit tens && is_digit ones)
-    (λ q. let told = rw q at (sym e ∙ f) in absurd (clash (cc))) (λ q. q)
+-- a total station's kind, by its two parts: the kinds that hold numbers, and those that hold text
+pub text_part : (k : Kind) {n t : Kind} → n ≡ cond (is_textual k) Missing k → n ≡ Missing → t ≡ cond (is_textual k) k Missing → t ≡ k
+text_part k e none f = f ∙ by_test (is_textual k) (λ q. rw q) (λ q. rw q (sym none ∙ rw q at e))
 
-pub named_is : (tens ones : ℕ) {r : Named} {i : ℕ} → r ≡ named_by tens ones → r ≡ named.Index i
-    → (is_digit tens ≡ true) × (is_digit ones ≡ true) × (i ≡ index_of tens ones)
-named_is tens ones e f =
-    by_test (is_digit tens && is_digit ones)
-    (λ q. let told = rw q at (sym e ∙ f) in let digits = both (is_digit tens) (is_digit ones) q in (digits.0, digits.1, cc))
-    (λ q. let told = rw q at (sym e ∙ f) in absurd (clash (cc)))
+pub number_part : (k : Kind) {n : Kind} → n ≡ cond (is_textual k) Missing k → (n ≡ Missing → ⊥) → n ≡ k
+number_part k e some = by_test (is_textual k) (λ q. absurd (some (rw q at e))) (λ q. rw q at e)
 
 -- no index of the table is above 88
 pub none_above : (n : ℕ) → 88 < n → station_kind n ≡ Missing
@@ -74,14 +60,6 @@ two_digits tens ones et eo =
     let t = within_bounds 48 57 tens et in
     let o = within_bounds 48 57 ones eo in
     omega arith
-
-pub said_below : (tens ones : ℕ) {two : ℕ} → are_digits tens ones ≡ true → two ≡ index_of tens ones → two < 100
-said_below tens ones digits is = let (t, o) = both (is_digit tens) (is_digit ones) digits in rw is (two_digits tens ones t o)
-
--- of the calls that find the index of two digits
-pub index_said : (f : Family) (tens ones third : ℕ) {two : ℕ} {r : Indexed} → are_digits tens ones ≡ true → two ≡ index_of tens ones → r ≡ listed_at f two third
-    → r ≡ index_at f tens ones third
-index_said f tens ones third digits is e = rw (digits, ← is) e
 
 -- the two digits of an index of the table
 abbrev pub tens_of : ℕ → ℕ
@@ -142,22 +120,3 @@ sign_of_lem k b e =
 
 pub sign_right_lem : (k : Kind) (m : ℕ) → SignFor k m → sign_right k (sign_byte m) ≡ true
 sign_right_lem k m h = by_test (eqb m 0) (λ q. rw q) (λ q. by_test (is_textual k) (λ t. absurd (eqb-false m 0 q (h.plus t))) (λ t. rw (q, t)))
-
--- four marks
-
-pub four_marks : {a b c d a' b' c' d' : Bool} → a ≡ a' → b ≡ b' → c ≡ c' → d ≡ d' → marks a b c d ≡ marks a' b' c' d'
-four_marks p q r s i = marks (p i) (q i) (r i) (s i)
-
--- all of the marks that a call answers
-pub all_marks : {m m' : Marks} {b : Bool} → m ≡ m' → b ≡ all_right m → b ≡ all_right m'
-all_marks p e = e ∙ ap all_right p
-
--- the kinds that a level doesn't have, as the last arm of a match has them
-pub no_marks : (i : ℕ) (k : Kind) (a b c d : ℕ) → OneOf (0 ∷ 3 ∷ 5 ∷ 6 ∷ []) (tag_of the_type k) → marks false false false false ≡ level_marks i k a b c d
-no_marks i Missing a b c d h = refl
-no_marks i Numbered a b c d h = absurd (miss (0 ∷ 3 ∷ 5 ∷ 6 ∷ []) 1 tt h)
-no_marks i Text a b c d h = absurd (miss (0 ∷ 3 ∷ 5 ∷ 6 ∷ []) 2 tt h)
-no_marks i Angle a b c d h = refl
-no_marks i Length a b c d h = absurd (miss (0 ∷ 3 ∷ 5 ∷ 6 ∷ []) 4 tt h)
-no_marks i Constant a b c d h = refl
-no_marks i Pair a b c d h = refl

@@ -1,10 +1,10 @@
 -- The classes of a level's three digits: what each says of the index, computed over the whole table.
-use Prim.Native.Nat.{ℕ, ◌/◌, ◌<◌, zero-le}
+use Prim.Native.Nat.{ℕ, ◌/◌, ◌<◌, ◌≤◌, zero-le}
 use mathlib.Core.Path.{◌≡◌, refl, sym}
 use mathlib.Core.Bool.{true, false, cond}
 use mathlib.Core.List.{[], ◌∷◌}
 use native.Mathlib.Omega.{arith}
-use borrow.Author.Tests.{eq-eqb}
+use borrow.Author.Tests.{eq-eqb, le-ltb}
 use lib.Dec.{eqb, leb}
 use Rattle.figures.specs.Bytes.{among, every}
 use Rattle.figures.proofs.Bytes.{above_within}
@@ -59,3 +59,7 @@ class_high n h =
       above_within 110 119 n (omega arith) (omega arith),
       above_within 410 419 n (omega arith) (omega arith),
     )
+
+-- nor of four
+pub four_digits : (n : ℕ) → 1000 ≤ n → kind_of Level n ≡ Missing
+four_digits n h = rw (le-ltb n 100 (omega arith), class_high n (omega arith))

@@ -1,5 +1,5 @@
 -- What a word's figures count: "Values are whole numbers with a sign."
-use Rattle.std.specs.Prelude.{ℕ, ◌+◌, ◌*◌, ◌/◌, ◌%◌, Bool, cond, ◌&&◌, eqb, ltb}
+use Rattle.std.specs.Prelude.{ℕ, ◌+◌, ◌*◌, ◌/◌, ◌%◌, Bool, cond, ◌&&◌, eqb, ltb, Option, Some, None}
 use Rattle.figures.specs.Text.{byte}
 use Rattle.units.specs.declared.kinds.Kind.{Kind}
 use Rattle.units.specs.declared.kinds.Kind.TheVariants as kind
@@ -8,8 +8,6 @@ use Rattle.units.specs.declared.counts.Count.{Count}
 use Rattle.units.specs.declared.counts.Count.TheVariants.{Nothing, Text, Gon, Degree, Tenth, Mil, Metre, Feet, Inch, Ppm, Pair}
 use Rattle.units.specs.declared.counts.Figures.{Figures}
 use Rattle.units.specs.declared.counts.Figures.TheVariants as figures
-use Rattle.units.specs.declared.counts.Valued.{Valued}
-use Rattle.units.specs.declared.counts.Valued.TheVariants.{Not, Counted}
 
 abbrev pub whole : ℕ → ℕ → Whole
 whole m n = record { minus = m; size = n }
@@ -49,26 +47,26 @@ mil_limit = 64000000
 abbrev pub tenth_limit : ℕ
 tenth_limit = 12960000
 
-abbrev pub counted : Bool → Count → Valued
-counted right c = cond right (Counted c) Not
+abbrev pub counted : Bool → Count → Option Count
+counted right c = cond right (Some c) None
 
-abbrev pub gon_at : ℕ → ℕ → Valued
+abbrev pub gon_at : ℕ → ℕ → Option Count
 gon_at m n = counted (ltb n gon_limit) (Gon (record { 0 = whole m n }))
 
-abbrev pub degree_at : ℕ → ℕ → Valued
+abbrev pub degree_at : ℕ → ℕ → Option Count
 degree_at m n = counted (ltb n degree_limit) (Degree (record { 0 = whole m n }))
 
-abbrev pub tenth_at : ℕ → ℕ → Valued
+abbrev pub tenth_at : ℕ → ℕ → Option Count
 tenth_at m n = counted (ltb (degrees n) 360 && (ltb (minutes n) 60 && ltb (seconds n) 60)) (Tenth (record { 0 = whole m (tenths_of n) }))
 
-abbrev pub mil_at : ℕ → ℕ → Valued
+abbrev pub mil_at : ℕ → ℕ → Option Count
 mil_at m n = counted (ltb n mil_limit) (Mil (record { 0 = whole m n }))
 
 -- by the unit: 2, 3, 4 and 5
 abbrev pub by_unit : {A : Type 0} → ℕ → A → A → A → A → A
 by_unit u gon degree tenth mil = cond (eqb u (byte "2")) gon (cond (eqb u (byte "3")) degree (cond (eqb u (byte "4")) tenth mil))
 
-abbrev pub angle_at : ℕ → ℕ → ℕ → Valued
+abbrev pub angle_at : ℕ → ℕ → ℕ → Option Count
 angle_at u m n = by_unit u (gon_at m n) (degree_at m n) (tenth_at m n) (mil_at m n)
 
 abbrev pub angle_of : ℕ → Whole → Count
@@ -95,20 +93,20 @@ length_of u w =
 abbrev pub constant_of : ℕ → Whole → Count
 constant_of i w = cond (eqb i 58) (metres 4 w) (Ppm (record { 0 = w }))
 
-abbrev pub number_at : Kind → ℕ → ℕ → ℕ → ℕ → Valued
-number_at kind.Missing i u m n = Not
-number_at kind.Numbered i u m n = Not
-number_at kind.Text i u m n = Not
+abbrev pub number_at : Kind → ℕ → ℕ → ℕ → ℕ → Option Count
+number_at kind.Missing i u m n = None
+number_at kind.Numbered i u m n = None
+number_at kind.Text i u m n = None
 number_at kind.Angle i u m n = angle_at u m n
-number_at kind.Length i u m n = Counted (length_of u (whole m n))
-number_at kind.Constant i u m n = Counted (constant_of i (whole m n))
-number_at kind.Pair i u m n = Not
+number_at kind.Length i u m n = Some (length_of u (whole m n))
+number_at kind.Constant i u m n = Some (constant_of i (whole m n))
+number_at kind.Pair i u m n = None
 
 -- "10 now means angle out of range alone" (request 102): a sign refuses no number, and is kept before zero too
-abbrev pub value_at : Kind → ℕ → ℕ → ℕ → Figures → Valued
-value_at k i u m figures.Text = Counted Text
+abbrev pub value_at : Kind → ℕ → ℕ → ℕ → Figures → Option Count
+value_at k i u m figures.Text = Some Text
 value_at k i u m (figures.Number n) = number_at k i u m n
-value_at k i u m (figures.Pair p s q) = Counted (Pair (whole m p) (whole s q))
+value_at k i u m (figures.Pair p s q) = Some (Pair (whole m p) (whole s q))
 
 abbrev pub zero_whole : Whole
 zero_whole = whole 0 0

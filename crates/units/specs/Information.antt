@@ -1,5 +1,5 @@
 -- Positions 3-6, the table's third column, and position 7.
-use Rattle.std.specs.Prelude.{ℕ, Bool, false, cond, not, ◌&&◌, ◌||◌, List, ◌++◌, eqb, ltb, drop}
+use Rattle.std.specs.Prelude.{ℕ, Bool, false, cond, not, ◌&&◌, ◌||◌, List, ◌++◌, get_or, eqb, ltb, drop, Option, Some, None}
 use Rattle.figures.specs.Text.{codes, byte}
 use Rattle.figures.specs.Bytes.{within, among}
 use Rattle.figures.specs.Decimal.{is_digit, digits_of}
@@ -9,10 +9,6 @@ use Rattle.units.specs.declared.kinds.Family.TheVariants.{Station, Level}
 use Rattle.units.specs.declared.kinds.Kind.{Kind}
 use Rattle.units.specs.declared.kinds.Kind.TheVariants.{Missing, Numbered, Text, Angle, Length, Constant, Pair}
 use Rattle.units.specs.declared.information.Marks.{Marks}
-use Rattle.units.specs.declared.information.Informed.{Informed}
-use Rattle.units.specs.declared.information.Informed.TheVariants as informed
-use Rattle.units.specs.declared.information.Signed.{Signed}
-use Rattle.units.specs.declared.information.Signed.TheVariants as signed
 
 abbrev pub is_dot : ℕ → Bool
 is_dot b = eqb b (byte ".")
@@ -99,6 +95,25 @@ all_right m = m.0 && (m.1 && (m.2 && m.3))
 abbrev pub info_right : Family → ℕ → Kind → ℕ → ℕ → ℕ → ℕ → Bool
 info_right f i k a b c d = all_right (info_marks f i k a b c d)
 
+-- the same of the information as the list of its four bytes
+abbrev pub of_four : {A : Type 0} → (ℕ → ℕ → ℕ → ℕ → A) → List ℕ → A
+of_four f info = f (get_or info 0 0) (get_or info 1 0) (get_or info 2 0) (get_or info 3 0)
+
+abbrev pub numbered_marks_in : List ℕ → Marks
+numbered_marks_in info = of_four numbered_marks info
+
+abbrev pub station_marks_in : Kind → List ℕ → Marks
+station_marks_in k info = of_four (station_marks k) info
+
+abbrev pub level_marks_in : ℕ → Kind → List ℕ → Marks
+level_marks_in i k info = of_four (level_marks i k) info
+
+abbrev pub info_marks_in : Family → ℕ → Kind → List ℕ → Marks
+info_marks_in f i k info = of_four (info_marks f i k) info
+
+abbrev pub info_right_in : Family → ℕ → Kind → List ℕ → Bool
+info_right_in f i k info = of_four (info_right f i k) info
+
 -- of 6 "the first that breaks the rule" (request 104): which of positions 3-6, from 0; after an index of three digits the first of them is right
 abbrev pub first_wrong : Marks → ℕ
 first_wrong m = cond m.0 (cond m.1 (cond m.2 3 2) 1) 0
@@ -106,9 +121,6 @@ first_wrong m = cond m.0 (cond m.1 (cond m.2 3 2) 1) 0
 -- position 3 as the information has it: 0 where it belongs to the index
 abbrev pub lead_of : ℕ → ℕ → ℕ
 lead_of i third = cond (ltb i 100) third 0
-
-abbrev pub informed_of : Family → ℕ → Kind → ℕ → ℕ → ℕ → ℕ → Informed
-informed_of f i k a b c d = cond (info_right f i k a b c d) informed.Right informed.Not
 
 -- the sign's byte: 0 is a plus, 1 a minus
 abbrev pub sign_byte : ℕ → ℕ
@@ -124,8 +136,8 @@ is_sign b = eqb b (byte "+") || eqb b (byte "-")
 abbrev pub sign_right : Kind → ℕ → Bool
 sign_right k b = eqb b (byte "+") || (eqb b (byte "-") && not (is_textual k))
 
-abbrev pub sign_at : Kind → ℕ → Signed
-sign_at k b = cond (sign_right k b) (signed.Sign (sign_of b)) signed.Not
+abbrev pub sign_at : Kind → ℕ → Option ℕ
+sign_at k b = cond (sign_right k b) (Some (sign_of b)) None
 
 -- an index of two digits, or of three, which takes position 3 from the information
 abbrev pub index_bytes : ℕ → List ℕ

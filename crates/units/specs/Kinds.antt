@@ -1,5 +1,5 @@
 -- Positions 1-3: the index of a word and its kind, by the family of instruments that the caller names.
-use Rattle.std.specs.Prelude.{ℕ, ◌+◌, ◌-◌, ◌*◌, Bool, true, false, cond, ◌||◌, [], ◌∷◌, eqb, ltb}
+use Rattle.std.specs.Prelude.{ℕ, ◌+◌, ◌-◌, ◌*◌, Bool, true, false, cond, ◌||◌, [], ◌∷◌, eqb, ltb, Option, Some, None, Result, Ok, Err}
 use Rattle.figures.specs.Bytes.{within, among}
 use Rattle.figures.specs.Decimal.{is_digit, are_digits}
 use Rattle.units.specs.Classes.{number, text, numbered, class_of}
@@ -7,10 +7,8 @@ use Rattle.units.specs.declared.kinds.Family.{Family}
 use Rattle.units.specs.declared.kinds.Family.TheVariants.{Station, Level}
 use Rattle.units.specs.declared.kinds.Kind.{Kind}
 use Rattle.units.specs.declared.kinds.Kind.TheVariants.{Missing, Numbered, Text, Angle, Length, Constant, Pair}
-use Rattle.units.specs.declared.kinds.Named.{Named}
-use Rattle.units.specs.declared.kinds.Named.TheVariants as named
-use Rattle.units.specs.declared.kinds.Indexed.{Indexed}
-use Rattle.units.specs.declared.kinds.Indexed.TheVariants.{Other, Unlisted, Listed}
+use Rattle.units.specs.declared.kinds.Unindexed.{Unindexed}
+use Rattle.units.specs.declared.kinds.Unindexed.TheVariants.{Other, Unlisted}
 
 -- a total station: the table's first two columns. "Each index missing from the table is refused."
 abbrev pub station_kind : ℕ → Kind
@@ -62,16 +60,20 @@ is_textual Pair = false
 abbrev pub index_of : ℕ → ℕ → ℕ
 index_of tens ones = (tens - 48) * 10 + (ones - 48)
 
-abbrev pub named_by : ℕ → ℕ → Named
-named_by tens ones = cond (are_digits tens ones) (named.Index (index_of tens ones)) named.Not
+abbrev pub named_by : ℕ → ℕ → Option ℕ
+named_by tens ones = cond (are_digits tens ones) (Some (index_of tens ones)) None
 
 -- with a third digit
 abbrev pub three_of : ℕ → ℕ → ℕ
 three_of two third = two * 10 + (third - 48)
 
+-- an index with its kind, or why positions 1-3 are none
+abbrev pub Indexed : Type 0
+Indexed = Result (ℕ × Kind) Unindexed
+
 -- an index of that kind, if it has one
 abbrev pub of_kind : ℕ → Kind → Indexed
-of_kind i k = cond (is_listed k) (Listed i k) Unlisted
+of_kind i k = cond (is_listed k) (Ok (i, k)) (Err Unlisted)
 
 -- a level's two digits and position 3. "110-119 and 410-419 are index 11 or 41 with a block number"; any other digit there belongs to the index, and
 -- its class says of which kind it is. Where there is no digit, it is an index of two digits
@@ -79,7 +81,7 @@ abbrev pub level_at : ℕ → ℕ → Indexed
 level_at two third =
     let three = three_of two third in
     cond (is_digit third)
-    (cond (eqb (class_of three) numbered) (Listed two Numbered) (of_kind three (class_kind (class_of three))))
+    (cond (eqb (class_of three) numbered) (Ok (two, Numbered)) (of_kind three (class_kind (class_of three))))
     (of_kind two (level_kind two))
 
 -- two digits and position 3, by the family
@@ -93,18 +95,16 @@ first_other tens = cond (is_digit tens) 1 0
 
 -- positions 1-3
 abbrev pub index_at : Family → ℕ → ℕ → ℕ → Indexed
-index_at f tens ones third = cond (are_digits tens ones) (listed_at f (index_of tens ones) third) (Other (first_other tens))
+index_at f tens ones third = cond (are_digits tens ones) (listed_at f (index_of tens ones) third) (Err (Other (first_other tens)))
 
 -- whether the family has the index that they say, and which it is; 0 where it is none
 abbrev pub is_index : Indexed → Bool
-is_index (Other at) = false
-is_index Unlisted = false
-is_index (Listed i k) = true
+is_index (Ok p) = true
+is_index (Err w) = false
 
 abbrev pub index_or : Indexed → ℕ
-index_or (Other at) = 0
-index_or Unlisted = 0
-index_or (Listed i k) = i
+index_or (Ok p) = p.0
+index_or (Err w) = 0
 
 abbrev pub listed_by : Family → ℕ → ℕ → ℕ → Bool
 listed_by f tens ones third = is_index (listed_at f (index_of tens ones) third)

@@ -1,12 +1,12 @@
 // A word's data and what they count. Each step has a type of its own, with its own limit and its own way to digits, so that a count in gon
 // steps and a count in tenths of a second never stand in for each other, nor metre, feet and inch steps.
 ghost use Rattle.std.specs.Prelude.{◌≡◌};
-ghost use Rattle.units.specs.Counts.{gon_at, degree_at, tenth_at, mil_at, angle_at, angle_of, length_of, constant_of, number_at, value_at, first_of, second_of};
+ghost use Rattle.units.specs.Counts.{tenth_at, angle_at, angle_of, length_of, constant_of, number_at, value_at, first_of, second_of};
 
 use crate::kinds::Kind;
 
 // A whole number with a sign: minus is 0 or 1, before zero too.
-#[derive(Clone, Copy)]
+#[derive(Clone, Copy, PartialEq, Eq)]
 pub struct Whole {
     pub minus: u8,
     pub size: u64,
@@ -68,12 +68,6 @@ pub enum Figures {
     Pair(u64, u8, u64),
 }
 
-#[derive(Clone, Copy)]
-pub enum Valued {
-    Not,
-    Counted(Count),
-}
-
 // An angle's size is below its unit's limit.
 pub const GON_LIMIT: u64 = 40_000_000;
 
@@ -84,78 +78,30 @@ pub const MIL_LIMIT: u64 = 64_000_000;
 // 360 degrees in tenths of a second.
 pub const TENTH_LIMIT: u64 = 12_960_000;
 
-fn gon_at(minus: u8, n: u64) -> Valued
-    ensures { result ≡ gon_at minus n }
-{
-    if GON_LIMIT <= n {
-        return Valued::Not;
-    }
-    let count = Count::Gon(Gon(Whole {
-        minus: minus,
-        size: n,
-    }));
-    Valued::Counted(count)
-}
-
-fn degree_at(minus: u8, n: u64) -> Valued
-    ensures { result ≡ degree_at minus n }
-{
-    if DEGREE_LIMIT <= n {
-        return Valued::Not;
-    }
-    let count = Count::Degree(Degree(Whole {
-        minus: minus,
-        size: n,
-    }));
-    Valued::Counted(count)
-}
-
-// Reads from the right one digit of tenths, two of seconds, two of minutes, and the rest as degrees.
-fn tenth_at(minus: u8, n: u64) -> Valued
+// Counts an angle whose digits, from the right, are one of tenths, two of seconds, two of minutes, and the rest degrees.
+fn tenth_at(minus: u8, n: u64) -> Option<Count>
     ensures { result ≡ tenth_at minus n }
 {
     let degrees = n / 100_000;
     let minutes = n / 1_000 % 100;
     let seconds = n / 10 % 100;
-    if 360 <= degrees {
-        return Valued::Not;
-    }
-    if 60 <= minutes {
-        return Valued::Not;
-    }
-    if 60 <= seconds {
-        return Valued::Not;
+    if 360 <= degrees || 60 <= minutes || 60 <= seconds {
+        return None;
     }
     let size = degrees * 36_000 + minutes * 600 + seconds * 10 + n % 10;
-    let count = Count::Tenth(Tenth(Whole {
-        minus: minus,
-        size: size,
-    }));
-    Valued::Counted(count)
+    Some(Count::Tenth(Tenth(Whole { minus, size })))
 }
 
-fn mil_at(minus: u8, n: u64) -> Valued
-    ensures { result ≡ mil_at minus n }
-{
-    if MIL_LIMIT <= n {
-        return Valued::Not;
-    }
-    let count = Count::Mil(Mil(Whole {
-        minus: minus,
-        size: n,
-    }));
-    Valued::Counted(count)
-}
-
-// Gives the count of an angle of that unit, with that sign before that number.
-pub fn angle_at(unit: u8, minus: u8, n: u64) -> Valued
+// Gives the count of an angle of that unit, with that sign before that number; None out of its range.
+pub fn angle_at(unit: u8, minus: u8, n: u64) -> Option<Count>
     ensures { result ≡ angle_at unit minus n }
 {
+    let whole = Whole { minus, size: n };
     match unit {
-        b'2' => gon_at(minus, n),
-        b'3' => degree_at(minus, n),
+        b'2' => (n < GON_LIMIT).then_some(Count::Gon(Gon(whole))),
+        b'3' => (n < DEGREE_LIMIT).then_some(Count::Degree(Degree(whole))),
         b'4' => tenth_at(minus, n),
-        _ => mil_at(minus, n),
+        _ => (n < MIL_LIMIT).then_some(Count::Mil(Mil(whole))),
     }
 }
 
@@ -190,63 +136,38 @@ pub fn constant_of(index: u16, whole: Whole) -> Count
     ensures { result ≡ constant_of index whole }
 {
     if index == 58 {
-        return Count::Metre(Metre(whole, 4));
+        Count::Metre(Metre(whole, 4))
+    } else {
+        Count::Ppm(Ppm(whole))
     }
-    Count::Ppm(Ppm(whole))
 }
 
-fn number_at(kind: Kind, index: u16, unit: u8, minus: u8, n: u64) -> Valued
+fn number_at(kind: Kind, index: u16, unit: u8, minus: u8, n: u64) -> Option<Count>
     ensures { result ≡ number_at kind index unit minus n }
 {
+    let whole = Whole { minus, size: n };
     match kind {
         Kind::Angle => angle_at(unit, minus, n),
-        Kind::Length => {
-            let count = length_of(
-                unit,
-                Whole {
-                    minus: minus,
-                    size: n,
-                },
-            );
-            Valued::Counted(count)
-        }
-        Kind::Constant => {
-            let count = constant_of(
-                index,
-                Whole {
-                    minus: minus,
-                    size: n,
-                },
-            );
-            Valued::Counted(count)
-        }
-        _ => Valued::Not,
+        Kind::Length => Some(length_of(unit, whole)),
+        Kind::Constant => Some(constant_of(index, whole)),
+        _ => None,
     }
 }
 
-// Gives the count of a word of that kind, index and unit, with that sign before those figures.
-pub fn value_at(kind: Kind, index: u16, unit: u8, minus: u8, figures: Figures) -> Valued
+// Gives the count of a word of that kind, index and unit, with that sign before those figures; None for an angle out of its range.
+pub fn value_at(kind: Kind, index: u16, unit: u8, minus: u8, figures: Figures) -> Option<Count>
     ensures { result ≡ value_at kind index unit minus figures }
 {
     match figures {
-        Figures::Text => {
-            let count = Count::Text;
-            Valued::Counted(count)
-        }
+        Figures::Text => Some(Count::Text),
         Figures::Number(n) => number_at(kind, index, unit, minus, n),
-        Figures::Pair(ppm, under, mm) => {
-            let count = Count::Pair(
-                Whole {
-                    minus: minus,
-                    size: ppm,
-                },
-                Whole {
-                    minus: under,
-                    size: mm,
-                },
-            );
-            Valued::Counted(count)
-        }
+        Figures::Pair(ppm, under, mm) => Some(Count::Pair(
+            Whole { minus, size: ppm },
+            Whole {
+                minus: under,
+                size: mm,
+            },
+        )),
     }
 }
 
@@ -255,16 +176,15 @@ pub fn first_of(count: Count) -> Whole
     ensures { result ≡ first_of count }
 {
     match count {
-        Count::Nothing => Whole { minus: 0, size: 0 },
-        Count::Text => Whole { minus: 0, size: 0 },
-        Count::Gon(c) => c.0,
-        Count::Degree(c) => c.0,
-        Count::Tenth(c) => c.0,
-        Count::Mil(c) => c.0,
-        Count::Metre(c) => c.0,
-        Count::Feet(c) => c.0,
-        Count::Inch(c) => c.0,
-        Count::Ppm(c) => c.0,
+        Count::Nothing | Count::Text => Whole { minus: 0, size: 0 },
+        Count::Gon(Gon(whole))
+        | Count::Degree(Degree(whole))
+        | Count::Tenth(Tenth(whole))
+        | Count::Mil(Mil(whole))
+        | Count::Metre(Metre(whole, _))
+        | Count::Feet(Feet(whole, _))
+        | Count::Inch(Inch(whole))
+        | Count::Ppm(Ppm(whole)) => whole,
         Count::Pair(ppm, _) => ppm,
     }
 }

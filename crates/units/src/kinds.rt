@@ -5,16 +5,15 @@ ghost use Rattle.units.specs.declared.kinds.Kind as Kind;
 ghost use Rattle.units.specs.Kinds.{station_kind, level_kind, class_kind, kind_of, is_textual, index_of, named_by, of_kind, level_at, index_at};
 
 use crate::classes::class_of;
-use figures::casts::figure;
 
 // Total stations and digital levels.
-#[derive(Clone, Copy)]
+#[derive(Clone, Copy, PartialEq, Eq)]
 pub enum Family {
     Station,
     Level,
 }
 
-#[derive(Clone, Copy)]
+#[derive(Clone, Copy, PartialEq, Eq)]
 pub enum Kind {
     Missing,
     Numbered,
@@ -25,31 +24,23 @@ pub enum Kind {
     Pair,
 }
 
-// The index that two characters name, or that they aren't two digits.
-#[derive(Clone, Copy)]
-pub enum Named {
-    Not,
-    Index(u16),
-}
-
-// What positions 1-3 say: a byte that is no digit, from 0; digits that the family doesn't have; or an index of it, with its kind.
-#[derive(Clone, Copy)]
-pub enum Indexed {
+// Why positions 1-3 are no index: a byte that is no digit, from 0, or digits that the family doesn't have.
+#[derive(Clone, Copy, PartialEq, Eq)]
+pub enum Unindexed {
     Other(usize),
     Unlisted,
-    Listed(u16, Kind),
 }
 
 // The kinds of a total station's indexes in two parts, each small enough for the compiler to join it with every caller (docs/BENCHMARK.md).
 
 // Gives the kind of a total station's index whose words hold numbers; Missing for any other.
+#[tactic(auto, unfolding(figures::specs::Bytes::among))]
 pub fn number_kind(index: u16) -> Kind
     ensures { result ≡ cond (is_textual (station_kind index)) Kind.Missing (station_kind index) }
 {
     match index {
         21 | 22 | 24 => Kind::Angle,
-        31..=34 => Kind::Length,
-        81..=88 => Kind::Length,
+        31..=34 | 81..=88 => Kind::Length,
         58 | 59 => Kind::Constant,
         51 => Kind::Pair,
         _ => Kind::Missing,
@@ -64,31 +55,29 @@ fn text_kind(index: u16) -> Kind
     match index {
         11 | 41 => Kind::Numbered,
         12 | 13 | 16 | 18 | 19 | 52 | 53 => Kind::Text,
-        42..=49 => Kind::Text,
-        71..=79 => Kind::Text,
+        42..=49 | 71..=79 => Kind::Text,
         _ => Kind::Missing,
     }
 }
 
 // Gives the kind of a total station's index.
-pub(crate) fn station_kind(index: u16) -> Kind
+fn station_kind(index: u16) -> Kind
     ensures { result ≡ station_kind index }
 {
-    let number = number_kind(index);
-    if let Kind::Missing = number {
-        return text_kind(index);
+    match number_kind(index) {
+        Kind::Missing => text_kind(index),
+        number => number,
     }
-    number
 }
 
 // Gives the kind of a level's index of two digits.
+#[tactic(auto, unfolding(figures::specs::Bytes::among))]
 fn level_kind(index: u16) -> Kind
     ensures { result ≡ level_kind index }
 {
     match index {
         11 | 41 => Kind::Numbered,
-        42..=49 => Kind::Text,
-        52 | 57 => Kind::Text,
+        42..=49 | 52 | 57 => Kind::Text,
         32 | 83 => Kind::Length,
         _ => Kind::Missing,
     }
@@ -106,20 +95,15 @@ fn class_kind(class: u8) -> Kind
 }
 
 // Gives the kind of a record's index.
+#[tactic(auto, using(crate::proofs::ThreeDigits::four_digits))]
 pub fn kind_of(family: Family, index: u16) -> Kind
     ensures { result ≡ kind_of family index }
 {
     match family {
         Family::Station => station_kind(index),
-        Family::Level => {
-            if index < 100 {
-                return level_kind(index);
-            }
-            if 999 < index {
-                return Kind::Missing;
-            }
-            class_kind(class_of(index))
-        }
+        Family::Level if index < 100 => level_kind(index),
+        Family::Level if index < 1000 => class_kind(class_of(index)),
+        Family::Level => Kind::Missing,
     }
 }
 
@@ -127,87 +111,70 @@ pub fn kind_of(family: Family, index: u16) -> Kind
 pub fn textual(kind: Kind) -> bool
     ensures { result ≡ is_textual kind }
 {
-    match kind {
-        Kind::Numbered => true,
-        Kind::Text => true,
-        _ => false,
-    }
+    matches!(kind, Kind::Numbered | Kind::Text)
 }
 
 // Gives the index that two digits say.
-pub(crate) fn index_of(tens: u8, ones: u8) -> u16
+#[tactic(auto, using(figures::proofs::Bytes::within_bounds))]
+fn index_of(tens: u8, ones: u8) -> u16
     requires { are_digits tens ones ≡ true }
     ensures { result ≡ index_of tens ones }
 {
-    figure(tens - b'0') * 10 + figure(ones - b'0')
+    u16::from(tens - b'0') * 10 + u16::from(ones - b'0')
 }
 
-// Reads the index that two characters name.
-pub fn named_by(tens: u8, ones: u8) -> Named
+// Reads the index that two characters name; None where they aren't two digits.
+pub fn named_by(tens: u8, ones: u8) -> Option<u16>
     ensures { result ≡ named_by tens ones }
 {
-    if !figures::digit(tens) {
-        return Named::Not;
+    if figures::digit(tens) && figures::digit(ones) {
+        Some(index_of(tens, ones))
+    } else {
+        None
     }
-    if !figures::digit(ones) {
-        return Named::Not;
-    }
-    Named::Index(index_of(tens, ones))
 }
 
 // Answers an index that has a kind.
-pub(crate) fn listed_as(index: u16, kind: Kind) -> Indexed
+fn listed_as(index: u16, kind: Kind) -> Result<(u16, Kind), Unindexed>
     ensures { result ≡ of_kind index kind }
 {
-    if let Kind::Missing = kind {
-        return Indexed::Unlisted;
+    match kind {
+        Kind::Missing => Err(Unindexed::Unlisted),
+        _ => Ok((index, kind)),
     }
-    Indexed::Listed(index, kind)
 }
 
 // Finds a level's index: position 3 decides whether two digits or three are looked up.
-pub(crate) fn level_at(two: u16, third: u8) -> Indexed
+fn level_at(two: u16, third: u8) -> Result<(u16, Kind), Unindexed>
     requires { two < 100 }
     ensures { result ≡ level_at two third }
 {
     if !figures::digit(third) {
-        let kind = level_kind(two);
-        return listed_as(two, kind);
+        return listed_as(two, level_kind(two));
     }
-    let three = two * 10 + figure(third - b'0');
+    let three = two * 10 + u16::from(third - b'0');
     match class_of(three) {
-        b'1' => {
-            let kind = Kind::Length;
-            Indexed::Listed(three, kind)
-        }
-        b'2' => {
-            let kind = Kind::Text;
-            Indexed::Listed(three, kind)
-        }
-        b'3' => {
-            let kind = Kind::Numbered;
-            Indexed::Listed(two, kind)
-        }
-        _ => Indexed::Unlisted,
+        b'1' => Ok((three, Kind::Length)),
+        b'2' => Ok((three, Kind::Text)),
+        b'3' => Ok((two, Kind::Numbered)),
+        _ => Err(Unindexed::Unlisted),
     }
 }
 
-// Finds the index that positions 1-3 say.
-pub fn index_at(family: Family, tens: u8, ones: u8, third: u8) -> Indexed
+// Finds the index that positions 1-3 say, and its kind.
+#[inline(always)]
+pub fn index_at(family: Family, tens: u8, ones: u8, third: u8) -> Result<(u16, Kind), Unindexed>
     ensures { result ≡ index_at family tens ones third }
 {
     if !figures::digit(tens) {
-        return Indexed::Other(0);
+        return Err(Unindexed::Other(0));
     }
     if !figures::digit(ones) {
-        return Indexed::Other(1);
+        return Err(Unindexed::Other(1));
     }
     let two = index_of(tens, ones);
     match family {
-        Family::Station => {
-            let kind = station_kind(two);
-            listed_as(two, kind)
-        }
+        Family::Station => listed_as(two, station_kind(two)),
         Family::Level => level_at(two, third),
     }
 }

@@ -5,4 +5,3 @@ mod classes;
 pub mod counts;
 pub mod information;
 pub mod kinds;
-pub mod reader;

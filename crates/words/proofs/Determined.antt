@@ -6,14 +6,12 @@ use Prim.Native.Nat.{ℕ}
 use Rattle.figures.specs.Promises.{Determined}
 use Rattle.figures.proofs.Determined.{by_equation}
 use Rattle.words.specs.Records.{width, blank, record_of, is_right, typed_of}
-use Rattle.words.specs.Reading.{fault_number, word_of}
+use Rattle.words.specs.Reading.{OneWord, fault_number, word_of}
 use Rattle.words.specs.Keeping.{parted_at}
 use Rattle.units.specs.declared.kinds.Family.{Family}
 use Rattle.units.specs.declared.counts.Count.{Count}
 use Rattle.words.specs.declared.records.Word.{Word}
 use Rattle.words.specs.declared.reading.Fault.{Fault}
-use Rattle.words.specs.declared.reading.Parted.{Parted}
-use Rattle.words.specs.declared.reading.OneWord.{OneWord}
 
 pub blank_word_determined : Determined (Unit {0}) Word (λ i r. r ≡ blank)
 blank_word_determined = by_equation (Unit {0}) Word (λ i. blank)
@@ -36,8 +34,8 @@ fault_number_determined = by_equation Fault ℕ fault_number
 pub width_of_determined : Determined Bool ℕ (λ i r. r ≡ width i)
 width_of_determined = by_equation Bool ℕ width
 
-pub parted_at_determined : Determined ℕ Parted (λ b r. r ≡ parted_at b)
-parted_at_determined = by_equation ℕ Parted parted_at
+pub parted_at_determined : Determined ℕ Bool (λ b r. r ≡ parted_at b)
+parted_at_determined = by_equation ℕ Bool parted_at
 
 pub read_word_determined : Determined (List ℕ × (Family × Bool)) OneWord (λ i r. r ≡ word_of i.1.0 i.1.1 i.0)
 read_word_determined = by_equation (List ℕ × (Family × Bool)) OneWord (λ i. word_of i.1.0 i.1.1 i.0)

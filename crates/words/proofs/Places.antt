@@ -6,6 +6,7 @@ use mathlib.Core.List.{List, [], ◌∷◌, ◌++◌, append_assoc}
 use native.Mathlib.Omega.{arith}
 use borrow.Author.Tests.{le-leb}
 use lib.Dec.{eqb}
+use Rattle.std.specs.Prelude.{Option}
 use lib.ListN.{length, get_or, take, drop, length-append, take-append-drop}
 use lib.Seq.{take_at, get_or_at, get_or-drop, drop-drop, drop-cons, length-take-le}
 use Rattle.figures.specs.Decimal.{are_digits}
@@ -14,13 +15,11 @@ use Rattle.units.specs.Information.{info_marks, all_right, first_wrong, lead_of,
 use Rattle.units.specs.declared.information.Marks.{Marks}
 use Rattle.units.specs.Counts.{value_at}
 use Rattle.words.specs.Records.{width, record_of}
-use Rattle.words.specs.Reading.{word_size, pos, data_in, data_right, data_at, figures_in, text_field, is_counted, count_or, right_word, unless, word_of}
+use Rattle.words.specs.Reading.{OneWord, word_size, pos, data_in, data_right, data_at, figures_in, text_field, is_counted, count_or, right_word, unless, word_of}
 use Rattle.units.specs.declared.kinds.Family.{Family}
 use Rattle.units.specs.declared.counts.Count.{Count}
-use Rattle.units.specs.declared.counts.Valued.{Valued}
 use Rattle.words.specs.declared.records.Word.{Word}
 use Rattle.words.specs.declared.reading.Fault.TheVariants.{Index, Unlisted, Information, Sign, Characters, Separator, Value}
-use Rattle.words.specs.declared.reading.OneWord.{OneWord}
 use Rattle.words.proofs.Checks.{data_length}
 
 -- the positions of a word
@@ -71,7 +70,7 @@ rules t digits listed info sign letters end value r =
     (unless sign Sign 6 (unless letters Characters t.letters (unless end Separator t.end (unless value Value 7 r))))))
 
 -- what the places count, by the index that they say
-abbrev pub value_by : Family → ℕ → Places → Valued
+abbrev pub value_by : Family → ℕ → Places → Option Count
 value_by f i p = value_at (kind_of f i) i p.unit (sign_of p.sign) (figures_in (kind_of f i) p.letters)
 
 abbrev pub record_by : Family → ℕ → Places → Count → Word

@@ -6,6 +6,7 @@ use mathlib.Core.List.{List, [], ◌∷◌, ◌++◌}
 use native.Mathlib.Omega.{arith}
 use borrow.Author.Tests.{leb-true, eqb-true, eq-eqb}
 use lib.Dec.{eqb, leb}
+use Rattle.std.specs.Prelude.{Option, Some, None}
 use lib.ListN.{length, get_or, take, drop, drop_of_length-le}
 use lib.Seq.{drop-cons}
 use Rattle.figures.specs.Decimal.{is_digit, are_digits}
@@ -18,13 +19,10 @@ use Rattle.words.specs.Writing.{data_of, bytes_of}
 use Rattle.units.specs.declared.kinds.Family.{Family}
 use Rattle.units.specs.declared.counts.Whole.{Whole}
 use Rattle.units.specs.declared.counts.Count.{Count}
-use Rattle.units.specs.declared.counts.Valued.{Valued}
-use Rattle.units.specs.declared.counts.Valued.TheVariants.{Not, Counted}
 use Rattle.words.specs.declared.records.Word.{Word}
 use Rattle.words.specs.declared.reading.Fault.{Fault}
 use Rattle.words.specs.declared.reading.Fault.TheVariants.{Short, Index, Unlisted, Information, Sign, Characters, Separator, Value}
-use Rattle.words.specs.declared.reading.Judged.TheVariants.{Right, Wrong}
-use Rattle.words.specs.declared.reading.OneWord.{OneWord}
+use Rattle.words.specs.Reading.{OneWord, word_in}
 use Rattle.words.proofs.Checks.{width_bounds, data_length}
 use Rattle.figures.proofs.Tests.{clash, both}
 use Rattle.units.proofs.Heads.{head_back, two_of, third_of, head_is, head_digits, head_says}
@@ -94,7 +92,7 @@ record Judges (f : Family) (i : ℕ) (p : Places) (c : Count) : Type 0 where
   sign : sign_right (kind_of f i) p.sign ≡ true
   letters : data_right (kind_of f i) p.letters ≡ true
   end : p.end ≡ 32
-  value : value_by f i p ≡ Counted c
+  value : value_by f i p ≡ Some c
 
 keep_rules : (t : Tells) (digits listed info sign letters end value : Bool) (r : OneWord) → digits ≡ true → listed ≡ true → info ≡ true → sign ≡ true
     → letters ≡ true → end ≡ true → value ≡ true
@@ -109,12 +107,11 @@ word_judged f wide i p c j =
 through : (b : Bool) (x : Fault) (at : ℕ) (r : OneWord) (w : Word) → unless b x at r ≡ right_word w → (b ≡ true) × (r ≡ right_word w)
 through true x at r w e = (refl, e)
 through false x at r w e =
-    let q : Wrong x at ≡ Right = ap (λ (o : OneWord). o.answer) e in
     absurd (clash (cc))
 
-counted_is : (v : Valued) → is_counted v ≡ true → v ≡ Counted (count_or v)
-counted_is Not e = absurd (false≢true e)
-counted_is (Counted c) e = refl
+counted_is : (v : Option Count) → is_counted v ≡ true → v ≡ Some (count_or v)
+counted_is None e = absurd (false≢true e)
+counted_is (Some c) e = refl
 
 judged : (f : Family) (wide : Bool) (i : ℕ) (p : Places) (w : Word) → word_at f wide i p ≡ right_word w
     → Judges f i p (count_or (value_by f i p)) × (record_by f i p (count_or (value_by f i p)) ≡ w)
@@ -135,7 +132,7 @@ judged f wide i p w e =
         end = eqb-true p.end 32 end.0;
         value = counted_is (value_by f i p) value.0;
       },
-      ap (λ (o : OneWord). o.word) value.1,
+      ap word_in value.1,
     )
 
 -- the bytes of a record, place by place
@@ -147,7 +144,7 @@ bytes_spread f wide w p h s d e = rw (d, h, s, e)
 -- from the bytes
 
 places_read : (f : Family) (wide : Bool) (p : Places) (w : Word) → length p.letters ≡ width wide → word_by f wide p ≡ right_word w
-    → (is_right f wide w ≡ true) × (bytes_of f wide w ≡ spread p []) × (value_by f (index_from f p) p ≡ Counted (count_of f w)) × (w.minus ≡ sign_of p.sign)
+    → (is_right f wide w ≡ true) × (bytes_of f wide w ≡ spread p []) × (value_by f (index_from f p) p ≡ Some (count_of f w)) × (w.minus ≡ sign_of p.sign)
 places_read f wide p w l e =
     let i = index_from f p in
     let k = kind_of f i in
@@ -171,7 +168,7 @@ places_read f wide p w l e =
     bytes_spread f wide r p head (ap sign_byte told.2 ∙ sign_back p.sign sign.0) letters j.end in (
       ap (is_right f wide) (sym is) ∙ right,
       ap (bytes_of f wide) (sym is) ∙ bytes,
-      j.value ∙ ap Counted (sym told.3 ∙ ap (count_of f) is),
+      j.value ∙ ap Some (sym told.3 ∙ ap (count_of f) is),
       ap (λ (x : Word). x.minus) (sym is) ∙ told.2,
     )
 
@@ -187,7 +184,7 @@ read_write f wide s w e =
     (right, bytes ∙ sym (ap (take (word_size wide)) is ∙ take_spread wide p l rest))
 
 -- what the word counted, its record counts
-pub read_counts : (f : Family) (wide : Bool) (s : List ℕ) (w : Word) → word_of f wide s ≡ right_word w → value_in f wide s ≡ Counted (count_of f w)
+pub read_counts : (f : Family) (wide : Bool) (s : List ℕ) (w : Word) → word_of f wide s ≡ right_word w → value_in f wide s ≡ Some (count_of f w)
 read_counts f wide s w e =
     let (long, by) = through (leb (word_size wide) (length s)) Short _ _ w e in
     (places_read f wide (places_in wide s) w (data_length wide s (leb-true (word_size wide) (length s) long)) by).2

@@ -14,7 +14,7 @@ use Rattle.units.specs.Kinds.{kind_of, index_by, first_other, listed_by, is_text
 use Rattle.units.specs.Information.{info_marks, all_right, first_wrong, info_right, lead_of, is_sign, sign_of, sign_right}
 use Rattle.units.specs.Counts.{whole, zero_whole, degrees, minutes, seconds, tenths_of, counted, angle_at, value_at, first_of, second_of, gon_limit, degree_limit, mil_limit}
 use Rattle.words.specs.Records.{width, kind_in, unit_in, count_by, count_right, same_whole, text_right, is_right, typed_of}
-use Rattle.words.specs.Reading.{fault_number, word_size, pos, data_in, under_in, index_in, kind_at, marks_in, data_right, data_at, figures_in}
+use Rattle.words.specs.Reading.{judged_in, judged_wrong, word_in, fault_number, word_size, pos, data_in, under_in, index_in, kind_at, marks_in, data_right, data_at, figures_in}
 use Rattle.words.specs.Reading.{value_in, is_counted, count_or, record_in, right_word, unless, word_of}
 use Rattle.words.specs.Writing.{bytes_of}
 use Rattle.units.specs.declared.kinds.Family.{Family}
@@ -29,12 +29,10 @@ use Rattle.units.specs.declared.counts.Figures.TheVariants as figures
 use Rattle.words.specs.declared.records.Word.{Word}
 use Rattle.words.specs.declared.reading.Fault.{Fault}
 use Rattle.words.specs.declared.reading.Fault.TheVariants.{Short, Index, Unlisted, Information, Sign, Characters, Separator, Value}
-use Rattle.words.specs.declared.reading.Judged.TheVariants.{Wrong}
-use Rattle.words.specs.declared.reading.OneWord.{OneWord}
 use Rattle.words.proofs.Values.{by_unit, by_length, by_constant}
 use Rattle.words.proofs.Checks.{width_bounds}
 use Rattle.words.proofs.Letters.{halves_at, halves_right}
-use Rattle.words.proofs.Told.{past}
+use Rattle.words.proofs.Told.{told_at, past}
 use Rattle.words.proofs.Places.{Places, spread, Tells, rules, value_by, record_by, word_spread}
 use Rattle.words.proofs.RoundTrip.{takes, read_counts, write_read}
 use Rattle.words.proofs.Given.{gives}
@@ -67,8 +65,8 @@ sign_free k i u m (figures.Pair p s q) = refl
 
 -- two words whose rules hold alike have the same answer
 alike : (t : Tells) (long digits listed info sign letters end value : Bool) (v w : Word)
-    → (unless long Short 0 (rules t digits listed info sign letters end value (right_word v))).answer
-    ≡ (unless long Short 0 (rules t digits listed info sign letters end value (right_word w))).answer
+    → judged_in (unless long Short 0 (rules t digits listed info sign letters end value (right_word v)))
+    ≡ judged_in (unless long Short 0 (rules t digits listed info sign letters end value (right_word w)))
 alike t false digits listed info sign letters end value v w = refl
 alike t true false listed info sign letters end value v w = refl
 alike t true true false info sign letters end value v w = refl
@@ -81,7 +79,7 @@ alike t true true true true true true true true v w = refl
 
 -- the same bytes but for the sign at position 7
 pub minus_as_plus : (f : Family) (wide : Bool) (a b c d e u : ℕ) (rest : List ℕ) → is_textual (kind_at f (a ∷ b ∷ c ∷ [])) ≡ false
-    → (word_of f wide (a ∷ b ∷ c ∷ d ∷ e ∷ u ∷ 45 ∷ rest)).answer ≡ (word_of f wide (a ∷ b ∷ c ∷ d ∷ e ∷ u ∷ 43 ∷ rest)).answer
+    → judged_in (word_of f wide (a ∷ b ∷ c ∷ d ∷ e ∷ u ∷ 45 ∷ rest)) ≡ judged_in (word_of f wide (a ∷ b ∷ c ∷ d ∷ e ∷ u ∷ 43 ∷ rest))
 minus_as_plus f wide a b c d e u rest number =
     let signed : ℕ → List ℕ = λ sign. a ∷ b ∷ c ∷ d ∷ e ∷ u ∷ sign ∷ rest in
     let s = signed 43 in
@@ -102,7 +100,7 @@ minus_as_plus f wide a b c d e u rest number =
     let end = eqb (get_or s (7 + width wide) 0) 32 in
     let counts = is_counted (value_in f wide s) in
     let minus = record_in f wide (signed 45) in
-    let is : (word_of f wide (signed 45)).answer ≡ (unless long Short 0 (rules told digits listed info true letters end counts (right_word minus))).answer =
+    let is : judged_in (word_of f wide (signed 45)) ≡ judged_in (unless long Short 0 (rules told digits listed info true letters end counts (right_word minus))) =
     rw (sign, by_width wide, value) in
     is ∙ alike told long digits listed info true letters end counts minus (record_in f wide s)
   where
@@ -113,8 +111,8 @@ minus_as_plus f wide a b c d e u rest number =
 -- the same bytes but for the sign between a pair's halves
 pub under_as_plus : (f : Family) (wide : Bool) (a b c d e u sign end : ℕ) (ppm mm rest : List ℕ) → kind_at f (a ∷ b ∷ c ∷ []) ≡ Pair
     → length ppm ≡ width wide - 4 → length mm ≡ 3
-    → (word_of f wide (a ∷ b ∷ c ∷ d ∷ e ∷ u ∷ sign ∷ ((ppm ++ (45 ∷ mm)) ++ (end ∷ rest)))).answer
-    ≡ (word_of f wide (a ∷ b ∷ c ∷ d ∷ e ∷ u ∷ sign ∷ ((ppm ++ (43 ∷ mm)) ++ (end ∷ rest)))).answer
+    → judged_in (word_of f wide (a ∷ b ∷ c ∷ d ∷ e ∷ u ∷ sign ∷ ((ppm ++ (45 ∷ mm)) ++ (end ∷ rest))))
+    ≡ judged_in (word_of f wide (a ∷ b ∷ c ∷ d ∷ e ∷ u ∷ sign ∷ ((ppm ++ (43 ∷ mm)) ++ (end ∷ rest))))
 under_as_plus f wide a b c d e u sign end ppm mm rest is front back =
     let i = index_by f a b c in
     let places : ℕ → Places =
@@ -127,15 +125,15 @@ under_as_plus f wide a b c d e u sign end ppm mm rest is front back =
     let told : Tells = record { other = first_other a; info = 2 + first_wrong marks; letters = 7 + wrong; end = 7 + width wide } in
     let of : ℕ → Word = λ x. record_by f i (places x) (count_or (value_by f i (places x))) in
     let answers : (x : ℕ) → is_sign x ≡ true
-    → (word_of f wide (spread (places x) rest)).answer
-    ≡ (unless true Short 0 (rules told digits listed (all_right marks) (sign_right (kind_of f i) sign) right (eqb end 32) true (right_word (of x)))).answer =
+    → judged_in (word_of f wide (spread (places x) rest))
+    ≡ judged_in (unless true Short 0 (rules told digits listed (all_right marks) (sign_right (kind_of f i) sign) right (eqb end 32) true (right_word (of x)))) =
     λ x s.
     let long = length-append ppm (x ∷ mm) in
     let bounds = width_bounds wide in
     let letters : data_right (kind_of f i) (ppm ++ (x ∷ mm)) ≡ right = rw is (halves_right ppm x mm back ∙ rw s) in
     let first : data_at (kind_of f i) (ppm ++ (x ∷ mm)) ≡ wrong = rw is (halves_at ppm x mm back ∙ rw s) in
     let value : is_counted (value_by f i (places x)) ≡ true = rw is in
-    ap (λ (o : OneWord). o.answer) (word_spread wide (places x) (omega arith) f rest) ∙ rw (letters, value, first) in
+    ap judged_in (word_spread wide (places x) (omega arith) f rest) ∙ rw (letters, value, first) in
     answers 45 refl
     ∙ alike told true digits listed (all_right marks) (sign_right (kind_of f i) sign) right (eqb end 32) true (of 45) (of 43)
     ∙ sym (answers 43 refl)
@@ -143,9 +141,9 @@ under_as_plus f wide a b c d e u sign end ppm mm rest is front back =
 -- 10
 
 module _ (x : Fault) (at : ℕ) where
-  last : (b : Bool) (w : Word) → (unless b Value 7 (right_word w)).answer ≡ Wrong x at → (b ≡ false) × (at ≡ 7)
+  last : (b : Bool) (w : Word) → judged_in (unless b Value 7 (right_word w)) ≡ judged_wrong x at → (b ≡ false) × (at ≡ 7)
   last true w e = absurd (clash (cc))
-  last false w e = (refl, cc)
+  last false w e = (refl, sym (ap told_at e))
 
 angle_alone : (k : Kind) (i u m : ℕ) (d : List ℕ) → data_right k d ≡ true → is_counted (value_at k i u m (figures_in k d)) ≡ false
     → (k ≡ Angle) × (is_counted (angle_at u m (number_of d)) ≡ false)
@@ -157,7 +155,7 @@ angle_alone Length i u m d right e = absurd (false≢true (sym e))
 angle_alone Constant i u m d right e = absurd (false≢true (sym e))
 angle_alone Pair i u m d right e = absurd (false≢true (sym e))
 
-refused_ten : (f : Family) (wide : Bool) (s : List ℕ) (x : Fault) (at : ℕ) → (word_of f wide s).answer ≡ Wrong x at → fault_number x ≡ 10
+refused_ten : (f : Family) (wide : Bool) (s : List ℕ) (x : Fault) (at : ℕ) → judged_in (word_of f wide s) ≡ judged_wrong x at → fault_number x ≡ 10
     → (all_right (marks_in f s) ≡ true) × (kind_at f s ≡ Angle)
     × (is_counted (angle_at (pos 6 s) (sign_of (pos 7 s)) (number_of (data_in wide s))) ≡ false) × (at ≡ 7)
 refused_ten f wide s x at e ten =
@@ -174,14 +172,14 @@ refused_ten f wide s x at e ten =
     (informed, angle, far, told)
 
 -- "10 now means angle out of range alone"; "for 10 the first data byte" (request 104)
-pub ten_angle : (f : Family) (wide : Bool) (s : List ℕ) (x : Fault) (at : ℕ) → (word_of f wide s).answer ≡ Wrong x at → fault_number x ≡ 10
+pub ten_angle : (f : Family) (wide : Bool) (s : List ℕ) (x : Fault) (at : ℕ) → judged_in (word_of f wide s) ≡ judged_wrong x at → fault_number x ≡ 10
     → (kind_at f s ≡ Angle) × (is_counted (angle_at (pos 6 s) 0 (number_of (data_in wide s))) ≡ false) × (at ≡ 7)
 ten_angle f wide s x at is ten =
     let (informed, angle, out, told) = refused_ten f wide s x at is ten in
     (angle, sym (sign_free Angle 0 (pos 6 s) (sign_of (pos 7 s)) (figures.Number (number_of (data_in wide s)))) ∙ out, told)
 
 -- a level has no angle, and so no 10
-pub level_ten : (wide : Bool) (s : List ℕ) (x : Fault) (at : ℕ) → (word_of Level wide s).answer ≡ Wrong x at → fault_number x ≡ 10 → ⊥
+pub level_ten : (wide : Bool) (s : List ℕ) (x : Fault) (at : ℕ) → judged_in (word_of Level wide s) ≡ judged_wrong x at → fault_number x ≡ 10 → ⊥
 level_ten wide s x at is ten =
     let (informed, angle, out, told) = refused_ten Level wide s x at is ten in
     false≢true (rw angle at informed)
@@ -191,7 +189,7 @@ level_ten wide s x at is ten =
 -- records of the same bytes are the same
 pub one_record : (f : Family) (wide : Bool) (v w : Word) → is_right f wide v ≡ true → is_right f wide w ≡ true → bytes_of f wide v ≡ bytes_of f wide w → v ≡ w
 one_record f wide v w ev ew e =
-    ap (λ (o : OneWord). o.word) (sym (write_read f wide v [] ev) ∙ ap (λ b. word_of f wide (b ++ [])) e ∙ write_read f wide w [] ew)
+    ap word_in (sym (write_read f wide v [] ev) ∙ ap (λ b. word_of f wide (b ++ [])) e ∙ write_read f wide w [] ew)
 
 -- the value's sign, and the one of a pair's mm
 abbrev pub signs : Word → ℕ × ℕ

@@ -5,6 +5,7 @@ use mathlib.Core.Bool.{Bool, true, false, cond}
 use mathlib.Core.List.{List}
 use native.Mathlib.Omega.{arith}
 use lib.Dec.{eqb, leb}
+use Rattle.std.specs.Prelude.{Ok, Err}
 use lib.ListN.{length, get_or, drop, length-take}
 use Rattle.figures.specs.Decimal.{is_digit, are_digits}
 use Rattle.figures.proofs.Tests.{clash}
@@ -12,28 +13,35 @@ use Rattle.units.specs.Kinds.{first_other, listed_by}
 use Rattle.units.specs.Information.{all_right, sign_right}
 use Rattle.units.proofs.Positions.{first_most}
 use Rattle.words.specs.Records.{width}
-use Rattle.words.specs.Reading.{fault_number, word_size, pos, kind_at, data_in, marks_in, data_tests, data_at, data_right, value_in, is_counted, unless, word_of}
+use Rattle.words.specs.Reading.{OneWord, Judged, judged_in, judged_wrong, fault_number, word_size, pos, kind_at, data_in, marks_in, data_tests, data_at, data_right, value_in, is_counted, unless, word_of}
 use Rattle.units.specs.declared.kinds.Family.{Family}
 use Rattle.words.specs.declared.reading.Fault.{Fault}
 use Rattle.words.specs.declared.reading.Fault.TheVariants.{Short, Index, Unlisted, Information, Sign, Characters, Separator, Value}
-use Rattle.words.specs.declared.reading.Judged.TheVariants.{Wrong}
-use Rattle.words.specs.declared.reading.OneWord.{OneWord}
 use Rattle.words.proofs.Letters.{passing_most}
 use Rattle.words.proofs.Checks.{width_bounds}
 
+-- what an answer tells
+abbrev pub fault_in : Judged → Fault
+fault_in (Ok u) = Short
+fault_in (Err e) = e.fault
+
+abbrev pub told_at : Judged → ℕ
+told_at (Ok u) = 0
+told_at (Err e) = e.at
+
 -- the answer tells a place below n, if any
 abbrev Within : ℕ → OneWord → Type 0
-Within n o = (x : Fault) (at : ℕ) → o.answer ≡ Wrong x at → at < n
+Within n o = (x : Fault) (at : ℕ) → judged_in o ≡ judged_wrong x at → at < n
 
 keep : (n : ℕ) (b : Bool) (x : Fault) (at : ℕ) (r : OneWord) → at < n → Within n r → Within n (unless b x at r)
 keep n true x at r h w = w
-keep n false x at r h w = λ y p e. let same : at ≡ p = cc in omega arith
+keep n false x at r h w = λ y p e. let same : at ≡ p = ap told_at e in omega arith
 
 -- a refusal is by a later rule where an earlier one has another number
-pub past : (x : Fault) (at : ℕ) (b : Bool) (y : Fault) (p : ℕ) (r : OneWord) → (fault_number y ≡ fault_number x → ⊥) → (unless b y p r).answer ≡ Wrong x at
-    → (b ≡ true) × (r.answer ≡ Wrong x at)
+pub past : (x : Fault) (at : ℕ) (b : Bool) (y : Fault) (p : ℕ) (r : OneWord) → (fault_number y ≡ fault_number x → ⊥) → judged_in (unless b y p r) ≡ judged_wrong x at
+    → (b ≡ true) × (judged_in r ≡ judged_wrong x at)
 past x at true y p r other e = (refl, e)
-past x at false y p r other e = let same : y ≡ x = cc in absurd (other (ap fault_number same))
+past x at false y p r other e = let same : y ≡ x = ap fault_in e in absurd (other (ap fault_number same))
 
 other_small : (t : ℕ) → first_other t ≤ 1
 other_small t = go (is_digit t)
@@ -42,7 +50,7 @@ other_small t = go (is_digit t)
     go true = omega arith
     go false = omega arith
 
-pub told_within : (f : Family) (wide : Bool) (s : List ℕ) (x : Fault) (at : ℕ) → (word_of f wide s).answer ≡ Wrong x at → at < word_size wide
+pub told_within : (f : Family) (wide : Bool) (s : List ℕ) (x : Fault) (at : ℕ) → judged_in (word_of f wide s) ≡ judged_wrong x at → at < word_size wide
 told_within f wide s =
     let n = word_size wide in
     let least = width_bounds wide in

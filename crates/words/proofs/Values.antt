@@ -8,6 +8,7 @@ use native.Mathlib.Nat.{lt_of_lt_of_le, pow-le-pow_right}
 use native.Mathlib.Omega.{arith}
 use borrow.Author.Tests.{leb-true, le-leb, ltb-true, lt-ltb}
 use lib.Dec.{eqb, leb, ltb}
+use Rattle.std.specs.Prelude.{Option, Some}
 use Rattle.units.specs.Counts.{whole, degrees, minutes, seconds, tenths_of, sexagesimal, counted, gon_at, degree_at, tenth_at, mil_at, gon_limit, degree_limit, mil_limit, tenth_limit}
 use Rattle.units.specs.Counts.{angle_at, angle_of, length_of, constant_of, value_at, first_of, figures_of}
 use Rattle.words.specs.Records.{width, record_of, unit_in, count_by, whole_right, count_right}
@@ -19,8 +20,6 @@ use Rattle.units.specs.declared.counts.Count.{Count}
 use Rattle.units.specs.declared.counts.Count.TheVariants.{Gon, Degree, Tenth, Mil, Metre, Feet, Inch, Ppm}
 use Rattle.units.specs.declared.counts.Figures.{Figures}
 use Rattle.units.specs.declared.counts.Figures.TheVariants as figures
-use Rattle.units.specs.declared.counts.Valued.{Valued}
-use Rattle.units.specs.declared.counts.Valued.TheVariants.{Counted}
 use Rattle.words.specs.declared.records.Word.{Word}
 use Rattle.words.proofs.Checks.{width_bounds}
 use Rattle.figures.proofs.Tests.{both}
@@ -46,7 +45,7 @@ whole_right_lem m n limit s b = rw (le-leb m 1 s, lt-ltb n limit b)
 
 -- the counts of one unit: `at` from a sign and digits, `of` from a whole number
 abbrev pub Both : Type 1
-Both = (ℕ → ℕ → Valued) → (Whole → Count) → Type 0
+Both = (ℕ → ℕ → Option Count) → (Whole → Count) → Type 0
 
 pub by_unit : (P : Both) → P gon_at (λ x. Gon (record { 0 = x })) → P degree_at (λ x. Degree (record { 0 = x })) → P tenth_at (λ x. Tenth (record { 0 = x }))
     → P mil_at (λ x. Mil (record { 0 = x })) → (u : ℕ) → P (angle_at u) (angle_of u)
@@ -178,12 +177,12 @@ value_told wide i u m a b e t (of_pair {p} {s = r} {q} hp hr hq) s =
 -- from a count to its figures
 
 -- x is right as a count of one unit, and its digits are below 10 ^ width
-record Number (wide : Bool) (at : ℕ → ℕ → Valued) (of : Whole → Count) (x : Whole) : Type 0 where
+record Number (wide : Bool) (at : ℕ → ℕ → Option Count) (of : Whole → Count) (x : Whole) : Type 0 where
   digits : ℕ
   says : figures_of (of x) ≡ figures.Number digits
   below : digits < 10 ^ width wide
   small : x.minus ≤ 1
-  value : at x.minus digits ≡ Counted (of x)
+  value : at x.minus digits ≡ Some (of x)
 
 -- eight digits always fit
 eight_fit : (wide : Bool) (n : ℕ) → n < 10 ^ 8 → n < 10 ^ width wide
@@ -194,7 +193,7 @@ plain_sound : (wide : Bool) (limit : ℕ) (of : Whole → Count) (x : Whole) →
 plain_sound wide limit of x p e = sound_of x.minus x.size limit (sym p.right ∙ e)
 
 plain_number : (wide : Bool) (of : Whole → Count) (x : Whole) → Plain wide (10 ^ width wide) of x → count_right wide (of x) ≡ true
-    → Number wide (λ m n. Counted (of (whole m n))) of x
+    → Number wide (λ m n. Some (of (whole m n))) of x
 plain_number wide of x p e =
     let r = plain_sound wide (10 ^ width wide) of x p e in
     record { digits = x.size; says = p.says; below = r.below; small = r.small; value = refl }
@@ -234,7 +233,7 @@ angle_number wide x =
 
 -- c's figures fit a word of that kind, its sign is one of that kind, and the two count c
 abbrev pub Counting : Bool → Kind → Word → Count → Type 0
-Counting wide k w c = Fit (width wide) k (figures_of c) × SignFor k w.minus × (value_at k w.index (unit_in w) w.minus (figures_of c) ≡ Counted c)
+Counting wide k w c = Fit (width wide) k (figures_of c) × SignFor k w.minus × (value_at k w.index (unit_in w) w.minus (figures_of c) ≡ Some c)
 
 pub value_on : (wide : Bool) (k : Kind) (w : Word) → count_right wide (count_by k w) ≡ true → (first_of (count_by k w)).minus ≡ w.minus
     → Counting wide k w (count_by k w)

@@ -1,5 +1,5 @@
 -- How the code keeps what the other files define: the answers of the checks on data and separator.
-use Rattle.std.specs.Prelude.{ℕ, ◌+◌, Bool, cond, ◌&&◌, List, [], ◌∷◌, eqb, leb, length, get_or}
+use Rattle.std.specs.Prelude.{ℕ, ◌+◌, Bool, cond, ◌&&◌, List, [], ◌∷◌, eqb, leb, length, get_or, Option, Some, None}
 use Rattle.figures.specs.Text.{byte}
 use Rattle.figures.specs.Bytes.{every}
 use Rattle.figures.specs.Decimal.{is_digit, number_of}
@@ -9,35 +9,31 @@ use Rattle.words.specs.Records.{width, record_of, is_graphic}
 use Rattle.units.specs.declared.kinds.Family.{Family}
 use Rattle.units.specs.declared.kinds.Kind.{Kind}
 use Rattle.units.specs.declared.kinds.Kind.TheVariants as kind
+use Rattle.units.specs.declared.counts.Figures.{Figures}
 use Rattle.units.specs.declared.counts.Figures.TheVariants as figures
-use Rattle.words.specs.declared.reading.Spelled.{Spelled}
-use Rattle.words.specs.declared.reading.Spelled.TheVariants as spelled
-use Rattle.words.specs.declared.reading.Parted.{Parted}
-use Rattle.words.specs.declared.reading.Parted.TheVariants as parted
 use Rattle.words.specs.declared.reading.Fault.TheVariants.{Information, Sign, Characters, Separator, Value}
-use Rattle.words.specs.declared.reading.OneWord.{OneWord}
-use Rattle.words.specs.Reading.{pos, data_in, data_right, data_at, figures_in, text_field, is_counted, count_or, right_word, unless}
+use Rattle.words.specs.Reading.{OneWord, pos, data_in, data_right, data_at, figures_in, text_field, is_counted, count_or, right_word, unless}
 
 -- the answers of the checks on data and separator
-abbrev pub digits_at : List ℕ → Spelled
-digits_at d = cond (leb (length d) 16 && every is_digit d) (spelled.Says (figures.Number (number_of d))) spelled.Not
+abbrev pub digits_at : List ℕ → Option Figures
+digits_at d = cond (leb (length d) 16 && every is_digit d) (Some (figures.Number (number_of d))) None
 
-abbrev pub pair_at : List ℕ → Spelled
+abbrev pub pair_at : List ℕ → Option Figures
 pair_at d =
-    cond (leb 4 (length d) && leb (length d) 20 && data_right kind.Pair d) (spelled.Says (figures_in kind.Pair d)) spelled.Not
+    cond (leb 4 (length d) && leb (length d) 20 && data_right kind.Pair d) (Some (figures_in kind.Pair d)) None
 
 -- `spelled_by`, in proofs/Checks.antt, shows that this is `data_right` of a word's data
-abbrev pub spelled_at : Kind → List ℕ → Spelled
-spelled_at kind.Missing d = spelled.Not
-spelled_at kind.Numbered d = cond (every is_graphic d) (spelled.Says figures.Text) spelled.Not
-spelled_at kind.Text d = cond (every is_graphic d) (spelled.Says figures.Text) spelled.Not
+abbrev pub spelled_at : Kind → List ℕ → Option Figures
+spelled_at kind.Missing d = None
+spelled_at kind.Numbered d = cond (every is_graphic d) (Some figures.Text) None
+spelled_at kind.Text d = cond (every is_graphic d) (Some figures.Text) None
 spelled_at kind.Angle d = digits_at d
 spelled_at kind.Length d = digits_at d
 spelled_at kind.Constant d = digits_at d
 spelled_at kind.Pair d = pair_at d
 
-abbrev pub parted_at : ℕ → Parted
-parted_at b = cond (eqb b (byte " ")) parted.Blank parted.Not
+abbrev pub parted_at : ℕ → Bool
+parted_at b = eqb b (byte " ")
 
 -- what is left of `word_of` where positions 1-7 are right, by what they say: index, kind, information, unit, sign; then data and separator. `listed_word`,
 -- below, goes on with it

@@ -1,6 +1,6 @@
 -- One word: "positions 1-2 index; 3-6 information; 7 sign; 8-15 (or 8-23) data; one blank, also after the last word." The family says what
 -- positions 1-6 may be.
-use Rattle.std.specs.Prelude.{ℕ, suc, ◌+◌, ◌-◌, Bool, true, false, cond, List, [], ◌∷◌, ◌++◌, eqb, leb, length, get_or, take, drop, replicate}
+use Rattle.std.specs.Prelude.{ℕ, suc, ◌+◌, ◌-◌, Bool, true, false, cond, List, [], ◌∷◌, ◌++◌, eqb, leb, length, get_or, take, drop, replicate, Option, Some, None, Result, Ok, Err}
 use Rattle.figures.specs.Text.{byte}
 use Rattle.figures.specs.Bytes.{laid}
 use Rattle.figures.specs.Decimal.{is_digit, number_of, are_digits}
@@ -16,24 +16,23 @@ use Rattle.units.specs.declared.counts.Count.{Count}
 use Rattle.units.specs.declared.counts.Count.TheVariants as count
 use Rattle.units.specs.declared.counts.Figures.{Figures}
 use Rattle.units.specs.declared.counts.Figures.TheVariants as figures
-use Rattle.units.specs.declared.counts.Valued.{Valued}
-use Rattle.units.specs.declared.counts.Valued.TheVariants as valued
+use Rattle.units.specs.declared.kinds.Unindexed.{Unindexed}
+use Rattle.units.specs.declared.kinds.Unindexed.TheVariants.{Other, Unlisted}
 use Rattle.words.specs.declared.records.Word.{Word}
 use Rattle.words.specs.declared.reading.Fault.{Fault}
-use Rattle.words.specs.declared.reading.Fault.TheVariants.{Short, Index, Unlisted, Information, Sign, Characters, Separator, Value}
-use Rattle.words.specs.declared.reading.Judged.TheVariants.{Right, Wrong}
-use Rattle.words.specs.declared.reading.OneWord.{OneWord}
+use Rattle.words.specs.declared.reading.Fault.TheVariants as fault
+use Rattle.words.specs.declared.reading.Wrong.{Wrong}
 
 -- "Refusing a block or a list": the numbers that one word's bytes can bring
 abbrev pub fault_number : Fault → ℕ
-fault_number Short = 2
-fault_number Index = 5
-fault_number Unlisted = 15
-fault_number Information = 6
-fault_number Sign = 7
-fault_number Characters = 8
-fault_number Separator = 9
-fault_number Value = 10
+fault_number fault.Short = 2
+fault_number fault.Index = 5
+fault_number fault.Unlisted = 15
+fault_number fault.Information = 6
+fault_number fault.Sign = 7
+fault_number fault.Characters = 8
+fault_number fault.Separator = 9
+fault_number fault.Value = 10
 
 -- "A word with its blank takes 16 or 24 bytes."
 abbrev pub word_size : Bool → ℕ
@@ -110,25 +109,56 @@ abbrev pub text_field : Kind → List ℕ → List ℕ
 text_field k d = cond (is_textual k) (laid d (replicate 16 0)) (replicate 16 0)
 
 -- the count of a word whose positions 1-7 and data are right, or that it is refused by 10
-abbrev pub value_in : Family → Bool → List ℕ → Valued
+abbrev pub value_in : Family → Bool → List ℕ → Option Count
 value_in f wide s = value_at (kind_at f s) (index_in f s) (pos 6 s) (sign_of (pos 7 s)) (figures_in (kind_at f s) (data_in wide s))
 
-abbrev pub is_counted : Valued → Bool
-is_counted valued.Not = false
-is_counted (valued.Counted c) = true
+abbrev pub is_counted : Option Count → Bool
+is_counted None = false
+is_counted (Some c) = true
 
-abbrev pub count_or : Valued → Count
-count_or valued.Not = count.Nothing
-count_or (valued.Counted c) = c
+abbrev pub count_or : Option Count → Count
+count_or None = count.Nothing
+count_or (Some c) = c
 
 abbrev pub record_in : Family → Bool → List ℕ → Word
 record_in f wide s = record_of (index_in f s) (info_in f s) (count_or (value_in f wide s)) (text_field (kind_at f s) (data_in wide s))
 
+-- a word's record, or why it is refused and the byte of it that is told, from 0
+abbrev pub OneWord : Type 0
+OneWord = Result Word Wrong
+
+abbrev pub wrong_at : Fault → ℕ → Wrong
+wrong_at x at = record { fault = x; at = at }
+
+-- the same without the record
+abbrev pub Judged : Type 0
+Judged = Result (Unit {0}) Wrong
+
+abbrev pub judged_right : Judged
+judged_right = Ok tt
+
+abbrev pub judged_wrong : Fault → ℕ → Judged
+judged_wrong x at = Err (wrong_at x at)
+
+abbrev pub judged_in : OneWord → Judged
+judged_in (Ok w) = judged_right
+judged_in (Err e) = Err e
+
+-- the record, blank where the word is refused
+abbrev pub word_in : OneWord → Word
+word_in (Ok w) = w
+word_in (Err e) = blank
+
 abbrev pub faulty : Fault → ℕ → OneWord
-faulty x at = record { answer = Wrong x at; word = blank }
+faulty x at = Err (wrong_at x at)
 
 abbrev pub right_word : Word → OneWord
-right_word w = record { answer = Right; word = w }
+right_word w = Ok w
+
+-- positions 1-3 that are no index: 5 where a byte is no digit, and 15 at the start of the word where the family doesn't have it
+abbrev pub wrong_index : Unindexed → Wrong
+wrong_index (Other at) = wrong_at fault.Index at
+wrong_index Unlisted = wrong_at fault.Unlisted 0
 
 -- the first rule that fails gives its fault, and tells a byte of the word, from 0
 abbrev pub unless : Bool → Fault → ℕ → OneWord → OneWord
@@ -138,12 +168,12 @@ unless holds x at r = cond holds r (faulty x at)
 -- the word" (request 104). `first_breaks`, of crate damage, shows that it is the first
 abbrev pub word_of : Family → Bool → List ℕ → OneWord
 word_of f wide s =
-    unless (leb (word_size wide) (length s)) Short 0
-    (unless (are_digits (pos 1 s) (pos 2 s)) Index (first_other (pos 1 s))
-    (unless (listed_by f (pos 1 s) (pos 2 s) (pos 3 s)) Unlisted 0
-    (unless (all_right (marks_in f s)) Information (2 + first_wrong (marks_in f s))
-    (unless (sign_right (kind_at f s) (pos 7 s)) Sign 6
-    (unless (data_right (kind_at f s) (data_in wide s)) Characters (7 + data_at (kind_at f s) (data_in wide s))
-    (unless (eqb (get_or s (7 + width wide) 0) (byte " ")) Separator (7 + width wide)
-    (unless (is_counted (value_in f wide s)) Value 7
+    unless (leb (word_size wide) (length s)) fault.Short 0
+    (unless (are_digits (pos 1 s) (pos 2 s)) fault.Index (first_other (pos 1 s))
+    (unless (listed_by f (pos 1 s) (pos 2 s) (pos 3 s)) fault.Unlisted 0
+    (unless (all_right (marks_in f s)) fault.Information (2 + first_wrong (marks_in f s))
+    (unless (sign_right (kind_at f s) (pos 7 s)) fault.Sign 6
+    (unless (data_right (kind_at f s) (data_in wide s)) fault.Characters (7 + data_at (kind_at f s) (data_in wide s))
+    (unless (eqb (get_or s (7 + width wide) 0) (byte " ")) fault.Separator (7 + width wide)
+    (unless (is_counted (value_in f wide s)) fault.Value 7
     (right_word (record_in f wide s)))))))))

@@ -1,17 +1,17 @@
 // One word read by value from the start of a part of the input. The positions are judged left to right, and the first that is wrong
 // refuses the word.
-ghost use Rattle.std.specs.Prelude.{◌≡◌, ◌≤◌, length};
+ghost use Rattle.std.specs.Prelude.{◌≡◌, ◌≤◌, length, get_or};
 ghost use Rattle.words.specs.Records.{width};
-ghost use Rattle.words.specs.Reading.{fault_number, faulty, word_size, data_at, text_field, word_of};
+ghost use Rattle.words.specs.Reading.{fault_number, word_size, data_at, text_field, wrong_at, wrong_index, word_of};
 ghost use Rattle.words.specs.Keeping.{digits_at, pair_at, spelled_at, parted_at, data_word, listed_word};
 
-use crate::records::{Word, blank_word, record_of};
-use units::counts::{Figures, Valued, value_at};
-use units::information::{Informed, Signed, info_at, informed_by, lead_of, sign_at};
-use units::kinds::{Family, Indexed, Kind, index_at, textual};
+use crate::records::{Word, record_of};
+use units::counts::{Figures, value_at};
+use units::information::{info_at, info_right, lead_of, sign_at};
+use units::kinds::{Family, Kind, Unindexed, index_at, textual};
 
 // Why a word is refused.
-#[derive(Clone, Copy)]
+#[derive(Clone, Copy, PartialEq, Eq)]
 pub enum Fault {
     Short,
     Index,
@@ -23,31 +23,30 @@ pub enum Fault {
     Value,
 }
 
-// Wrong tells the byte of the word, from 0.
-#[derive(Clone, Copy)]
-pub enum Judged {
-    Right,
-    Wrong(Fault, usize),
+// Why a word is refused, and the byte of the word that is told, from 0.
+#[derive(Clone, Copy, PartialEq, Eq)]
+pub struct Wrong {
+    pub fault: Fault,
+    pub at: usize,
 }
 
-// The answer, and the record: blank where the word is refused.
-#[derive(Clone, Copy)]
-pub struct OneWord {
-    pub answer: Judged,
-    pub word: Word,
+impl Wrong {
+    pub fn new(fault: Fault, at: usize) -> Wrong
+        ensures { result ≡ wrong_at fault at }
+    {
+        Wrong { fault, at }
+    }
 }
 
-// What the data say, or that a character of them is wrong.
-#[derive(Clone, Copy)]
-pub enum Spelled {
-    Not,
-    Says(Figures),
-}
+impl From<Unindexed> for Wrong {
+    ghost from_gives = { λ u w. w ≡ wrong_index u };
 
-#[derive(Clone, Copy)]
-pub enum Parted {
-    Not,
-    Blank,
+    fn from(u: Unindexed) -> Wrong {
+        match u {
+            Unindexed::Other(at) => Wrong::new(Fault::Index, at),
+            Unindexed::Unlisted => Wrong::new(Fault::Unlisted, 0),
+        }
+    }
 }
 
 // Gives the number that the rules have for a fault.
@@ -73,109 +72,74 @@ pub fn width_of(wide: bool) -> usize
     if wide { 16 } else { 8 }
 }
 
-fn wrong(fault: Fault, at: usize) -> OneWord
-    ensures { result ≡ faulty fault at }
-{
-    let answer = Judged::Wrong(fault, at);
-    let word = blank_word();
-    OneWord {
-        answer: answer,
-        word: word,
-    }
-}
-
-fn digits_at(s: &[u8]) -> Spelled
+fn digits_at(s: &[u8]) -> Option<Figures>
     ensures { result ≡ digits_at s.now }
 {
-    let figures::Said::Number(n) = figures::number(s) else {
-        return Spelled::Not;
-    };
-    let says = Figures::Number(n);
-    Spelled::Says(says)
+    Some(Figures::Number(figures::number(s)?))
 }
 
 // Reads a pair: digits, a sign, three digits.
-fn pair_at(s: &[u8]) -> Spelled
+#[tactic(auto, using(crate::proofs::Checks::pair_read, crate::proofs::Checks::mm_part))]
+fn pair_at(s: &[u8]) -> Option<Figures>
     requires { 4 ≤ length s.now }
     ensures { result ≡ pair_at s.now }
 {
     let at = s.len() - 4;
-    let figures::Said::Number(ppm) = figures::number(&s[0..at]) else {
-        return Spelled::Not;
-    };
-    let Signed::Sign(under) = sign_at(Kind::Pair, s[at]) else {
-        return Spelled::Not;
-    };
-    let from = at + 1;
-    let figures::Said::Number(mm) = figures::number(&s[from..]) else {
-        return Spelled::Not;
-    };
-    let says = Figures::Pair(ppm, under, mm);
-    Spelled::Says(says)
+    let ppm = figures::number(&s[..at])?;
+    let under = sign_at(Kind::Pair, s[at])?;
+    let mm = figures::number(&s[at + 1..])?;
+    Some(Figures::Pair(ppm, under, mm))
 }
 
-// Reads the data of a word of that kind.
-fn spelled_at(kind: Kind, s: &[u8]) -> Spelled
+// Reads the data of a word of that kind; None where a character of them is wrong.
+fn spelled_at(kind: Kind, s: &[u8]) -> Option<Figures>
     requires { 4 ≤ length s.now }
     ensures { result ≡ spelled_at kind s.now }
 {
     match kind {
-        Kind::Missing => Spelled::Not,
+        Kind::Missing => None,
+        Kind::Numbered | Kind::Text => figures::all_within(s, 33, 126).then_some(Figures::Text),
+        Kind::Angle | Kind::Length | Kind::Constant => digits_at(s),
         Kind::Pair => pair_at(s),
-        Kind::Angle => digits_at(s),
-        Kind::Length => digits_at(s),
-        Kind::Constant => digits_at(s),
-        _ => {
-            if !figures::all_within(s, 33, 126) {
-                return Spelled::Not;
-            }
-            let says = Figures::Text;
-            Spelled::Says(says)
-        }
     }
 }
 
 // Finds the first byte of a pair's data that is wrong.
+#[tactic(auto, using(crate::proofs::Checks::pair_told, crate::proofs::Checks::mm_part, crate::proofs::Letters::passing_most))]
 fn pair_wrong(s: &[u8]) -> usize
     requires { 4 ≤ length s.now }
     ensures { (result ≡ data_at Kind.Pair s.now) × (result ≤ length s.now) }
 {
     let at = s.len() - 4;
-    let ppm = figures::run_within(&s[0..at], b'0', b'9');
+    let ppm = figures::run_within(&s[..at], b'0', b'9');
     if ppm < at {
         return ppm;
     }
-    let Signed::Sign(_) = sign_at(Kind::Pair, s[at]) else {
+    if sign_at(Kind::Pair, s[at]).is_none() {
         return at;
-    };
-    let from = at + 1;
-    from + figures::run_within(&s[from..], b'0', b'9')
+    }
+    at + 1 + figures::run_within(&s[at + 1..], b'0', b'9')
 }
 
 // Finds the first wrong byte in the data of a word of that kind.
+#[tactic(auto, using(crate::proofs::Letters::passing_one))]
 fn data_wrong(kind: Kind, s: &[u8]) -> usize
     requires { 4 ≤ length s.now }
     ensures { (result ≡ data_at kind s.now) × (result ≤ length s.now) }
 {
     match kind {
         Kind::Missing => 0,
+        Kind::Numbered | Kind::Text => figures::run_within(s, 33, 126),
+        Kind::Angle | Kind::Length | Kind::Constant => figures::run_within(s, b'0', b'9'),
         Kind::Pair => pair_wrong(s),
-        Kind::Angle => figures::run_within(s, b'0', b'9'),
-        Kind::Length => figures::run_within(s, b'0', b'9'),
-        Kind::Constant => figures::run_within(s, b'0', b'9'),
-        _ => figures::run_within(s, 33, 126),
     }
 }
 
-// Judges the byte after a word's data.
-pub fn parted_at(b: u8) -> Parted
+// Tells whether the byte parts a word from what follows.
+pub fn parted_at(b: u8) -> bool
     ensures { result ≡ parted_at b }
 {
-    if b == b' ' {
-        Parted::Blank
-    } else {
-        Parted::Not
-    }
+    b == b' '
 }
 
 // Gives the text of a word of that kind, from the start of 16 bytes.
@@ -194,70 +158,44 @@ fn read_data(
     index: u16,
     kind: Kind,
     info: [u8; 4],
-    unit: u8,
     minus: u8,
     s: &[u8],
     last: u8,
-) -> OneWord
+) -> Result<Word, Wrong>
     requires { (4 ≤ length s.now) × (length s.now ≤ 16) }
-    ensures { result ≡ data_word index kind info unit minus s.now last }
+    ensures { result ≡ data_word index kind info (get_or info 3 0) minus s.now last }
 {
-    let Spelled::Says(says) = spelled_at(kind, s) else {
-        return wrong(Fault::Characters, 7 + data_wrong(kind, s));
+    let Some(says) = spelled_at(kind, s) else {
+        return Err(Wrong::new(Fault::Characters, 7 + data_wrong(kind, s)));
     };
-    let Parted::Blank = parted_at(last) else {
-        return wrong(Fault::Separator, 7 + s.len());
-    };
-    let Valued::Counted(count) = value_at(kind, index, unit, minus, says) else {
-        return wrong(Fault::Value, 7);
-    };
-    let text = text_of(kind, s);
-    let word = record_of(index, info, count, text);
-    let answer = Judged::Right;
-    OneWord {
-        answer: answer,
-        word: word,
+    if !parted_at(last) {
+        return Err(Wrong::new(Fault::Separator, 7 + s.len()));
     }
+    let count = value_at(kind, index, info[3], minus, says).ok_or(Wrong::new(Fault::Value, 7))?;
+    Ok(record_of(index, info, count, text_of(kind, s)))
 }
 
 // Reads the rest of a word whose positions 1-3 are an index of that kind: its information and its sign, and what follows.
-fn read_listed(s: &[u8], family: Family, wide: bool, index: u16, kind: Kind) -> OneWord
+fn read_listed(s: &[u8], family: Family, wide: bool, index: u16, kind: Kind) -> Result<Word, Wrong>
     requires { word_size wide ≤ length s.now }
     ensures { result ≡ listed_word family wide index kind s.now }
 {
-    let lead = lead_of(index, s[2]);
-    let mark = s[3];
-    let mode = s[4];
-    let unit = s[5];
-    let Informed::Right = informed_by(family, index, kind, lead, mark, mode, unit) else {
-        let first = info_at(family, index, kind, lead, mark, mode, unit);
-        return wrong(Fault::Information, 2 + first);
-    };
-    let Signed::Sign(minus) = sign_at(kind, s[6]) else {
-        return wrong(Fault::Sign, 6);
-    };
+    let info = [lead_of(index, s[2]), s[3], s[4], s[5]];
+    if !info_right(family, index, kind, info) {
+        return Err(Wrong::new(Fault::Information, 2 + info_at(family, index, kind, info)));
+    }
+    let minus = sign_at(kind, s[6]).ok_or(Wrong::new(Fault::Sign, 6))?;
     let end = 7 + width_of(wide);
-    read_data(
-        index,
-        kind,
-        [lead, mark, mode, unit],
-        unit,
-        minus,
-        &s[7..end],
-        s[end],
-    )
+    read_data(index, kind, info, minus, &s[7..end], s[end])
 }
 
 // Reads the word of the family that stands at the start of s; it is Short where s has fewer bytes than a word of the width.
-pub fn read_word(s: &[u8], family: Family, wide: bool) -> OneWord
+pub fn read_word(s: &[u8], family: Family, wide: bool) -> Result<Word, Wrong>
     ensures { result ≡ word_of family wide s.now }
 {
     if s.len() <= 7 + width_of(wide) {
-        return wrong(Fault::Short, 0);
+        return Err(Wrong::new(Fault::Short, 0));
     }
-    match index_at(family, s[0], s[1], s[2]) {
-        Indexed::Other(at) => wrong(Fault::Index, at),
-        Indexed::Unlisted => wrong(Fault::Unlisted, 0),
-        Indexed::Listed(index, kind) => read_listed(s, family, wide, index, kind),
-    }
+    let (index, kind) = index_at(family, s[0], s[1], s[2])?;
+    read_listed(s, family, wide, index, kind)
 }

@@ -1,6 +1,7 @@
 // The record that a word gives, as a host in C lends it, and the count that a record holds.
 ghost use Rattle.std.specs.Prelude.{◌≡◌};
-ghost use Rattle.words.specs.Records.{blank, record_of, count_by, count_of, ten_to, whole_right, limit_of, count_right, text_right, same_whole, is_right, typed_of};
+ghost use Rattle.units.specs.Counts.{whole};
+ghost use Rattle.words.specs.Records.{blank, record_of, count_by, count_of, ten_to, whole_right, limit_of, count_right, text_right, is_right, typed_of};
 
 use units::counts::{
     Count, DEGREE_LIMIT, GON_LIMIT, MIL_LIMIT, TENTH_LIMIT, Whole, angle_of, constant_of, first_of,
@@ -23,20 +24,40 @@ pub struct Word {
     pub text: [u8; 16],
 }
 
+impl Word {
+    // Gives the number of a word, or the ppm of a pair.
+    fn value(self) -> Whole
+        ensures { result ≡ whole self.minus self.size }
+    {
+        Whole {
+            minus: self.minus,
+            size: self.size,
+        }
+    }
+
+    // Gives the mm of a pair.
+    fn under(self) -> Whole
+        ensures { result ≡ whole self.mmminus self.mm }
+    {
+        Whole {
+            minus: self.mmminus,
+            size: self.mm,
+        }
+    }
+}
+
 // Gives the record that holds nothing.
 pub fn blank_word() -> Word
     ensures { result ≡ blank }
 {
-    let info = [0; 4];
-    let text = [0; 16];
     Word {
         index: 0,
-        info: info,
+        info: [0; 4],
         minus: 0,
         mmminus: 0,
         size: 0,
         mm: 0,
-        text: text,
+        text: [0; 16],
     }
 }
 
@@ -47,74 +68,54 @@ pub fn record_of(index: u16, info: [u8; 4], count: Count, text: [u8; 16]) -> Wor
     let first = first_of(count);
     let second = second_of(count);
     Word {
-        index: index,
-        info: info,
+        index,
+        info,
         minus: first.minus,
         mmminus: second.minus,
         size: first.size,
         mm: second.size,
-        text: text,
+        text,
     }
 }
 
 // Gives what a record of that kind counts, by its unit.
-pub(crate) fn count_by(w: Word, kind: Kind) -> Count
+fn count_by(w: Word, kind: Kind) -> Count
     ensures { result ≡ count_by kind w }
 {
-    let info = w.info;
-    let unit = info[3];
-    let whole = Whole {
-        minus: w.minus,
-        size: w.size,
-    };
+    let unit = w.info[3];
     match kind {
         Kind::Missing => Count::Nothing,
-        Kind::Numbered => Count::Text,
-        Kind::Text => Count::Text,
-        Kind::Angle => angle_of(unit, whole),
-        Kind::Length => length_of(unit, whole),
-        Kind::Constant => constant_of(w.index, whole),
-        Kind::Pair => {
-            let mm = Whole {
-                minus: w.mmminus,
-                size: w.mm,
-            };
-            Count::Pair(whole, mm)
-        }
+        Kind::Numbered | Kind::Text => Count::Text,
+        Kind::Angle => angle_of(unit, w.value()),
+        Kind::Length => length_of(unit, w.value()),
+        Kind::Constant => constant_of(w.index, w.value()),
+        Kind::Pair => Count::Pair(w.value(), w.under()),
     }
 }
 
 // Gives the count that a record says.
-pub(crate) fn count_of(w: Word, family: Family) -> Count
+fn count_of(w: Word, family: Family) -> Count
     ensures { result ≡ count_of family w }
 {
-    let kind = kind_of(family, w.index);
-    count_by(w, kind)
+    count_by(w, kind_of(family, w.index))
 }
 
 // Gives the first number that has more digits than a word of the width, or than the ppm of its pair.
 fn ten_to(wide: bool, pair: bool) -> u64
     ensures { result ≡ ten_to wide pair }
 {
-    if pair {
-        if wide {
-            return 1_000_000_000_000;
-        }
-        return 10_000;
+    match (pair, wide) {
+        (true, true) => 1_000_000_000_000,
+        (true, false) => 10_000,
+        (false, true) => 10_000_000_000_000_000,
+        (false, false) => 100_000_000,
     }
-    if wide {
-        return 10_000_000_000_000_000;
-    }
-    100_000_000
 }
 
 fn whole_right(whole: Whole, limit: u64) -> bool
     ensures { result ≡ whole_right whole limit }
 {
-    if 1 < whole.minus {
-        return false;
-    }
-    whole.size < limit
+    whole.minus <= 1 && whole.size < limit
 }
 
 // Gives the first number that a count of one number doesn't reach.
@@ -137,39 +138,23 @@ fn count_right(count: Count, wide: bool) -> bool
     match count {
         Count::Nothing => false,
         Count::Text => true,
-        Count::Pair(ppm, mm) => {
-            if !whole_right(ppm, ten_to(wide, true)) {
-                return false;
-            }
-            whole_right(mm, 1_000)
-        }
+        Count::Pair(ppm, mm) => whole_right(ppm, ten_to(wide, true)) && whole_right(mm, 1_000),
         _ => whole_right(first_of(count), limit_of(count, wide)),
     }
 }
 
 // Tells whether a word of that kind and width can have the text.
+#[tactic(auto, using(crate::proofs::Checks::wide_text))]
 fn text_right(kind: Kind, text: [u8; 16], wide: bool) -> bool
     ensures { result ≡ text_right wide kind text }
 {
     if !textual(kind) {
         return figures::all_within(&text, 0, 0);
     }
-    if !figures::all_within(&text[0..8], 33, 126) {
-        return false;
-    }
     if wide {
-        return figures::all_within(&text[8..16], 33, 126);
+        return figures::all_within(&text, 33, 126);
     }
-    figures::all_within(&text[8..16], 0, 0)
-}
-
-fn same_whole(w: Whole, minus: u8, size: u64) -> bool
-    ensures { result ≡ same_whole w minus size }
-{
-    if w.minus == minus {
-        return w.size == size;
-    }
-    false
+    figures::all_within(&text[..8], 33, 126) && figures::all_within(&text[8..], 0, 0)
 }
 
 // Tells whether some word of the family and width gives the record.
@@ -177,33 +162,21 @@ pub fn right(w: Word, family: Family, wide: bool) -> bool
     ensures { result ≡ is_right family wide w }
 {
     let kind = kind_of(family, w.index);
-    let info = w.info;
-    let text = w.text;
-    if !info_right(family, w.index, kind, info[0], info[1], info[2], info[3]) {
-        return false;
-    }
     let count = count_by(w, kind);
-    if !count_right(count, wide) {
-        return false;
-    }
-    if !same_whole(first_of(count), w.minus, w.size) {
-        return false;
-    }
-    if !same_whole(second_of(count), w.mmminus, w.mm) {
-        return false;
-    }
-    text_right(kind, text, wide)
+    info_right(family, w.index, kind, w.info)
+        && count_right(count, wide)
+        && first_of(count) == w.value()
+        && second_of(count) == w.under()
+        && text_right(kind, w.text, wide)
 }
 
 // Gives the typed count of a record; Nothing where no word of the family gives the record, of either width.
 pub fn count(w: Word, family: Family) -> Count
     ensures { result ≡ typed_of family w }
 {
-    if right(w, family, false) {
-        return count_of(w, family);
+    if right(w, family, false) || right(w, family, true) {
+        count_of(w, family)
+    } else {
+        Count::Nothing
     }
-    if right(w, family, true) {
-        return count_of(w, family);
-    }
-    Count::Nothing
 }
