@@ -8,13 +8,13 @@ use borrow.Author.Tests.{eqb-true, eqb-false, lt-ltb}
 use lib.Dec.{eqb}
 use lib.ListN.{length, take, drop, length-append, length-drop}
 use lib.Seq.{take-add, drop-drop, length-take-le, take-append_seam, drop-append_seam}
+use Rattle.std.specs.Prelude.{Ok, Err}
 use Rattle.figures.specs.Bytes.{laid}
-use Rattle.words.specs.Reading.{word_size, word_of, right_word}
+use Rattle.words.specs.Reading.{word_size, word_of, right_word, Judged, judged_right, judged_in, word_in}
 use Rattle.words.specs.Writing.{bytes_of}
 use Rattle.units.specs.declared.kinds.Family.{Family}
 use Rattle.words.specs.declared.records.Word.{Word}
 use Rattle.words.specs.declared.reading.Fault.TheVariants.{Short}
-use Rattle.words.specs.declared.reading.Judged as one
 use Rattle.words.proofs.RoundTrip.{read_write}
 use Rattle.blocks.specs.Judging.{Judgement, is_at, is_wide, first_at, refused_by, ended_at, after_word, block_from, judged}
 use Rattle.blocks.specs.Composing.{words_bytes, block_bytes, written}
@@ -22,10 +22,8 @@ use Rattle.figures.specs.Text.{end_bytes, star_bytes}
 use Rattle.blocks.specs.declared.answers.Refusal.{Refusal}
 use Rattle.blocks.specs.declared.answers.Refusal.TheVariants.{Empty, Wrong, NoWord, NoEnd, NoPlace}
 use Rattle.blocks.specs.declared.answers.Reading.{Reading}
-use Rattle.blocks.specs.declared.answers.Answer.TheVariants.{Refused, Read}
-use Rattle.blocks.specs.declared.answers.Wrote.TheVariants.{Written}
 use Rattle.blocks.specs.Rules.{right_all, Lawful, read_as}
-use Rattle.blocks.proofs.Steps.{cond_by, start_by, start_small}
+use Rattle.blocks.proofs.Steps.{cond_by, start_by, start_small, right_is}
 use Rattle.blocks.proofs.Written.{lawful_written}
 
 pub record Accepted (f : Family) (s : List ℕ) (places : ℕ) (r : Reading) (ws : List Word) : Type 0 where
@@ -41,7 +39,7 @@ pub record Accepted (f : Family) (s : List ℕ) (places : ℕ) (r : Reading) (ws
 
 never : (f : Refusal) (r : Reading) (ws : List Word) → refused_by f ≡ read_as r ws → ⊥
 never f r ws e =
-    let q : Refused f ≡ Read r = ap (λ (j : Judgement). j.answer) e in
+    let q : Err f ≡ Ok r = ap (λ (j : Judgement). j.answer) e in
     let z : ◌≡◌ {A = ℕ} 0 1 = cc in
     omega arith
 
@@ -49,9 +47,9 @@ past : (b : Bool) (f : Refusal) (j : Judgement) (r : Reading) (ws : List Word) �
 past true f j r ws e = absurd (never f r ws e)
 past false f j r ws e = (refl, e)
 
-past_word : (a : one.Judged) (at : ℕ) (j : Judgement) (r : Reading) (ws : List Word) → after_word at a j ≡ read_as r ws → (a ≡ one.Judged.Right) × (j ≡ read_as r ws)
-past_word one.Judged.Right at j r ws e = (refl, e)
-past_word (one.Judged.Wrong f byte) at j r ws e = absurd (never (Wrong f (at + byte)) r ws e)
+past_word : (a : Judged) (at : ℕ) (j : Judgement) (r : Reading) (ws : List Word) → after_word at a j ≡ read_as r ws → (a ≡ judged_right) × (j ≡ read_as r ws)
+past_word (Ok u) at j r ws e = (refl, e)
+past_word (Err x) at j r ws e = absurd (never (Wrong x.fault (at + x.at)) r ws e)
 
 at_is : (b : ℕ) (rest : List ℕ) → is_at b rest ≡ true → rest ≡ b ∷ drop 1 rest
 at_is b [] e = absurd (false≢true e)
@@ -108,7 +106,7 @@ end_on f more wide places at rest done lf cr is =
 ended_on : (f : Family) (more : ℕ) (wide : Bool) (places at : ℕ) (rest : List ℕ) (done : List Word) (r : Reading) (ws : List Word) → is_at 13 rest ≡ true
     → record { answer = ended_at wide at rest (length done); words = done } ≡ read_as r ws → On f more wide places at rest done r ws
 ended_on f more wide places at rest done r ws cr e =
-    let a : ended_at wide at rest (length done) ≡ Read r = ap (λ (j : Judgement). j.answer) e in
+    let a : ended_at wide at rest (length done) ≡ Ok r = ap (λ (j : Judgement). j.answer) e in
     let is : record { wide = wide; crlf = is_at 10 (drop 1 rest); words = length done; used = cond (is_at 10 (drop 1 rest)) (at + 2) (at + 1) } ≡ r = cc in
     subst₂ (On f more wide places at rest done) is (ap (λ (j : Judgement). j.words) e) (end_on f more wide places at rest done (is_at 10 (drop 1 rest)) cr refl)
 
@@ -147,9 +145,9 @@ from_on f (suc more) wide places at rest done r ws =
     start_by (λ (j : Judgement). j ≡ read_as r ws → On f (suc more) wide places at rest done r ws) false (word_size wide) places (length done) at rest
     refused_by _ _ (ended_on f (suc more) wide places at rest done r ws) (λ e. absurd (never (NoEnd at) r ws e))
     (λ _ _ e. absurd (never (Wrong Short at) r ws e)) (λ e. absurd (never (NoPlace at) r ws e)) (λ _ _ long free e.
-    let (right, on) = past_word o.answer at _ r ws e in
-    step_on f more wide places at rest done r ws o.word long free (λ i. record { answer = right i; word = o.word })
-    (from_on f more wide places (at + word_size wide) (drop (word_size wide) rest) (done ++ (o.word ∷ [])) r ws on))
+    let (right, on) = past_word (judged_in o) at _ r ws e in
+    step_on f more wide places at rest done r ws (word_in o) long free (right_is o right)
+    (from_on f more wide places (at + word_size wide) (drop (word_size wide) rest) (done ++ (word_in o ∷ [])) r ws on))
 
 star_is : (s : List ℕ) (wide : Bool) → eqb (length s) 0 ≡ false → is_wide s ≡ wide → star_bytes wide ≡ take (first_at wide) s
 star_is [] wide e h = absurd (false≢true (sym e))
@@ -183,7 +181,7 @@ accepted f s places r ws e =
 
 pub accepted_written : (f : Family) (s : List ℕ) (places : ℕ) (r : Reading) (ws : List Word) (room : List ℕ) → judged f s places ≡ read_as r ws
     → r.used ≤ length room
-    → written f ws r.wide r.crlf room ≡ record { answer = Written r.used; room = laid (take r.used s) room }
+    → written f ws r.wide r.crlf room ≡ record { answer = Ok r.used; room = laid (take r.used s) room }
 accepted_written f s places r ws room e fits =
     let a = accepted f s places r ws e in
     let size = length-take-le r.used s a.within in

@@ -6,10 +6,10 @@ use Prim.Native.Nat.{ℕ, zero, suc, ◌+◌, ◌*◌, ◌≤◌, zero-le}
 use native.Mathlib.Omega.{arith}
 use lib.Dec.{eqb}
 use lib.ListN.{length, drop, length-append}
-use Rattle.words.specs.Reading.{word_size, word_of}
+use Rattle.std.specs.Prelude.{Ok, Err}
+use Rattle.words.specs.Reading.{word_size, word_of, Judged, judged_wrong, judged_in, word_in}
 use Rattle.units.specs.declared.kinds.Family.{Family}
 use Rattle.words.specs.declared.records.Word.{Word}
-use Rattle.words.specs.declared.reading.Judged as one
 use Rattle.words.specs.declared.reading.Fault.{Fault}
 use Rattle.words.specs.declared.reading.Fault.TheVariants.{Short}
 use Rattle.words.proofs.Told.{told_within}
@@ -34,9 +34,9 @@ size_le false = omega arith
 module _ (f : Family) (places : ℕ) (P : Judgement → Type 0) (refuses : (r : Refusal) → refusal_tells r ≤ 769 → P (refused_by r))
     (ends : (wide : Bool) (at : ℕ) (rest : List ℕ) (ws : List Word) → at ≤ 769 → Few (length ws) places
     → P (record { answer = ended_at wide at rest (length ws); words = ws })) where
-  after_by : (at : ℕ) (a : one.Judged) (j : Judgement) → ((x : Fault) (byte : ℕ) → a ≡ one.Judged.Wrong x byte → at + byte ≤ 769) → P j → P (after_word at a j)
-  after_by at one.Judged.Right j h p = p
-  after_by at (one.Judged.Wrong fault byte) j h p = refuses (Wrong fault (at + byte)) (h fault byte refl)
+  after_by : (at : ℕ) (a : Judged) (j : Judgement) → ((x : Fault) (byte : ℕ) → a ≡ judged_wrong x byte → at + byte ≤ 769) → P j → P (after_word at a j)
+  after_by at (Ok u) j h p = p
+  after_by at (Err e) j h p = refuses (Wrong e.fault (at + e.at)) (h e.fault e.at refl)
 
   from_by : (more : ℕ) (wide : Bool) (at : ℕ) (rest : List ℕ) (ws : List Word) → at + more * 24 ≤ 769 → length ws + more ≤ 32 → length ws ≤ places
       → P (block_from f more wide places at rest ws)
@@ -45,11 +45,11 @@ module _ (f : Family) (places : ℕ) (P : Judgement → Type 0) (refuses : (r : 
   from_by (suc more) wide at rest ws a h k =
       start_by P false (word_size wide) places (length ws) at rest refused_by _ _ (λ _. ends wide at rest ws (omega arith) (omega arith, k)) (refuses (NoEnd at) (omega arith))
       (λ _ _. refuses (Wrong Short at) (omega arith)) (refuses (NoPlace at) (omega arith)) (λ _ _ _ free.
-      let w = (word_of f wide rest).word in
+      let w = word_in (word_of f wide rest) in
       let next = at + word_size wide in
       let later = drop (word_size wide) rest in
       let one_more : length (ws ++ (w ∷ [])) ≡ length ws + 1 = length-append ws (w ∷ []) in
-      after_by at (word_of f wide rest).answer (block_from f more wide places next later (ws ++ (w ∷ [])))
+      after_by at (judged_in (word_of f wide rest)) (block_from f more wide places next later (ws ++ (w ∷ [])))
       (λ x byte told. omega (arith, told_within f wide rest x byte told, size_le wide))
       (from_by more wide next later (ws ++ (w ∷ [])) (omega (arith, size_le wide)) (omega arith) (omega arith)))
 

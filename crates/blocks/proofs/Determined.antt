@@ -9,12 +9,10 @@ use Rattle.figures.proofs.Determined.{by_equation, by_two}
 use Rattle.units.specs.declared.kinds.Family.{Family}
 use Rattle.words.specs.declared.records.Word.{Word}
 use Rattle.blocks.specs.Answers.{refusal_number, refusal_tells}
-use Rattle.blocks.specs.Judging.{first_at, judged, filled}
-use Rattle.blocks.specs.Composing.{written, Writes}
+use Rattle.blocks.specs.Judging.{first_at, judged, filled, Answer}
+use Rattle.blocks.specs.Composing.{written, Writes, Wrote}
 use Rattle.blocks.specs.Lists.{Reads}
 use Rattle.blocks.specs.declared.answers.Refusal.{Refusal}
-use Rattle.blocks.specs.declared.answers.Answer.{Answer}
-use Rattle.blocks.specs.declared.answers.Wrote.{Wrote}
 
 pub refusal_number_determined : Determined Refusal ℕ (λ i r. r ≡ refusal_number i)
 refusal_number_determined = by_equation Refusal ℕ refusal_number

@@ -6,12 +6,12 @@ use mathlib.Core.List.{List, [], ◌++◌, append-nil}
 use mathlib.Core.Logic.{◌↔◌}
 use lib.ListN.{length, take, drop, take-append-drop}
 use lib.Seq.{drop_at}
+use Rattle.std.specs.Prelude.{Ok}
 use Rattle.units.specs.declared.kinds.Family.{Family}
 use Rattle.words.specs.declared.records.Word.{Word}
 use Rattle.blocks.specs.Judging.{Judgement, is_at, judged}
 use Rattle.blocks.specs.Composing.{block_bytes}
 use Rattle.blocks.specs.declared.answers.Reading.{Reading}
-use Rattle.blocks.specs.declared.answers.Answer.TheVariants.{Read}
 use Rattle.blocks.specs.Rules.{Lawful, Ruled, read_as, reading_of}
 use Rattle.blocks.proofs.Accepted.{accepted}
 use Rattle.blocks.proofs.Written.{block_read}
@@ -28,7 +28,7 @@ ruled_read f s places wide crlf ws rest h placed = ap (λ t. judged f t places) 
 
 -- the answer is a reading
 abbrev pub IsRead : (f : Family) → List ℕ → ℕ → Type 0
-IsRead f s places = (r : Reading) × ((judged f s places).answer ≡ Read r)
+IsRead f s places = (r : Reading) × ((judged f s places).answer ≡ Ok r)
 
 -- the rules hold, and the words fit
 abbrev pub IsRuled : (f : Family) → List ℕ → ℕ → Type 0
@@ -49,7 +49,7 @@ pub one_reading : (f : Family) (s : List ℕ) (wide crlf wide' crlf' : Bool) (ws
 one_reading f s wide crlf wide' crlf' ws ws' rest rest' h h' =
     let e : read_as (reading_of f wide crlf ws) ws ≡ read_as (reading_of f wide' crlf' ws') ws' =
     sym (ruled_read f s 32 wide crlf ws rest h h.lawful.most) ∙ ruled_read f s 32 wide' crlf' ws' rest' h' h'.lawful.most in
-    let answers : Read (reading_of f wide crlf ws) ≡ Read (reading_of f wide' crlf' ws') = ap (λ (j : Judgement). j.answer) e in
+    let answers : Ok (reading_of f wide crlf ws) ≡ Ok (reading_of f wide' crlf' ws') = ap (λ (j : Judgement). j.answer) e in
     let same : reading_of f wide crlf ws ≡ reading_of f wide' crlf' ws' = cc in
     let used : length (block_bytes f wide crlf ws) ≡ length (block_bytes f wide' crlf' ws') = ap (λ (r : Reading). r.used) same in (
       ap (λ (r : Reading). r.wide) same,
@@ -69,7 +69,7 @@ lists_apart f wide crlf wide' crlf' ws ws' h h' apart e =
     apart (one_reading f (block_bytes f wide crlf ws) wide crlf wide' crlf' ws ws' [] [] (alone wide crlf ws h) (rw e (alone wide' crlf' ws' h'))).2
 
 -- "Bytes after the terminator aren't looked at."
-pub reading_looks_no_further : (f : Family) (s : List ℕ) (places : ℕ) (r : Reading) (more : List ℕ) → (judged f s places).answer ≡ Read r
+pub reading_looks_no_further : (f : Family) (s : List ℕ) (places : ℕ) (r : Reading) (more : List ℕ) → (judged f s places).answer ≡ Ok r
     → (r.crlf ≡ false → is_at 10 more ≡ false) → judged f (take r.used s ++ more) places ≡ judged f s places
 reading_looks_no_further f s places r more e h =
     let ws = (judged f s places).words in

@@ -1,7 +1,7 @@
--- The data of a word as parts of eight bytes: what every byte of them is, and the number that they say.
+-- The data of a word: what every byte of them is, by parts of eight bytes or, of a pair, by its parts, and the number that they say.
 use Prim.Native.Nat.{ℕ, zero, suc, ◌+◌, ◌-◌, ◌*◌, ◌^◌, ◌≤◌, ◌<◌}
 use mathlib.Core.Path.{◌≡◌, refl, sym, ap, ◌∙◌}
-use mathlib.Core.Bool.{Bool, true, false, ◌&&◌, and-eq-true_iff}
+use mathlib.Core.Bool.{Bool, true, false, cond, ◌&&◌, and-true, and-eq-true_iff}
 use mathlib.Core.List.{List, [], ◌∷◌, ◌++◌}
 use native.Mathlib.Nat.{pow-succ', add-mul, mul_assoc}
 use native.Mathlib.Omega.{arith}
@@ -12,7 +12,20 @@ use Rattle.figures.specs.Bytes.{every}
 use Rattle.figures.specs.Decimal.{is_digit, number_from, number_of}
 use Rattle.figures.proofs.Bytes.{within_bounds, every_append, length_mid}
 use Rattle.figures.proofs.Tests.{and_on, and_off}
-use Rattle.words.specs.Reading.{word_size, data_in}
+use Rattle.std.specs.Prelude.{Option, Some, None, is_some, Ok, Err, is_ok}
+use Rattle.units.specs.Counts.{value_at}
+use Rattle.units.specs.Information.{is_sign, sign_of, sign_right, sign_at, info_right, lead_of}
+use Rattle.units.specs.Kinds.{Indexed, index_at}
+use Rattle.units.specs.declared.kinds.Family.{Family}
+use Rattle.units.specs.declared.kinds.Kind.{Kind}
+use Rattle.units.specs.declared.kinds.Kind.TheVariants as kind
+use Rattle.words.specs.Keeping.{parted_at, listed_word}
+use Rattle.words.specs.Reading.{OneWord, word_size, pos, data_in, data_right, ppm_in, under_in, mm_in, figures_in, is_counted, right_word, word_of}
+use Rattle.words.specs.Records.{width}
+use Rattle.words.specs.declared.reading.Wrong.{Wrong}
+use Rattle.words.specs.declared.records.Word.{Word}
+use Rattle.words.proofs.Checks.{or_wrong, word_read}
+use Rattle.words.proofs.Letters.{pair_right}
 
 every_at : (p : ℕ → Bool) (s : List ℕ) (i : ℕ) → every p s ≡ true → i < length s → p (get_or s i 0) ≡ true
 unfolding every
@@ -52,6 +65,66 @@ module _ (p : ℕ → Bool) where
 
   pub second_by : (s : List ℕ) → every p (mid_of 7 8 s) ≡ true → every p (mid_of 15 8 s) ≡ every p (data_in true s)
   second_by s e = sym (every_wide s ∙ and_on e)
+
+-- what the check of a sign says of it
+pub sign_some : (k : Kind) (b : ℕ) {r : Option ℕ} → r ≡ sign_at k b → is_some r ≡ sign_right k b
+sign_some k b e = rw e (go (sign_right k b))
+  where
+    go : (q : Bool) → is_some (cond q (Some (sign_of b)) None) ≡ q
+    go true = refl
+    go false = refl
+
+-- a pair's data, check by check
+pub pair_checked : (d : List ℕ) → 4 ≤ length d → data_right kind.Pair d
+    ≡ cond (every is_digit (ppm_in d)) (cond (is_some (sign_at kind.Pair (under_in d))) (every is_digit (mm_in d)) false) false
+pair_checked d h = pair_right d h ∙ rw signed (go (every is_digit (ppm_in d)) (is_sign (under_in d)))
+  where
+    signed : is_some (sign_at kind.Pair (under_in d)) ≡ is_sign (under_in d)
+    signed = sign_some kind.Pair (under_in d) refl ∙ rw and-true
+
+    go : (p q : Bool) → p && (q && every is_digit (mm_in d)) ≡ cond p (cond q (every is_digit (mm_in d)) false) false
+    go true true = refl
+    go true false = refl
+    go false q = refl
+
+-- a word of its width, check by check
+
+fit_all : (x y z w u : Wrong) (r : Word) (m g d p v : Bool)
+    → is_ok (cond m (cond g (cond d (cond p (cond v (right_word r) (Err u)) (Err w)) (Err z)) (Err y)) (Err x))
+    ≡ cond m (cond g (cond d (cond p v false) false) false) false
+fit_all x y z w u r true true true true true = refl
+fit_all x y z w u r true true true true false = refl
+fit_all x y z w u r true true true false v = refl
+fit_all x y z w u r true true false p v = refl
+fit_all x y z w u r true false d p v = refl
+fit_all x y z w u r false g d p v = refl
+
+abbrev pub on_index : Indexed → (ℕ → Kind → Bool) → Bool
+on_index (Ok p) fit = fit p.0 p.1
+on_index (Err u) fit = false
+
+module _ (f : Family) (wide : Bool) (s : List ℕ) where
+  abbrev pub listed_fit : ℕ → Kind → Bool
+  listed_fit i k =
+      cond (info_right f i k (lead_of i (pos 3 s)) (pos 4 s) (pos 5 s) (pos 6 s))
+      (cond (is_some (sign_at k (pos 7 s)))
+      (cond (data_right k (data_in wide s))
+      (cond (parted_at (get_or s (7 + width wide) 0)) (is_counted (value_at k i (pos 6 s) (sign_of (pos 7 s)) (figures_in k (data_in wide s)))) false)
+      false)
+      false)
+      false
+
+  word_fit : (a : Indexed) → is_ok (or_wrong a (λ p. listed_word f wide p.0 p.1 s)) ≡ on_index a listed_fit
+  word_fit (Err u) = refl
+  word_fit (Ok p) =
+      let k = p.1 in
+      let d = data_in wide s in
+      rw (sign_some k (pos 7 s) refl)
+      (fit_all _ _ _ _ _ _ (info_right f p.0 k (lead_of p.0 (pos 3 s)) (pos 4 s) (pos 5 s) (pos 6 s)) (sign_right k (pos 7 s)) (data_right k d)
+      (parted_at (get_or s (7 + width wide) 0)) (is_counted (value_at k p.0 (pos 6 s) (sign_of (pos 7 s)) (figures_in k d))))
+
+  pub word_checked : 7 + width wide < length s → is_ok (word_of f wide s) ≡ on_index (index_at f (pos 1 s) (pos 2 s) (pos 3 s)) listed_fit
+  word_checked h = ap (λ (o : OneWord). is_ok o) (word_read f wide s h) ∙ word_fit (index_at f (pos 1 s) (pos 2 s) (pos 3 s))
 
 -- a number, and the digits of another after it
 number_on : (n : ℕ) (a b : List ℕ) → number_from n (a ++ b) ≡ number_from (number_from n a) b

@@ -1,4 +1,3 @@
-pub mod Row
 pub mod Counts
 pub mod Written
 pub mod Accepted

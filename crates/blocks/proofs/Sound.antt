@@ -1,15 +1,12 @@
--- What the two loops that write a lent list know after i turns: how many of the records so far are right at its start, and what stands in the room.
+-- What the loop that puts a list's words knows after i turns: what stands in the room.
 use Prim.Native.Nat.{ℕ, zero, suc, ◌+◌, ◌*◌, ◌<◌, ◌≤◌}
 use mathlib.Core.Path.{◌≡◌, refl, sym, ap, ◌∙◌}
-use mathlib.Core.Bool.{Bool, true, false, cond, and-eq-true_iff}
+use mathlib.Core.Bool.{Bool, true, and-eq-true_iff}
 use mathlib.Core.List.{List, [], ◌∷◌, ◌++◌, append_assoc}
 use native.Mathlib.Nat.{le_refl, le_of_suc-le-suc, not-suc-le-zero, suc-mul, mul-le-mul}
-use native.Mathlib.Numerals.{add-one}
 use native.Mathlib.Omega.{arith}
-use borrow.Author.Tests.{ltb-false}
-use lib.Dec.{ltb, eqb, eqb-suc-suc, eqb-zero-suc}
 use lib.ListN.{length, get_or, take, drop, length-append, length-drop, take-append-drop}
-use lib.Seq.{take-suc, length-take-le, take_at, drop_at, drop-drop, take-nil}
+use lib.Seq.{length-take-le, take_at, drop_at, drop-drop, take-nil}
 use Rattle.figures.specs.Bytes.{laid}
 use Rattle.figures.specs.Text.{star_bytes}
 use Rattle.figures.proofs.Bytes.{laid_fits, length_laid}
@@ -22,51 +19,10 @@ use Rattle.words.proofs.RoundTrip.{bytes_length}
 use Rattle.blocks.specs.Judging.{first_at}
 use Rattle.blocks.specs.Rules.{right_all, word_start}
 use Rattle.blocks.specs.Composing.{words_bytes}
-use Rattle.blocks.specs.Keeping.{few_of, sound_by, right_run, laid_at, PutsFit}
-use Rattle.blocks.proofs.Counts.{Few}
+use Rattle.blocks.specs.Keeping.{laid_at, PutsFit}
 use Rattle.blocks.proofs.Rooms.{put_next, words_length}
 
--- the records that are looked at
-
-pub few_looked : (n : ℕ) → Few (few_of n) n
-few_looked n = by (ltb 32 n) refl
-  where
-    by : (many : Bool) → ltb 32 n ≡ many → Few (cond many 0 n) n
-    by true e = (omega arith, omega arith)
-    by false e = (ltb-false 32 n e, le_refl n)
-
 module _ (f : Family) (wide : Bool) where
-  sound_suc : (r n : ℕ) (w : Word) → suc (sound_by f wide r n w) ≡ sound_by f wide (suc r) (suc n) w
-  sound_suc r n w = rw (eqb-suc-suc r n) (by (eqb r n) (is_right f wide w))
-    where
-      by : (here right : Bool) → suc (cond here (cond right (n + 1) r) r) ≡ cond here (cond right (suc n + 1) (suc r)) (suc r)
-      by true true = omega arith
-      by true false = refl
-      by false right = refl
-
-  run_snoc : (ws : List Word) (w : Word) → right_run f wide (ws ++ (w ∷ [])) ≡ sound_by f wide (right_run f wide ws) (length ws) w
-  unfolding right_run
-  run_snoc [] w = refl
-  run_snoc (v ∷ ws) w = by (is_right f wide v) (run_snoc ws w)
-    where
-      by : (right : Bool) → right_run f wide (ws ++ (w ∷ [])) ≡ sound_by f wide (right_run f wide ws) (length ws) w
-          → cond right (suc (right_run f wide (ws ++ (w ∷ [])))) 0 ≡ sound_by f wide (cond right (suc (right_run f wide ws)) 0) (suc (length ws)) w
-      by true e = ap suc e ∙ sound_suc (right_run f wide ws) (length ws) w
-      by false e = rw (eqb-zero-suc (length ws))
-
-  -- one more turn
-  pub sound_more : (ws : List Word) (i : ℕ) (d : Word) → i < length ws
-      → sound_by f wide (right_run f wide (take i ws)) i (get_or ws i d) ≡ right_run f wide (take (i + 1) ws)
-  sound_more ws i d h =
-      let r = right_run f wide (take i ws) in
-      let w = get_or ws i d in
-      sym (ap (right_run f wide) (rw (add-one i) (take-suc ws i d h)) ∙ (run_snoc (take i ws) w
-      ∙ ap (λ (j : ℕ). sound_by f wide r j w) (length-take-le i ws (omega arith))))
-
-  pub sound_none : right_run f wide [] ≡ 0
-  unfolding right_run
-  sound_none = refl
-
   -- the words so far
 
   words_next : (ws : List Word) (i : ℕ) (d : Word) → i < length ws
@@ -79,22 +35,19 @@ module _ (f : Family) (wide : Bool) where
       sym (drop_at star (words_bytes f wide (take (i + 1) ws)) size refl)
       ∙ (ap (drop size) (put_next f wide ws i d h ∙ append_assoc star so_far word) ∙ drop_at star (so_far ++ word) size refl)
 
-  right_part : (ws : List Word) (i n : ℕ) → i ≤ n → right_all f wide (take n ws) ≡ true → right_all f wide (take i ws) ≡ true
+  right_part : (ws : List Word) (i : ℕ) → right_all f wide ws ≡ true → right_all f wide (take i ws) ≡ true
   unfolding right_all
-  right_part [] i n h e = rw take-nil
-  right_part (w ∷ ws) zero n h e = refl
-  right_part (w ∷ ws) (suc i) zero h e = absurd (not-suc-le-zero h)
-  right_part (w ∷ ws) (suc i) (suc n) h e =
-      let parts = (and-eq-true_iff (is_right f wide w) (right_all f wide (take n ws))).0 e in
-      rw parts.0 (right_part ws i n (le_of_suc-le-suc h) parts.1)
+  right_part [] i e = rw take-nil
+  right_part (w ∷ ws) zero e = refl
+  right_part (w ∷ ws) (suc i) e =
+      let parts = (and-eq-true_iff (is_right f wide w) (right_all f wide ws)).0 e in
+      rw parts.0 (right_part ws i parts.1)
 
-  right_at : (ws : List Word) (i n : ℕ) (d : Word) → i < n → i < length ws → right_all f wide (take n ws) ≡ true → is_right f wide (get_or ws i d) ≡ true
+  right_at : (ws : List Word) (i : ℕ) (d : Word) → i < length ws → right_all f wide ws ≡ true → is_right f wide (get_or ws i d) ≡ true
   unfolding right_all
-  right_at [] i n d h l e = absurd (not-suc-le-zero l)
-  right_at (w ∷ ws) i zero d h l e = absurd (not-suc-le-zero h)
-  right_at (w ∷ ws) zero (suc n) d h l e = ((and-eq-true_iff (is_right f wide w) (right_all f wide (take n ws))).0 e).0
-  right_at (w ∷ ws) (suc i) (suc n) d h l e =
-      right_at ws i n d (le_of_suc-le-suc h) (le_of_suc-le-suc l) ((and-eq-true_iff (is_right f wide w) (right_all f wide (take n ws))).0 e).1
+  right_at [] i d h e = absurd (not-suc-le-zero h)
+  right_at (w ∷ ws) zero d h e = ((and-eq-true_iff (is_right f wide w) (right_all f wide ws)).0 e).0
+  right_at (w ∷ ws) (suc i) d h e = right_at ws i d (le_of_suc-le-suc h) ((and-eq-true_iff (is_right f wide w) (right_all f wide ws)).0 e).1
 
 -- bytes laid from a place on
 
@@ -126,32 +79,26 @@ laid_further a xs ys room h =
     rw (first, take_at (head ++ xs) more (a + length xs) start, drop_at (head ++ xs) more (a + length xs) start, laid_fits ys more (omega arith), all)
     (append_assoc head xs (ys ++ last) ∙ ap (λ (r : List ℕ). head ++ r) (sym (append_assoc xs ys last)))
 
--- one more word in the room, where the words of n right records fit
-module _ (f : Family) (wide : Bool) (n : ℕ) (ws : List Word) (room₀ : List ℕ) (ok : PutsFit f wide n ws room₀) where
+-- one more word in the room, where the words of right records fit
+module _ (f : Family) (wide : Bool) (ws : List Word) (room₀ : List ℕ) (ok : PutsFit f wide ws room₀) where
   abbrev size : ℕ
   size = word_size wide
-
-  pub room_so : (i : ℕ) → length (laid_at (first_at wide) (words_bytes f wide (take i ws)) room₀) ≡ length room₀
-  room_so i = length_laid_at (first_at wide) (words_bytes f wide (take i ws)) room₀
 
   pub laid_none : laid_at (first_at wide) (words_bytes f wide (take 0 ws)) room₀ ≡ room₀
   unfolding words_bytes
   laid_none = rw take-nil (take-append-drop (first_at wide) room₀)
 
-  module _ (i : ℕ) (d : Word) (h : i < n) where
-    in_list : i < length ws
-    in_list = omega (arith, h, ok.listed)
-
+  module _ (i : ℕ) (d : Word) (h : i < length ws) where
     pub right_here : is_right f wide (get_or ws i d) ≡ true
-    right_here = right_at f wide ws i n d h in_list ok.right
+    right_here = right_at f wide ws i d h ok.right
 
     words_to : word_start wide i + size ≤ length room₀
     words_to =
-        let most : suc i * size ≤ n * size = mul-le-mul h (le_refl size) in
-        omega (arith, most, suc-mul i size, ok.fits (omega (arith, h)))
+        let most : suc i * size ≤ length ws * size = mul-le-mul h (le_refl size) in
+        omega (arith, most, suc-mul i size, ok.fits)
 
     pub fits_here : word_start wide i + size ≤ length (laid_at (first_at wide) (words_bytes f wide (take i ws)) room₀)
-    fits_here = omega (arith, words_to, room_so i)
+    fits_here = omega (arith, words_to, length_laid_at (first_at wide) (words_bytes f wide (take i ws)) room₀)
 
     pub laid_word : laid_at (word_start wide i) (bytes_of f wide (get_or ws i d)) (laid_at (first_at wide) (words_bytes f wide (take i ws)) room₀)
         ≡ laid_at (first_at wide) (words_bytes f wide (take (i + 1) ws)) room₀
@@ -159,10 +106,10 @@ module _ (f : Family) (wide : Bool) (n : ℕ) (ws : List Word) (room₀ : List �
         let so_far = words_bytes f wide (take i ws) in
         let word = bytes_of f wide (get_or ws i d) in
         let room = laid_at (first_at wide) so_far room₀ in
-        let count = length-take-le i ws (omega (arith, in_list)) in
-        let long : length so_far ≡ i * size = rw count at (words_length f wide (take i ws) (right_part f wide ws i n (omega (arith, h)) ok.right)) in
+        let count = length-take-le i ws (omega arith) in
+        let long : length so_far ≡ i * size = rw count at (words_length f wide (take i ws) (right_part f wide ws i ok.right)) in
         let word_long = bytes_length f wide (get_or ws i d) right_here in
         let there : word_start wide i ≡ first_at wide + length so_far = rw long in
         ap (λ (a : ℕ). laid_at a word room) there
         ∙ (laid_further (first_at wide) so_far word room₀ (omega (arith, long, word_long, words_to))
-        ∙ ap (λ (bytes : List ℕ). laid_at (first_at wide) bytes room₀) (sym (words_next f wide ws i d in_list)))
+        ∙ ap (λ (bytes : List ℕ). laid_at (first_at wide) bytes room₀) (sym (words_next f wide ws i d h)))

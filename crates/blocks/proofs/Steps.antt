@@ -1,30 +1,35 @@
 -- Laws of the walk through a block: whether a byte stands at a place, what one step finds, and what the block is after it.
 use Prim.Native.Nat.{ℕ, zero, suc, ◌+◌, ◌-◌, ◌<◌, ◌≤◌}
+use Rattle.std.specs.Prelude.{Result, Ok, Err}
 use mathlib.Core.Path.{◌≡◌, refl}
 use mathlib.Core.Bool.{Bool, true, false, cond}
 use mathlib.Core.List.{List, [], ◌∷◌, ◌++◌}
 use native.Mathlib.Nat.{add-zero}
 use native.Mathlib.Omega.{arith}
-use borrow.Author.Tests.{lt-ltb, le-ltb, le-leb, lt-leb, ne_eqb, ltb-true, ltb-false, leb-false}
+use borrow.Author.Tests.{lt-ltb, le-ltb, le-leb, lt-leb, ltb-true, ltb-false, leb-false}
 use lib.Dec.{eqb, leb, ltb}
 use lib.ListN.{length, get_or, drop, length-drop, drop_of_length-le}
 use lib.Seq.{get_or-drop, drop-drop}
 use Rattle.words.specs.Records.{width}
-use Rattle.words.specs.Reading.{word_size, word_of}
+use Rattle.words.specs.Reading.{word_size, word_of, Judged, judged_right, judged_in, word_in, OneWord, right_word}
 use Rattle.units.specs.declared.kinds.Family.{Family}
 use Rattle.words.specs.declared.records.Word.{Word}
 use Rattle.words.specs.declared.reading.Fault.TheVariants.{Short}
-use Rattle.words.specs.declared.reading.Judged as one
 use Rattle.blocks.specs.declared.answers.Refusal.{Refusal}
-use Rattle.blocks.specs.declared.answers.Refusal.TheVariants.{Wrong, NoWord, NoEnd, NoPlace}
+use Rattle.blocks.specs.declared.answers.Refusal.TheVariants.{Empty, Wrong, NoWord, NoEnd, NoPlace}
 use Rattle.blocks.specs.declared.judging.Next.{Next}
-use Rattle.blocks.specs.declared.judging.Next.TheVariants.{Ends, Stops, Goes}
+use Rattle.blocks.specs.declared.judging.Next.TheVariants.{Ends, Goes}
 use Rattle.blocks.specs.Judging.{Judgement, is_at, is_wide, first_at, ended_at, refused_by, after_word, at_start, block_from, judged}
-use Rattle.blocks.specs.Keeping.{step_of, next_of}
+use Rattle.blocks.specs.Keeping.{opened, step_of, next_of}
 
 -- no two constructors are equal, so nothing is left to show
 pub apart : {A : Type 0} → ◌≡◌ {A = ℕ} 0 1 → A
 apart z = absurd (omega arith)
+
+-- a right word is its record
+pub right_is : (o : OneWord) → judged_in o ≡ judged_right → o ≡ right_word (word_in o)
+right_is (Ok w) e = refl
+right_is (Err x) e = apart cc
 
 pub width_small : (wide : Bool) → width wide ≤ 16
 width_small true = omega arith
@@ -64,32 +69,32 @@ start_by P full size places n at rest refuse ended word ends no_end short no_pla
 -- what a step finds
 
 module _ (f : Family) (wide : Bool) (places n at : ℕ) (rest : List ℕ) where
-  pub next_ends : is_at 13 rest ≡ true → next_of f wide places n at rest ≡ Ends
+  pub next_ends : is_at 13 rest ≡ true → next_of f wide places n at rest ≡ Ok Ends
   next_ends e = rw e
 
   module _ (e : is_at 13 rest ≡ false) where
-    pub next_word : n < 32 → word_size wide ≤ length rest → n < places → next_of f wide places n at rest ≡ step_of at (word_of f wide rest).answer
+    pub next_word : n < 32 → word_size wide ≤ length rest → n < places → next_of f wide places n at rest ≡ step_of at (judged_in (word_of f wide rest))
     next_word h hl hp = rw (e, lt-leb 32 n h, le-ltb (length rest) (word_size wide) hl, lt-leb places n hp)
 
 -- what the block is after a step
 
-abbrev pub went : Judgement → Judgement → Next → Judgement
-went ended more Ends = ended
-went ended more (Stops r) = refused_by r
-went ended more Goes = more
+abbrev pub went : Judgement → Judgement → Result Next Refusal → Judgement
+went ended more (Ok Ends) = ended
+went ended more (Err r) = refused_by r
+went ended more (Ok Goes) = more
 
-went_last : (t : Bool) (ended more : Judgement) (r : Refusal) → cond t ended (refused_by r) ≡ went ended more (cond t Ends (Stops r))
+went_last : (t : Bool) (ended more : Judgement) (r : Refusal) → cond t ended (refused_by r) ≡ went ended more (cond t (Ok Ends) (Err r))
 went_last true ended more r = refl
 went_last false ended more r = refl
 
-went_more : (t u v : Bool) (ended more : Judgement) (r s : Refusal) (at : ℕ) (a : one.Judged)
+went_more : (t u v : Bool) (ended more : Judgement) (r s : Refusal) (at : ℕ) (a : Judged)
     → cond t ended (cond u (refused_by r) (cond v (refused_by s) (after_word at a more)))
-    ≡ went ended more (cond t Ends (cond u (Stops r) (cond v (Stops s) (step_of at a))))
+    ≡ went ended more (cond t (Ok Ends) (cond u (Err r) (cond v (Err s) (step_of at a))))
 went_more true u v ended more r s at a = refl
 went_more false true v ended more r s at a = refl
 went_more false false true ended more r s at a = refl
-went_more false false false ended more r s at one.Judged.Right = refl
-went_more false false false ended more r s at (one.Judged.Wrong fault byte) = refl
+went_more false false false ended more r s at (Ok u) = refl
+went_more false false false ended more r s at (Err e) = refl
 
 module _ (f : Family) (wide : Bool) (places n at : ℕ) (rest : List ℕ) (ws : List Word) where
   abbrev pub done : Judgement
@@ -97,7 +102,7 @@ module _ (f : Family) (wide : Bool) (places n at : ℕ) (rest : List ℕ) (ws : 
 
   abbrev pub further : Judgement
   further =
-      block_from f (32 - (n + 1)) wide places (at + word_size wide) (drop (word_size wide) rest) (ws ++ ((word_of f wide rest).word ∷ []))
+      block_from f (32 - (n + 1)) wide places (at + word_size wide) (drop (word_size wide) rest) (ws ++ (word_in (word_of f wide rest) ∷ []))
 
   -- the walk's order is the step's
   pub block_walk : n ≤ 32 → length ws ≡ n → block_from f (32 - n) wide places at rest ws ≡ went done further (next_of f wide places n at rest)
@@ -110,33 +115,20 @@ module _ (f : Family) (wide : Bool) (places n at : ℕ) (rest : List ℕ) (ws : 
           let left : 32 - (n + 1) ≡ m = omega arith in
           rw (hn, lt-leb 32 n (omega arith), ← left)
           (went_more (is_at 13 rest) (ltb (length rest) (word_size wide)) (leb places n) done further (Wrong Short at) (NoPlace at) at
-          (word_of f wide rest).answer)
+          (judged_in (word_of f wide rest)))
 
 -- after a word the walk goes on where the word has ended
 pub walk_on : (f : Family) (more at size : ℕ) (wide : Bool) (places : ℕ) (s : List ℕ) (ws : List Word) → size ≡ word_size wide
     → block_from f more wide places (at + word_size wide) (drop (word_size wide) (drop at s)) ws ≡ block_from f more wide places (at + size) (drop (at + size) s) ws
 walk_on f more at size wide places s ws e = rw (e, drop-drop (word_size wide) at s)
 
--- what a step that found the end, or a word, tells of its place
+-- what a step that found a word tells of its place
 
-module _ (f : Family) (wide : Bool) (places n at : ℕ) (s : List ℕ) (r : Next) (found : r ≡ next_of f wide places n at (drop at s)) where
-  abbrev judged_there : one.Judged
-  judged_there = (word_of f wide (drop at s)).answer
-
-  pub ends_inside : r ≡ Ends → at < length s
-  ends_inside e =
-      start_by (λ (t : Next). t ≡ Ends → at < length s) (leb 32 n) (word_size wide) places n at (drop at s) Stops _ _
-      (λ cr _. is_inside 13 s at cr)
-      (λ q. apart cc) (λ _ _ q. apart cc) (λ q. apart cc) (λ _ _ _ _. by judged_there) (rw found at e)
-    where
-      by : (a : one.Judged) → step_of at a ≡ Ends → at < length s
-      by one.Judged.Right q = apart cc
-      by (one.Judged.Wrong fault byte) q = apart cc
-
-  pub goes_inside : at ≤ length s → r ≡ Goes → (n < 32) × (at + word_size wide ≤ length s)
+module _ (f : Family) (wide : Bool) (places n at : ℕ) (s : List ℕ) (r : Result Next Refusal) (found : r ≡ next_of f wide places n at (drop at s)) where
+  pub goes_inside : at ≤ length s → r ≡ Ok Goes → (n < 32) × (at + word_size wide ≤ length s)
   goes_inside h e =
-      start_by (λ (t : Next). t ≡ Goes → (n < 32) × (at + word_size wide ≤ length s)) (leb 32 n) (word_size wide) places n at (drop at s)
-      Stops _ _ (λ _ q. apart cc) (λ q. apart cc) (λ _ _ q. apart cc) (λ q. apart cc)
+      start_by (λ (t : Result Next Refusal). t ≡ Ok Goes → (n < 32) × (at + word_size wide ≤ length s)) (leb 32 n) (word_size wide) places n at (drop at s)
+      Err _ _ (λ _ q. apart cc) (λ q. apart cc) (λ _ _ q. apart cc) (λ q. apart cc)
       (λ _ more long _ _. (leb-false 32 n more, omega (arith, length-drop at s))) (rw found at e)
 
 -- the block's start
@@ -145,10 +137,20 @@ pub start_small : (wide : Bool) → first_at wide ≤ 1
 start_small true = omega arith
 start_small false = omega arith
 
-module _ (f : Family) (s : List ℕ) (places : ℕ) where
-  module _ (start : ℕ) (some : length s ≡ 0 → ⊥) (e : start ≡ first_at (is_wide s)) where
-    pub judged_no_word : is_at 13 (drop start s) ≡ true → judged f s places ≡ refused_by NoWord
-    judged_no_word h = rw (ne_eqb (length s) 0 some, ← e, h)
+abbrev pub on_open : Result Bool Refusal → (Bool → Judgement) → Judgement
+on_open (Ok wide) words = words wide
+on_open (Err r) words = refused_by r
 
-    pub judged_words : is_at 13 (drop start s) ≡ false → judged f s places ≡ block_from f 32 (is_wide s) places start (drop start s) []
-    judged_words h = rw (ne_eqb (length s) 0 some, ← e, h)
+-- a block that opens is its words
+pub judged_open : (f : Family) (s : List ℕ) (places : ℕ) {o : Result Bool Refusal} → o ≡ opened s
+    → judged f s places ≡ on_open o (λ wide. block_from f 32 wide places (first_at wide) (drop (first_at wide) s) [])
+judged_open f s places e =
+    rw e
+    (go (eqb (length s) 0) (is_at 13 (drop (first_at (is_wide s)) s)) (is_wide s)
+    (λ wide. block_from f 32 wide places (first_at wide) (drop (first_at wide) s) []))
+  where
+    go : (a b wide : Bool) (words : Bool → Judgement) → cond a (refused_by Empty) (cond b (refused_by NoWord) (words wide))
+        ≡ on_open (cond a (Err Empty) (cond b (Err NoWord) (Ok wide))) words
+    go true b wide words = refl
+    go false true wide words = refl
+    go false false wide words = refl

@@ -16,11 +16,9 @@ use Rattle.units.specs.declared.kinds.Family.{Family}
 use Rattle.units.specs.declared.kinds.Kind.{Kind}
 use Rattle.units.specs.declared.kinds.Kind.TheVariants.{Missing}
 use Rattle.words.specs.Records.{width}
-use Rattle.words.specs.Reading.{word_size, pos, data_in, kind_at, marks_in, data_right, value_in, is_counted, record_in, unless, word_of}
+use Rattle.words.specs.Reading.{word_size, pos, data_in, kind_at, marks_in, data_right, value_in, is_counted, record_in, unless, word_of, OneWord, judged_right, judged_in, word_in}
 use Rattle.words.specs.declared.reading.Fault.{Fault}
 use Rattle.words.specs.declared.reading.Fault.TheVariants.{Short, Index, Unlisted, Information, Sign, Characters, Separator, Value}
-use Rattle.words.specs.declared.reading.Judged.TheVariants.{Right}
-use Rattle.words.specs.declared.reading.OneWord.{OneWord}
 
 pub record RightWord (f : Family) (wide : Bool) (s : List ℕ) : Type 0 where
   pub long : word_size wide ≤ length s
@@ -31,15 +29,15 @@ pub record RightWord (f : Family) (wide : Bool) (s : List ℕ) : Type 0 where
   pub letters : data_right (kind_at f s) (data_in wide s) ≡ true
   pub end : get_or s (7 + width wide) 0 ≡ byte " "
   pub value : is_counted (value_in f wide s) ≡ true
-  pub word : (word_of f wide s).word ≡ record_in f wide s
+  pub word : word_in (word_of f wide s) ≡ record_in f wide s
 
 -- a rule that a right word keeps
-through : (b : Bool) (x : Fault) (at : ℕ) (r : OneWord) → (unless b x at r).answer ≡ Right
-    → (b ≡ true) × (r.answer ≡ Right) × ((unless b x at r).word ≡ r.word)
+through : (b : Bool) (x : Fault) (at : ℕ) (r : OneWord) → judged_in (unless b x at r) ≡ judged_right
+    → (b ≡ true) × (judged_in r ≡ judged_right) × (word_in (unless b x at r) ≡ word_in r)
 through true x at r e = (refl, e, refl)
 through false x at r e = absurd (clash (cc))
 
-pub right_word : (f : Family) (wide : Bool) (s : List ℕ) → (word_of f wide s).answer ≡ Right → RightWord f wide s
+pub right_word : (f : Family) (wide : Bool) (s : List ℕ) → judged_in (word_of f wide s) ≡ judged_right → RightWord f wide s
 right_word f wide s e =
     let long = through (leb (word_size wide) (length s)) Short _ _ e in
     let digits = through (are_digits (pos 1 s) (pos 2 s)) Index _ _ long.1 in

@@ -12,7 +12,7 @@ use Rattle.words.specs.Records.{blank, is_right, typed_of}
 use Rattle.words.specs.Reading.{word_size, value_in, word_of, right_word}
 use Rattle.words.specs.Writing.{bytes_of}
 use Rattle.units.specs.declared.kinds.Family.{Family}
-use Rattle.units.specs.declared.counts.Valued.TheVariants.{Counted}
+use Rattle.std.specs.Prelude.{Some}
 use Rattle.words.specs.declared.records.Word.{Word}
 use Rattle.words.proofs.RoundTrip.{write_read, bytes_length}
 use Rattle.words.proofs.Typed.{given_typed}
@@ -65,7 +65,7 @@ module _ (f : Family) (s : List ℕ) (places : ℕ) (r : Reading) (ws : List Wor
   pub block_words : (k : ℕ) → k < length ws → word_of f r.wide (drop (word_start r.wide k) s) ≡ right_word (get_or ws k blank)
   block_words k h = ap (word_of f r.wide) (from_start k) ∙ word_at f r.wide ws k rest (read_ruled f s places r ws e).0.lawful.right h
 
-  pub block_typed : (k : ℕ) → k < length ws → value_in f r.wide (drop (word_start r.wide k) s) ≡ Counted (typed_of f (get_or ws k blank))
+  pub block_typed : (k : ℕ) → k < length ws → value_in f r.wide (drop (word_start r.wide k) s) ≡ Some (typed_of f (get_or ws k blank))
   block_typed k h = given_typed f r.wide (drop (word_start r.wide k) s) (get_or ws k blank) (block_words k h)
 
   -- and after the last a CR stands

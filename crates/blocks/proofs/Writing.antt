@@ -1,56 +1,69 @@
 -- Laws of a list on its way into the room: the star, the words and the terminator, laid one after the other, are the block that is written.
-use Prim.Native.Nat.{ℕ, suc, ◌+◌, ◌-◌, ◌<◌, ◌≤◌}
-use mathlib.Core.Path.{◌≡◌, refl, sym, ap, ◌∙◌}
+use Prim.Native.Nat.{ℕ, suc, ◌+◌, ◌-◌, ◌*◌, ◌<◌, ◌≤◌}
+use mathlib.Core.Path.{◌≡◌, refl, sym, ap, subst, ◌∙◌}
 use mathlib.Core.Bool.{Bool, true, false, cond, ◌&&◌, ◌||◌}
 use mathlib.Core.List.{List, [], ◌∷◌, ◌++◌, append_assoc}
 use native.Mathlib.Numerals.{add-one}
+use native.Mathlib.Nat.{mul-le-mul_right}
 use native.Mathlib.Omega.{arith}
 use borrow.Author.Tests.{ltb-true, ltb-false, eqb-false}
 use lib.Dec.{eqb, ltb}
-use lib.ListN.{length, set, take, drop, length-append, length-drop, length-set}
-use lib.Seq.{drop-drop, take-length, set_split}
+use lib.ListN.{length, set, drop, length-append, length-drop, length-set}
+use lib.Seq.{drop-drop, set_split}
+use Rattle.std.specs.Prelude.{Ok, Err, not}
+use Rattle.std.specs.List.{position_or_len}
+use Rattle.std.proofs.lemmas.List.Sums.{prefix_len-le-length}
 use Rattle.figures.specs.Bytes.{laid}
 use Rattle.figures.specs.Text.{star_bytes, end_bytes}
 use Rattle.figures.proofs.Bytes.{laid_fits, length_laid}
+use Rattle.figures.proofs.Tests.{by_test}
 use Rattle.words.specs.Records.{is_right}
+use Rattle.words.specs.Reading.{word_size}
 use Rattle.units.specs.declared.kinds.Family.{Family}
 use Rattle.words.specs.declared.records.Word.{Word}
 use Rattle.blocks.specs.declared.answers.Refusal.{Refusal}
-use Rattle.blocks.specs.declared.answers.Refusal.TheVariants.{Count, Record, Room}
-use Rattle.blocks.specs.declared.answers.Wrote.TheVariants.{Written}
-use Rattle.blocks.specs.declared.lists.Started.{Started}
+use Rattle.blocks.specs.declared.answers.Refusal.TheVariants.{Record}
 use Rattle.blocks.specs.Judging.{first_at}
-use Rattle.blocks.specs.Composing.{words_bytes, block_bytes, unless_wrong, Written·room, refused_room, block_in_room, written, Writes}
+use Rattle.blocks.specs.Composing.{words_bytes, block_bytes, unless_wrong, Wrote, Written·room, refused_room, block_in_room, written, Writes}
 use Rattle.blocks.specs.Rules.{right_all, Lawful}
-use Rattle.blocks.specs.Keeping.{right_run, sound_of, size_of, refused_start, started_of, started_room, laid_at, PutsFit, finished_of}
+use Rattle.blocks.specs.Keeping.{right_run, size_of, judged_list, laid_at, PutsFit, EndsFit, ended_room}
 use Rattle.blocks.proofs.Steps.{cond_by}
 use Rattle.blocks.proofs.Rooms.{star_length, words_length}
 use Rattle.blocks.proofs.Written.{neither, lawful_written}
-use Rattle.blocks.proofs.Sound.{laid_further, laid_none}
+use Rattle.blocks.proofs.Sound.{laid_further, length_laid_at}
 
 -- the run of right records is all of them, or ends at the first that no word gives
 module _ (f : Family) (wide : Bool) {A : Type 0} (wrong : ℕ → A) (next : A) where
-  run_all : (i : ℕ) (ws : List Word) → length ws ≤ right_run f wide ws → (right_all f wide ws ≡ true) × (unless_wrong f wide i ws wrong next ≡ next)
-  unfolding right_run right_all unless_wrong
+  -- up to the first that isn't right, by recursion
+  abbrev run : List Word → ℕ
+  run ws = position_or_len (λ w. not (is_right f wide w)) ws
+
+  run_is : (ws : List Word) → right_run f wide ws ≡ run ws
+  run_is ws =
+      let most = prefix_len-le-length (λ w. not (not (is_right f wide w))) ws in
+      by_test (ltb (run ws) (length ws)) (λ q. rw q) (λ q. rw q (omega (arith, ltb-false (run ws) (length ws) q)))
+
+  run_all : (i : ℕ) (ws : List Word) → length ws ≤ run ws → (right_all f wide ws ≡ true) × (unless_wrong f wide i ws wrong next ≡ next)
+  unfolding right_all unless_wrong
   run_all i [] h = (refl, refl)
   run_all i (w ∷ ws) h = by (is_right f wide w) (unless_wrong f wide (i + 1) ws wrong next) h (run_all (i + 1) ws)
     where
-      by : (t : Bool) (later : A) → suc (length ws) ≤ cond t (suc (right_run f wide ws)) 0
-          → (length ws ≤ right_run f wide ws → (right_all f wide ws ≡ true) × (later ≡ next))
+      by : (t : Bool) (later : A) → suc (length ws) ≤ cond (not (not t)) (1 + run ws) 0
+          → (length ws ≤ run ws → (right_all f wide ws ≡ true) × (later ≡ next))
           → (t && right_all f wide ws ≡ true) × (cond t later (wrong i) ≡ next)
       by true later k all = all (omega arith)
       by false later k all = absurd (omega arith)
 
-  run_wrong : (i : ℕ) (ws : List Word) → right_run f wide ws < length ws → unless_wrong f wide i ws wrong next ≡ wrong (i + right_run f wide ws)
-  unfolding right_run unless_wrong
+  run_wrong : (i : ℕ) (ws : List Word) → run ws < length ws → unless_wrong f wide i ws wrong next ≡ wrong (i + run ws)
+  unfolding unless_wrong
   run_wrong i [] h = absurd (omega arith)
   run_wrong i (w ∷ ws) h = by (is_right f wide w) (unless_wrong f wide (i + 1) ws wrong next) h (run_wrong (i + 1) ws)
     where
-      by : (t : Bool) (later : A) → cond t (suc (right_run f wide ws)) 0 < suc (length ws)
-          → (right_run f wide ws < length ws → later ≡ wrong (i + 1 + right_run f wide ws))
-          → cond t later (wrong i) ≡ wrong (i + cond t (suc (right_run f wide ws)) 0)
+      by : (t : Bool) (later : A) → cond (not (not t)) (1 + run ws) 0 < suc (length ws)
+          → (run ws < length ws → later ≡ wrong (i + 1 + run ws))
+          → cond t later (wrong i) ≡ wrong (i + cond (not (not t)) (1 + run ws) 0)
       by true later k on =
-          let past : i + 1 + right_run f wide ws ≡ i + suc (right_run f wide ws) = omega arith in
+          let past : i + 1 + run ws ≡ i + (1 + run ws) = omega arith in
           on (omega arith) ∙ ap wrong past
       by false later k on =
           let here : i ≡ i + 0 = omega arith in
@@ -111,73 +124,80 @@ module _ (f : Family) (wide crlf : Bool) (ws : List Word) (right : right_all f w
       ∙ laid_further 0 (star ++ words) end room (omega arith)
       ∙ ap (λ (bytes : List ℕ). laid bytes room) (append_assoc star words end)
 
--- what `write` puts, by what `start` answered
-
-abbrev words_in : Family → List Word → Bool → List ℕ → Started → List ℕ
-words_in f l wide room st = laid_at (first_at wide) (words_bytes f wide (take st.words l)) (started_room st.answer wide room)
-
-record Puts (f : Family) (l : List Word) (wide crlf : Bool) (room : List ℕ) (st : Started) : Type 0 where
-  fit : PutsFit f wide st.words l (started_room st.answer wide room)
-  made : written f l wide crlf room ≡ record { answer = st.answer; room = finished_of st.answer crlf (words_in f l wide room st) }
+-- what `write` puts, by what `judge_list` answers
 
 written_as : (m n : ℕ) (a b : List ℕ) → m ≡ n → a ≡ b
-    → ◌≡◌ {A = Written·room} (record { answer = Written m; room = a }) (record { answer = Written n; room = b })
+    → ◌≡◌ {A = Written·room} (record { answer = Ok m; room = a }) (record { answer = Ok n; room = b })
 written_as m n a b e e' = rw (e, e')
 
+-- a list that is taken, and the size of its block
+pub record Put (f : Family) (l : List Word) (wide crlf : Bool) (room : List ℕ) (size : ℕ) : Type 0 where
+  pub lawful : Lawful f wide l
+  pub is : size ≡ size_of (length l) wide crlf
+  pub inside : size ≤ length room
+
 module _ (f : Family) (l : List Word) (wide crlf : Bool) (room : List ℕ) where
-  put_none : (r : Refusal) → written f l wide crlf room ≡ refused_room room r → Puts f l wide crlf room (refused_start r)
-  unfolding right_all
-  put_none r e =
-      let fit : PutsFit f wide 0 l room = record { most = omega arith; listed = omega arith; right = refl; fits = λ h. absurd (omega arith) } in
-      record { fit = fit; made = rw (laid_none f wide 0 l room fit) e }
+  abbrev Follows : Wrote → Type 0
+  Follows (Err r) = written f l wide crlf room ≡ refused_room room r
+  Follows (Ok n) = Put f l wide crlf room n
 
-  put_all : Lawful f wide l → size_of (length l) wide crlf ≤ length room
-      → Puts f l wide crlf room (record { answer = Written (size_of (length l) wide crlf); words = length l })
-  put_all lawful h =
-      let right = lawful.right in
-      let size = block_size f wide crlf l right in
-      let begun = length_laid (star_bytes wide) room in
-      record {
-        fit = record { most = lawful.most; listed = omega arith; right = rw (take-length l) right; fits = λ _. omega arith };
-        made = lawful_written f l wide crlf room lawful (omega arith)
-            ∙ written_as (length (block_bytes f wide crlf l)) (size_of (length l) wide crlf) _ _ size
-            (rw (take-length l) (sym (block_laid f wide crlf l right room h)));
-      }
-
-  puts_by : Puts f l wide crlf room (started_of (length l) (sound_of f wide l) wide crlf (length room))
-  puts_by =
+  follows : Follows (judged_list f wide crlf l (length room))
+  follows =
       let n = length l in
       let size = size_of n wide crlf in
+      let sound = right_run f wide l in
       let next = block_in_room (block_bytes f wide crlf l) room in
       let wrong : ℕ → Written·room = λ i. refused_room room (Record i) in
-      cond_by (Puts f l wide crlf room) (eqb n 0 || ltb 32 n) _ _ (λ many. put_none Count (rw many)) (λ fine.
+      cond_by Follows (eqb n 0 || ltb 32 n) _ _ (λ many. rw many) (λ fine.
       let (some, few) = neither (eqb n 0) (ltb 32 n) fine in
-      let run : sound_of f wide l ≡ right_run f wide l = rw (few, take-length l) in
       let judged : written f l wide crlf room ≡ unless_wrong f wide 0 l wrong next = rw (some, few) in
-      let first : 0 + right_run f wide l ≡ sound_of f wide l = omega arith in
-      cond_by (Puts f l wide crlf room) (ltb (sound_of f wide l) n) _ _
-      (λ h. put_none (Record (sound_of f wide l))
-      (judged ∙ run_wrong f wide wrong next 0 l (omega (arith, ltb-true (sound_of f wide l) n h)) ∙ ap wrong first))
+      let is = run_is f wide wrong next l in
+      let first : 0 + run f wide wrong next l ≡ sound = omega arith in
+      cond_by Follows (ltb sound n) _ _
+      (λ h. judged ∙ run_wrong f wide wrong next 0 l (omega (arith, ltb-true sound n h)) ∙ ap wrong first)
       (λ h.
-      let all = run_all f wide wrong next 0 l (omega (arith, ltb-false (sound_of f wide l) n h)) in
+      let all = run_all f wide wrong next 0 l (omega (arith, ltb-false sound n h)) in
       let bytes = block_size f wide crlf l all.0 in
-      cond_by (Puts f l wide crlf room) (ltb (length room) size) _ _
-      (λ k. put_none (Room size) (judged ∙ all.1 ∙ rw (bytes, k)))
-      (λ k. put_all (record { some = omega (arith, eqb-false n 0 some); most = ltb-false 32 n few; right = all.0 }) (ltb-false (length room) size k))))
+      cond_by Follows (ltb (length room) size) _ _
+      (λ k. judged ∙ all.1 ∙ rw (bytes, k))
+      (λ k.
+      record {
+        lawful = record { some = omega (arith, eqb-false n 0 some); most = ltb-false 32 n few; right = all.0 };
+        is = refl;
+        inside = ltb-false (length room) size k;
+      })))
 
--- and the same at each of its steps: `start` answered st and left room₁, the words made it room₂ and the terminator room₃
-module _ (f : Family) (l : List Word) (wide crlf : Bool) (room : List ℕ) (sound : ℕ) (e : sound ≡ sound_of f wide l)
-    (st : Started) (e₀ : st ≡ started_of (length l) sound wide crlf (length room))
-    (room₁ : List ℕ) (e₁ : room₁ ≡ started_room st.answer wide room) where
-  puts : Puts f l wide crlf room st
-  puts = rw (e₀, e) (puts_by f l wide crlf room)
+  module _ {w : Wrote} (e : w ≡ judged_list f wide crlf l (length room)) where
+    pub refused_there : {r : Refusal} → w ≡ Err r → Writes f l wide crlf room (Err r) room
+    refused_there {r} is =
+        let h : written f l wide crlf room ≡ refused_room room r = subst Follows (sym e ∙ is) follows in
+        (sym (ap (λ (v : Written·room). v.answer) h), sym (ap (λ (v : Written·room). v.room) h))
 
-  pub words_there : PutsFit f wide st.words l room₁
-  words_there = rw e₁ puts.fit
+    pub taken_there : {n : ℕ} → w ≡ Ok n → Put f l wide crlf room n
+    taken_there {n} is = subst Follows (sym e ∙ is) follows
 
-  module _ (room₂ : List ℕ) (e₂ : room₂ ≡ laid_at (first_at wide) (words_bytes f wide (take st.words l)) room₁) where
-    pub writes_there : (room₃ : List ℕ) → room₃ ≡ finished_of st.answer crlf room₂ → Writes f l wide crlf room st.answer room₃
+-- the star made the room room₁, the words made it room₂ and the terminator room₃
+module _ (f : Family) (l : List Word) (wide crlf : Bool) (room : List ℕ) (size : ℕ) (p : Put f l wide crlf room size)
+    (room₁ : List ℕ) (e₁ : room₁ ≡ laid (star_bytes wide) room) where
+  pub words_there : PutsFit f wide l room₁
+  words_there =
+      let long = length_laid (star_bytes wide) room in
+      let same : length room₁ ≡ length room = ap length e₁ ∙ long in
+      record { right = p.lawful.right; fits = omega (arith, p.is, p.inside) }
+
+  module _ (room₂ : List ℕ) (e₂ : room₂ ≡ laid_at (first_at wide) (words_bytes f wide l) room₁) where
+    pub end_there : EndsFit size room₂
+    end_there =
+        let same : length room₂ ≡ length room =
+        ap length e₂ ∙ length_laid_at (first_at wide) (words_bytes f wide l) room₁ ∙ ap length e₁ ∙ length_laid (star_bytes wide) room in
+        let words : 1 * word_size wide ≤ length l * word_size wide = mul-le-mul_right (word_size wide) p.lawful.some in
+        (omega (arith, p.is), omega (arith, p.inside))
+
+    pub writes_there : (room₃ : List ℕ) → room₃ ≡ ended_room size crlf room₂ → Writes f l wide crlf room (Ok size) room₃
     writes_there room₃ e₃ =
-        let is = puts.made in
-        let last : room₃ ≡ finished_of st.answer crlf (words_in f l wide room st) = rw (e₃, e₂, e₁) in
-        (sym (ap (λ (w : Written·room). w.answer) is), last ∙ sym (ap (λ (w : Written·room). w.room) is))
+        let bytes = block_size f wide crlf l p.lawful.right in
+        let made : written f l wide crlf room ≡ record { answer = Ok size; room = room₃ } =
+        lawful_written f l wide crlf room p.lawful (omega (arith, p.is, p.inside))
+        ∙ written_as (length (block_bytes f wide crlf l)) size (laid (block_bytes f wide crlf l) room) room₃ (bytes ∙ sym p.is)
+        (sym (rw (e₃, e₂, e₁, p.is) (block_laid f wide crlf l p.lawful.right room (omega (arith, p.is, p.inside))))) in
+        (sym (ap (λ (v : Written·room). v.answer) made), sym (ap (λ (v : Written·room). v.room) made))

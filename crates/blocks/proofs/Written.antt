@@ -8,15 +8,15 @@ use borrow.Author.Tests.{eqb-false, eq-eqb, ne_eqb, lt-ltb, le-ltb, lt-leb, ltb-
 use lib.Dec.{eqb, ltb}
 use lib.ListN.{length, get_or, take, drop, length-append}
 use lib.Seq.{drop_at, take_at}
+use Rattle.std.specs.Prelude.{Ok, Err}
 use Rattle.figures.specs.Bytes.{laid}
 use Rattle.figures.specs.Decimal.{is_digit}
 use Rattle.figures.proofs.Bytes.{laid_fits}
 use Rattle.words.specs.Records.{is_right}
-use Rattle.words.specs.Reading.{word_size, word_of, right_word}
+use Rattle.words.specs.Reading.{word_size, word_of, right_word, judged_in, word_in}
 use Rattle.words.specs.Writing.{bytes_of}
 use Rattle.units.specs.declared.kinds.Family.{Family}
 use Rattle.words.specs.declared.records.Word.{Word}
-use Rattle.words.specs.declared.reading.OneWord.{OneWord}
 use Rattle.words.proofs.RoundTrip.{write_read, bytes_length, first_written}
 use Rattle.blocks.specs.Judging.{is_at, is_wide, first_at, block_from, judged}
 use Rattle.blocks.specs.Composing.{words_bytes, block_bytes, unless_wrong, Written·room, refused_room, block_in_room, written}
@@ -24,7 +24,6 @@ use Rattle.figures.specs.Text.{end_bytes, star_bytes}
 use Rattle.figures.proofs.Decimal.{digit_not}
 use Rattle.blocks.specs.declared.answers.Refusal.{Refusal}
 use Rattle.blocks.specs.declared.answers.Refusal.TheVariants.{Count, Record, Room}
-use Rattle.blocks.specs.declared.answers.Wrote.TheVariants.{Refused, Written}
 use Rattle.blocks.specs.Rules.{right_all, Lawful, read_as, reading_of}
 use Rattle.blocks.proofs.Rooms.{wrong_by, star_length}
 
@@ -50,8 +49,8 @@ goes : (f : Family) (more : ℕ) (wide : Bool) (places at : ℕ) (s rest : List 
     → block_from f (suc more) wide places at s done ≡ block_from f more wide places (at + word_size wide) rest (done ++ (w ∷ []))
 unfolding block_from
 goes f more wide places at s rest done w first long free e d =
-    let answer = ap (λ (o : OneWord). o.answer) e in
-    let word = ap (λ (o : OneWord). o.word) e in
+    let answer = ap judged_in e in
+    let word = ap word_in e in
     rw (first, le-ltb (length s) (word_size wide) long, lt-leb places (length done) free, answer, word, d)
 
 -- and at the end
@@ -128,11 +127,11 @@ block_read f wide crlf ws rest places l placed h =
 -- what the writer takes
 
 abbrev written_as : ℕ → List ℕ → Written·room
-written_as n room = record { answer = Written n; room = room }
+written_as n room = record { answer = Ok n; room = room }
 
 not_written : (f : Refusal) (n : ℕ) (room room' : List ℕ) → refused_room room f ≡ written_as n room' → ⊥
 not_written f n room room' e =
-    let q : Refused f ≡ Written n = ap (λ (v : Written·room). v.answer) e in
+    let q : Err f ≡ Ok n = ap (λ (v : Written·room). v.answer) e in
     let z : ◌≡◌ {A = ℕ} 0 1 = cc in
     omega arith
 
@@ -171,7 +170,7 @@ written_lawful f ws wide crlf room n room' e =
     (block_in_room bytes room) (λ i _ e. absurd (not_written (Record i) n room room' e)) (λ right e. (right, e)) count.1 in
     let fits = take_written (ltb (length room) (length bytes)) (Room (length bytes)) n _ room room' right.1 in
     let (some, most) = neither (eqb (length ws) 0) (ltb 32 (length ws)) count.0 in
-    let size : Written (length bytes) ≡ Written n = ap (λ (x : Written·room). x.answer) fits.1 in
+    let size : Ok (length bytes) ≡ Ok n = ap (λ (x : Written·room). x.answer) fits.1 in
     record {
       lawful = record { some = omega (arith, eqb-false (length ws) 0 some); most = ltb-false 32 (length ws) most; right = right.0 };
       size = cc;

@@ -1,5 +1,5 @@
 -- Records to one block. "Writer order: 12, 13 (first such record), 14."
-use Rattle.std.specs.Prelude.{ℕ, ◌+◌, ◌≡◌, Bool, cond, ◌||◌, List, [], ◌∷◌, ◌++◌, eqb, ltb, length}
+use Rattle.std.specs.Prelude.{ℕ, ◌+◌, ◌≡◌, Bool, cond, ◌||◌, List, [], ◌∷◌, ◌++◌, Result, Ok, Err, eqb, ltb, length}
 use Rattle.figures.specs.Text.{end_bytes, star_bytes}
 use Rattle.figures.specs.Bytes.{laid}
 use Rattle.words.specs.Records.{is_right}
@@ -8,8 +8,6 @@ use Rattle.units.specs.declared.kinds.Family.{Family}
 use Rattle.words.specs.declared.records.Word.{Word}
 use Rattle.blocks.specs.declared.answers.Refusal.{Refusal}
 use Rattle.blocks.specs.declared.answers.Refusal.TheVariants.{Count, Record, Room}
-use Rattle.blocks.specs.declared.answers.Wrote.{Wrote}
-use Rattle.blocks.specs.declared.answers.Wrote.TheVariants.{Refused, Written}
 
 -- the words one after the other
 unfoldable pub words_bytes : Family → Bool → List Word → List ℕ
@@ -25,6 +23,10 @@ unfoldable pub unless_wrong : {A : Type 0} → Family → Bool → ℕ → List 
 unless_wrong f wide i [] wrong next = next
 unless_wrong f wide i (w ∷ ws) wrong next = cond (is_right f wide w) (unless_wrong f wide (i + 1) ws wrong next) (wrong i)
 
+-- the block's bytes, or a refusal
+abbrev pub Wrote : Type 0
+Wrote = Result ℕ Refusal
+
 -- the answer, and the room as it is then
 pub record Written·room : Type 0 where
   pub answer : Wrote
@@ -32,13 +34,13 @@ pub record Written·room : Type 0 where
 
 -- "After a refusal the lent list and output are untouched."
 abbrev pub refused_room : List ℕ → Refusal → Written·room
-refused_room room r = record { answer = Refused r; room = room }
+refused_room room r = record { answer = Err r; room = room }
 
 -- "Written room beyond the block is untouched."
 abbrev pub block_in_room : List ℕ → List ℕ → Written·room
 block_in_room bytes room =
     cond (ltb (length room) (length bytes)) (refused_room room (Room (length bytes)))
-    (record { answer = Written (length bytes); room = laid bytes room })
+    (record { answer = Ok (length bytes); room = laid bytes room })
 
 abbrev pub written : Family → List Word → Bool → Bool → List ℕ → Written·room
 written f ws wide crlf room =

@@ -1,17 +1,14 @@
 -- The rules that a block keeps: what the laws on reading and writing blocks are stated with.
-use Rattle.std.specs.Prelude.{ℕ, ◌+◌, ◌*◌, ◌≤◌, ◌<◌, ◌≡◌, Bool, true, false, ◌&&◌, List, [], ◌∷◌, ◌++◌, length, drop}
+use Rattle.std.specs.Prelude.{ℕ, ◌+◌, ◌*◌, ◌≤◌, ◌<◌, ◌≡◌, Bool, true, false, ◌&&◌, List, [], ◌∷◌, ◌++◌, Ok, length, drop}
 use Rattle.figures.specs.Text.{cr, lf}
 use Rattle.words.specs.Records.{is_right}
-use Rattle.words.specs.Reading.{word_size, word_of}
+use Rattle.words.specs.Reading.{word_size, word_of, OneWord, judged_right, judged_wrong, judged_in}
 use Rattle.units.specs.declared.kinds.Family.{Family}
 use Rattle.words.specs.declared.records.Word.{Word}
 use Rattle.words.specs.declared.reading.Fault.{Fault}
-use Rattle.words.specs.declared.reading.Judged.TheVariants.{Right, Wrong}
-use Rattle.words.specs.declared.reading.OneWord.{OneWord}
 use Rattle.blocks.specs.Judging.{Judgement, is_at, is_wide, first_at}
 use Rattle.blocks.specs.Composing.{block_bytes}
 use Rattle.blocks.specs.declared.answers.Reading.{Reading}
-use Rattle.blocks.specs.declared.answers.Answer.TheVariants.{Read}
 
 -- each record is one that some word of the width gives
 unfoldable pub right_all : Family → Bool → List Word → Bool
@@ -32,7 +29,7 @@ pub record Ruled (f : Family) (s : List ℕ) (wide crlf : Bool) (ws : List Word)
 
 -- the judgement that accepts a block
 abbrev pub read_as : Reading → List Word → Judgement
-read_as r ws = record { answer = Read r; words = ws }
+read_as r ws = record { answer = Ok r; words = ws }
 
 abbrev pub reading_of : Family → Bool → Bool → List Word → Reading
 reading_of f wide crlf ws = record { wide = wide; crlf = crlf; words = length ws; used = length (block_bytes f wide crlf ws) }
@@ -52,6 +49,6 @@ pub record FirstFault (f : Family) (s : List ℕ) (x : Fault) (at : ℕ) : Type 
   pub few : number < 32
   pub byte : ℕ
   pub told : at ≡ word_start (is_wide s) number + byte
-  pub fault : (judged_word f s number).answer ≡ Wrong x byte
-  pub before : (j : ℕ) → j < number → (judged_word f s j).answer ≡ Right
+  pub fault : judged_in (judged_word f s number) ≡ judged_wrong x byte
+  pub before : (j : ℕ) → j < number → judged_in (judged_word f s j) ≡ judged_right
   pub unended : (j : ℕ) → j ≤ number → is_at cr (drop (word_start (is_wide s) j) s) ≡ false

@@ -26,19 +26,6 @@ pub struct Reading {
     pub used: usize,
 }
 
-#[derive(Clone, Copy)]
-pub enum Answer {
-    Refused(Refusal),
-    Read(Reading),
-}
-
-// Written tells the block's bytes.
-#[derive(Clone, Copy)]
-pub enum Wrote {
-    Refused(Refusal),
-    Written(usize),
-}
-
 // Gives the number that the rules have for a refusal.
 pub fn refusal_number(refusal: Refusal) -> u64
     ensures { result ≡ refusal_number refusal }

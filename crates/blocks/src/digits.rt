@@ -5,16 +5,14 @@ ghost use Rattle.figures.specs.Decimal.{is_digit, number_of, digits_of};
 ghost use Rattle.words.specs.Records.{width};
 ghost use Rattle.words.specs.Reading.{word_size, data_in};
 
-// Gives the number that digits say.
+// Gives the number that digits say. A digit is widened before 48 goes off it, which costs a step less (docs/BENCHMARK.md).
 pub(crate) fn number_of(s: &[u8]) -> u64
     requires { (length s.now ≤ 16) × (every is_digit s.now ≡ true) }
     ensures { (result ≡ number_of s.now) × (result < 10 ^ length s.now) }
 {
-    let mut n: u64 = 0;
-    let mut i = 0;
-    while i < s.len() {
-        n = n * 10 + (figures::casts::wide(s[i]) - 48);
-        i += 1;
+    let mut n = 0;
+    for b in s {
+        n = n * 10 + (u64::from(*b) - 48);
     }
     n
 }
@@ -68,7 +66,7 @@ pub(crate) fn put_digits(n: u64, wide: bool, out: &mut [u8])
     if wide {
         put_eight(n / 100_000_000, &mut out[0..8]);
         put_eight(n % 100_000_000, &mut out[8..16]);
-        return;
+    } else {
+        put_eight(n, out);
     }
-    put_eight(n, out);
 }

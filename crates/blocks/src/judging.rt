@@ -1,18 +1,17 @@
 // A block judged: the answer, and no record.
-ghost use Rattle.std.specs.Prelude.{◌≡◌, ◌≤◌, ◌<◌, min, length, drop};
+ghost use Rattle.std.specs.Prelude.{◌≡◌, ◌≤◌, ◌<◌, Ok, length, drop};
 ghost use Rattle.blocks.specs.Judging.{is_at, first_at, ended_at, judged};
-ghost use Rattle.blocks.specs.Keeping.{next_of, AnswersFrom, Runs};
+ghost use Rattle.blocks.specs.Keeping.{opened, next_of, AnswersFrom, Runs};
 
-use crate::answers::{Answer, Reading, Refusal};
-use crate::fitting::{Fit, fits};
+use crate::answers::{Reading, Refusal};
+use crate::fitting::fits;
 use units::kinds::Family;
-use words::reading::{Fault, Judged, read_word, width_of};
+use words::reading::{Fault, read_word, width_of};
 
-// What stands where a word would start: the block's end, a refusal, or a word.
+// What stands where a word would start, where nothing is wrong there: the block's end or a word.
 #[derive(Clone, Copy)]
 pub enum Next {
     Ends,
-    Stops(Refusal),
     Goes,
 }
 
@@ -20,41 +19,37 @@ pub enum Next {
 fn is_at(s: &[u8], at: usize, b: u8) -> bool
     ensures { result ≡ is_at b (drop at s.now) }
 {
-    if at < s.len() {
-        return s[at] == b;
-    }
-    false
+    at < s.len() && s[at] == b
 }
 
 // Judges what stands where a word would start; the order is CR, 4, 2, 11, then the word's own.
-fn step(s: &[u8], family: Family, wide: bool, at: usize, count: usize, places: usize) -> Next
+fn step(
+    s: &[u8],
+    family: Family,
+    wide: bool,
+    at: usize,
+    count: usize,
+    places: usize,
+) -> Result<Next, Refusal>
     requires { at ≤ length s.now }
     ensures { result ≡ next_of family wide places count at (drop at s.now) }
 {
-    if is_at(s, at, 13) {
-        return Next::Ends;
+    if is_at(s, at, b'\r') {
+        return Ok(Next::Ends);
     }
     if 32 <= count {
-        let refusal = Refusal::NoEnd(at);
-        return Next::Stops(refusal);
+        return Err(Refusal::NoEnd(at));
     }
     let rest = &s[at..];
     if rest.len() < width_of(wide) + 8 {
-        let refusal = Refusal::Wrong(Fault::Short, at);
-        return Next::Stops(refusal);
+        return Err(Refusal::Wrong(Fault::Short, at));
     }
     if places <= count {
-        let refusal = Refusal::NoPlace(at);
-        return Next::Stops(refusal);
+        return Err(Refusal::NoPlace(at));
     }
-    let one = read_word(rest, family, wide);
-    let answer = one.answer;
-    match answer {
-        Judged::Wrong(fault, byte) => {
-            let refusal = Refusal::Wrong(fault, at + byte);
-            Next::Stops(refusal)
-        }
-        Judged::Right => Next::Goes,
+    match read_word(rest, family, wide) {
+        Ok(_) => Ok(Next::Goes),
+        Err(wrong) => Err(Refusal::Wrong(wrong.fault, at + wrong.at)),
     }
 }
 
@@ -65,28 +60,18 @@ pub fn start_of(wide: bool) -> usize
     if wide { 1 } else { 0 }
 }
 
-// Answers a block of so many words, whose CR stands at a place.
-fn ended(s: &[u8], wide: bool, at: usize, words: usize) -> Answer
+// Gives the reading of a block of so many words, whose CR stands at a place.
+fn ended(s: &[u8], wide: bool, at: usize, words: usize) -> Reading
     requires { at < length s.now }
-    ensures { result ≡ ended_at wide at (drop at s.now) words }
+    ensures { Ok result ≡ ended_at wide at (drop at s.now) words }
 {
-    let past = at + 1;
-    if is_at(s, past, 10) {
-        let read = Reading {
-            wide: wide,
-            crlf: true,
-            words: words,
-            used: past + 1,
-        };
-        return Answer::Read(read);
+    let crlf = is_at(s, at + 1, b'\n');
+    Reading {
+        wide,
+        crlf,
+        words,
+        used: if crlf { at + 2 } else { at + 1 },
     }
-    let read = Reading {
-        wide: wide,
-        crlf: false,
-        words: words,
-        used: past,
-    };
-    Answer::Read(read)
 }
 
 // Answers a block by its words from a place on, before which so many stand.
@@ -97,51 +82,32 @@ fn answer_from(
     start: usize,
     count: usize,
     places: usize,
-) -> Answer
+) -> Result<Reading, Refusal>
     requires { (start ≤ length s.now) × (count ≤ 32) }
     ensures { AnswersFrom family wide places start count s.now result }
 {
     let size = width_of(wide) + 8;
     let mut n = count;
     let mut at = start;
-    loop {
-        let next = step(s, family, wide, at, n, places);
-        match next {
-            Next::Ends => {
-                return ended(s, wide, at, n);
-            }
-            Next::Stops(refusal) => {
-                return Answer::Refused(refusal);
-            }
-            Next::Goes => {
-                n += 1;
-                at += size;
-            }
-        }
+    while let Next::Goes = step(s, family, wide, at, n, places)? {
+        n += 1;
+        at += size;
     }
+    Ok(ended(s, wide, at, n))
 }
 
-// Answers the block of the family at the start of s, with a place for each of its words: for callers that need no record. They don't share `judge`, which the
-// compiler joins with `read` as long as it is called there alone (docs/BENCHMARK.md).
-pub fn answer_of(s: &[u8], family: Family) -> Answer
-    ensures { result ≡ (judged family s.now 32).answer }
+// Gives the width of a block's words, where it has any.
+fn opened(s: &[u8]) -> Result<bool, Refusal>
+    ensures { result ≡ opened s.now }
 {
-    if s.len() == 0 {
-        return Answer::Refused(Refusal::Empty);
+    if s.is_empty() {
+        return Err(Refusal::Empty);
     }
     let wide = s[0] == b'*';
-    let start = start_of(wide);
-    if is_at(s, start, 13) {
-        return Answer::Refused(Refusal::NoWord);
+    if is_at(s, start_of(wide), b'\r') {
+        return Err(Refusal::NoWord);
     }
-    answer_from(s, family, wide, start, 0, 32)
-}
-
-// Gives the most words that a block can have where so many places are lent.
-fn most_of(places: usize) -> usize
-    ensures { result ≡ min places 32 }
-{
-    if places < 32 { places } else { 32 }
+    Ok(wide)
 }
 
 // Counts the words from a place on that are right, up to so many.
@@ -150,35 +116,35 @@ fn run_of(s: &[u8], family: Family, wide: bool, start: usize, most: usize) -> us
     ensures { Runs family wide start most s.now result }
 {
     let size = width_of(wide) + 8;
-    let mut n = 0;
     let mut at = start;
-    while n < most {
-        let Fit::Right = fits(&s[at..], family, wide) else {
+    for n in 0..most {
+        if !fits(&s[at..], family, wide) {
             return n;
-        };
-        n += 1;
+        }
         at += size;
     }
-    n
+    most
 }
 
 // Answers the block of the family at the start of s, with so many places for its records. Its words are run through by yes or no first; where they don't end
-// in a CR, `answer_from` says why.
-pub fn judge(s: &[u8], family: Family, places: usize) -> Answer
+// in a CR, `answer_from` says why. It is compiled in place at each caller, so that reading costs no call more (docs/BENCHMARK.md).
+#[inline(always)]
+pub fn judge(s: &[u8], family: Family, places: usize) -> Result<Reading, Refusal>
     ensures { result ≡ (judged family s.now places).answer }
 {
-    if s.len() == 0 {
-        return Answer::Refused(Refusal::Empty);
-    }
-    let wide = s[0] == b'*';
+    let wide = opened(s)?;
     let start = start_of(wide);
-    if is_at(s, start, 13) {
-        return Answer::Refused(Refusal::NoWord);
-    }
-    let n = run_of(s, family, wide, start, most_of(places));
+    let n = run_of(s, family, wide, start, places.min(32));
     let at = start + n * (width_of(wide) + 8);
-    if is_at(s, at, 13) {
-        return ended(s, wide, at, n);
+    if is_at(s, at, b'\r') {
+        return Ok(ended(s, wide, at, n));
     }
     answer_from(s, family, wide, at, n, places)
+}
+
+// Answers the block of the family at the start of s, with a place for each of its words: for callers that need no record.
+pub fn answer_of(s: &[u8], family: Family) -> Result<Reading, Refusal>
+    ensures { result ≡ (judged family s.now 32).answer }
+{
+    judge(s, family, 32)
 }

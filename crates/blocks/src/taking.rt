@@ -8,13 +8,11 @@ ghost use Rattle.units.specs.declared.kinds.Family as Family;
 ghost use Rattle.units.specs.declared.kinds.Kind as Kind;
 ghost use Rattle.units.specs.declared.counts.Count as Count;
 ghost use Rattle.words.specs.Records.{record_of};
-ghost use Rattle.words.specs.Reading.{word_size, pos, data_in, index_in, data_right, word_of};
-ghost use Rattle.words.specs.declared.reading.Judged.TheVariants.{Right};
+ghost use Rattle.words.specs.Reading.{word_size, pos, data_in, index_in, data_right, judged_right, judged_in, word_in, word_of};
 ghost use Rattle.blocks.specs.Keeping.{DigitsRight, angle_in, length_in, pair_in};
 
 use crate::digits::{number_at, number_of};
-use figures::casts::figure;
-use units::counts::{Count, Valued, Whole, angle_at, length_of};
+use units::counts::{Count, Whole, angle_at, length_of};
 use units::information::lead_of;
 use units::kinds::{Family, Kind, number_kind};
 use words::reading::width_of;
@@ -25,17 +23,16 @@ fn index_in(s: &[u8], family: Family) -> u16
     requires { (3 ≤ length s.now) × ((are_digits (pos 1 s.now) (pos 2 s.now) ≡ true) × (listed_by family (pos 1 s.now) (pos 2 s.now) (pos 3 s.now) ≡ true)) }
     ensures { result ≡ index_in family s.now }
 {
-    let third = s[2];
-    let two = figure(s[0] - b'0') * 10 + figure(s[1] - b'0');
+    let two = u16::from(s[0] - b'0') * 10 + u16::from(s[1] - b'0');
     if let Family::Station = family {
         return two;
     }
-    if !figures::digit(third) {
+    if !figures::digit(s[2]) {
         return two;
     }
     match two {
         11 | 41 => two,
-        _ => two * 10 + figure(third - b'0'),
+        _ => two * 10 + u16::from(s[2] - b'0'),
     }
 }
 
@@ -47,8 +44,7 @@ fn level_in(index: u16) -> Kind
 {
     match index {
         32 | 83 => Kind::Length,
-        0..=99 => Kind::Missing,
-        521 => Kind::Missing,
+        0..=99 | 521 => Kind::Missing,
         _ => Kind::Length,
     }
 }
@@ -78,25 +74,22 @@ fn text_word(index: u16, info: [u8; 4], s: &[u8], wide: bool) -> Word
     ensures { result ≡ record_of index info Count.Text (laid (data_in wide s.now) (replicate 16 0)) }
 {
     let mut text = [0; 16];
-    figures::lay(&s[7..15], &mut text[0..8]);
+    figures::lay(&s[7..15], &mut text[..8]);
     if wide {
-        figures::lay(&s[15..23], &mut text[8..16]);
+        figures::lay(&s[15..23], &mut text[8..]);
     }
-    let count = Count::Text;
-    record_of(index, info, count, text)
+    record_of(index, info, Count::Text, text)
 }
 
-// Makes the record of an angle.
+// Makes the record of an angle, each arm its own: a count that is chosen before its record is copied on its way (docs/BENCHMARK.md).
 fn angle_word(index: u16, info: [u8; 4], s: &[u8], wide: bool) -> Word
     requires { DigitsRight wide s.now }
     ensures { result ≡ record_of index info (angle_in wide s.now) (replicate 16 0) }
 {
-    let text = [0; 16];
-    let Valued::Counted(count) = angle_at(s[5], minus_at(s[6]), number_at(s, wide)) else {
-        let none = Count::Nothing;
-        return record_of(index, info, none, text);
-    };
-    record_of(index, info, count, text)
+    match angle_at(s[5], minus_at(s[6]), number_at(s, wide)) {
+        Some(count) => record_of(index, info, count, [0; 16]),
+        None => record_of(index, info, Count::Nothing, [0; 16]),
+    }
 }
 
 // Makes the record of a word with one number that is no angle.
@@ -104,13 +97,11 @@ fn number_word(index: u16, info: [u8; 4], s: &[u8], wide: bool) -> Word
     requires { DigitsRight wide s.now }
     ensures { result ≡ record_of index info (length_in wide s.now) (replicate 16 0) }
 {
-    let value = Whole {
+    let whole = Whole {
         minus: minus_at(s[6]),
         size: number_at(s, wide),
     };
-    let count = length_of(s[5], value);
-    let text = [0; 16];
-    record_of(index, info, count, text)
+    record_of(index, info, length_of(s[5], whole), [0; 16])
 }
 
 // Makes the record of a pair with that sign before those data: ppm, a sign and mm.
@@ -119,34 +110,28 @@ fn pair_word(index: u16, info: [u8; 4], minus: u8, d: &[u8]) -> Word
     ensures { result ≡ record_of index info (pair_in minus d.now) (replicate 16 0) }
 {
     let at = d.len() - 4;
-    let from = at + 1;
     let ppm = Whole {
-        minus: minus,
-        size: number_of(&d[0..at]),
+        minus,
+        size: number_of(&d[..at]),
     };
     let mm = Whole {
         minus: minus_at(d[at]),
-        size: number_of(&d[from..]),
+        size: number_of(&d[at + 1..]),
     };
-    let count = Count::Pair(ppm, mm);
-    let text = [0; 16];
-    record_of(index, info, count, text)
+    record_of(index, info, Count::Pair(ppm, mm), [0; 16])
 }
 
 // Gives the record of the word of the family at the start of s, which is right.
 pub(crate) fn record_at(s: &[u8], family: Family, wide: bool) -> Word
-    requires { (word_of family wide s.now).answer ≡ Right }
-    ensures { result ≡ (word_of family wide s.now).word }
+    requires { judged_in (word_of family wide s.now) ≡ judged_right }
+    ensures { result ≡ word_in (word_of family wide s.now) }
 {
     let index = index_in(s, family);
     let info = [lead_of(index, s[2]), s[3], s[4], s[5]];
     match kind_in(family, index) {
         Kind::Angle => angle_word(index, info, s, wide),
         Kind::Length | Kind::Constant => number_word(index, info, s, wide),
-        Kind::Pair => {
-            let end = 7 + width_of(wide);
-            pair_word(index, info, minus_at(s[6]), &s[7..end])
-        }
+        Kind::Pair => pair_word(index, info, minus_at(s[6]), &s[7..7 + width_of(wide)]),
         _ => text_word(index, info, s, wide),
     }
 }

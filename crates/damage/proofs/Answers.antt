@@ -13,13 +13,10 @@ use Rattle.units.specs.Information.{lead_of, sign_right}
 use Rattle.units.specs.declared.kinds.Family.{Family}
 use Rattle.units.specs.declared.kinds.Kind.{Kind}
 use Rattle.words.specs.Records.{width}
-use Rattle.words.specs.Reading.{word_size, pos, data_in, index_in, kind_at, lead_in, data_tests, passing, data_at, data_right, value_in, is_counted, record_in, right_word, unless, word_of}
+use Rattle.words.specs.Reading.{word_size, pos, data_in, index_in, kind_at, lead_in, data_tests, passing, data_at, data_right, value_in, is_counted, record_in, right_word, unless, word_of, OneWord, Judged, judged_right, judged_wrong, judged_in}
 use Rattle.words.specs.declared.records.Word.{Word}
 use Rattle.words.specs.declared.reading.Fault.{Fault}
 use Rattle.words.specs.declared.reading.Fault.TheVariants.{Information, Sign, Characters, Separator, Value}
-use Rattle.words.specs.declared.reading.Judged.{Judged}
-use Rattle.words.specs.declared.reading.Judged.TheVariants.{Right, Wrong}
-use Rattle.words.specs.declared.reading.OneWord.{OneWord}
 use Rattle.words.proofs.Checks.{width_bounds, data_length}
 use Rattle.words.proofs.Places.{spread_places}
 use Rattle.words.proofs.Letters.{passing_most, passing_append}
@@ -48,11 +45,11 @@ fault_at w n = cond (ltb n 4) Information (cond (eqb n 4) Sign (cond (ltb n (5 +
 
 -- the answer where n bytes pass, from position 3 on
 abbrev pub told : ℕ → Bool → ℕ → Judged
-told w value n = cond (ltb n (6 + w)) (Wrong (fault_at w n) (2 + n)) (cond value Right (Wrong Value 7))
+told w value n = cond (ltb n (6 + w)) (judged_wrong (fault_at w n) (2 + n)) (cond value judged_right (judged_wrong Value 7))
 
 module _ (w : ℕ) (value : Bool) where
-  by_head : (n : ℕ) (a b c d e : Bool) (r : OneWord) → r.answer ≡ told w value (5 + n)
-      → (unless (a && (b && (c && d))) Information (2 + cond a (cond b (cond c 3 2) 1) 0) (unless e Sign 6 r)).answer
+  by_head : (n : ℕ) (a b c d e : Bool) (r : OneWord) → judged_in r ≡ told w value (5 + n)
+      → judged_in (unless (a && (b && (c && d))) Information (2 + cond a (cond b (cond c 3 2) 1) 0) (unless e Sign 6 r))
       ≡ told w value (cond a (suc (cond b (suc (cond c (suc (cond d (suc (cond e (suc n) 0)) 0)) 0)) 0)) 0)
   by_head n false b c d e r h = rw (lt-ltb 0 (6 + w) (omega arith))
   by_head n true false c d e r h = rw (lt-ltb 1 (6 + w) (omega arith))
@@ -61,13 +58,13 @@ module _ (w : ℕ) (value : Bool) where
   by_head n true true true true false r h = rw (lt-ltb 4 (6 + w) (omega arith))
   by_head n true true true true true r h = let same : 5 + n ≡ suc (suc (suc (suc (suc n)))) = omega arith in h ∙ ap (told w value) same
 
-  data_told : (n : ℕ) → n ≤ w → told w value (5 + n) ≡ Wrong (cond (ltb (5 + n) (5 + w)) Characters Separator) (7 + n)
+  data_told : (n : ℕ) → n ≤ w → told w value (5 + n) ≡ judged_wrong (cond (ltb (5 + n) (5 + w)) Characters Separator) (7 + n)
   data_told n h =
       let at : 7 + n ≡ 2 + (5 + n) = omega arith in
       rw (at, lt-ltb (5 + n) (6 + w) (omega arith), le-ltb (5 + n) 4 (omega arith), ne_eqb (5 + n) 4 (λ q. omega arith))
 
   by_tail : (right end : Bool) (n : ℕ) (v : Word) → (right ≡ false → n < w)
-      → (unless right Characters (7 + n) (unless end Separator (7 + w) (unless value Value 7 (right_word v)))).answer
+      → judged_in (unless right Characters (7 + n) (unless end Separator (7 + w) (unless value Value 7 (right_word v))))
       ≡ told w value (5 + cond right (w + cond end 1 0) n)
   by_tail false end n v near = let low = near refl in sym (data_told n (omega arith) ∙ rw (lt-ltb (5 + n) (5 + w) (omega arith)))
   by_tail true false n v near =
@@ -75,14 +72,14 @@ module _ (w : ℕ) (value : Bool) where
       rw none (sym (data_told w (omega arith) ∙ rw (le-ltb (5 + w) (5 + w) (omega arith))))
   by_tail true true n v near = rw (le-ltb (5 + (w + 1)) (6 + w) (omega arith)) (go value)
     where
-      go : (t : Bool) → (unless t Value 7 (right_word v)).answer ≡ cond t Right (Wrong Value 7)
+      go : (t : Bool) → judged_in (unless t Value 7 (right_word v)) ≡ cond t judged_right (judged_wrong Value 7)
       go true = refl
       go false = refl
 
 -- of a whole word whose index is listed
 pub word_told : (f : Family) (wide : Bool) (s : List ℕ) → word_size wide ≤ length s → are_digits (pos 1 s) (pos 2 s) ≡ true
     → listed_by f (pos 1 s) (pos 2 s) (pos 3 s) ≡ true
-    → (word_of f wide s).answer ≡ told (width wide) (is_counted (value_in f wide s)) (passing (tests_in f wide s) (drop 2 s))
+    → judged_in (word_of f wide s) ≡ told (width wide) (is_counted (value_in f wide s)) (passing (tests_in f wide s) (drop 2 s))
 word_told f wide s h digits listed =
     let w = width wide in
     let k = kind_at f s in

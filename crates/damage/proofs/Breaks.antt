@@ -16,12 +16,11 @@ use Rattle.units.specs.Kinds.{first_other, listed_by}
 use Rattle.units.specs.declared.kinds.Family.{Family}
 use Rattle.units.specs.declared.kinds.Family.TheVariants.{Station, Level}
 use Rattle.words.specs.Records.{width}
-use Rattle.words.specs.Reading.{fault_number, word_size, pos, passing, value_in, is_counted, faulty, word_of}
+use Rattle.words.specs.Reading.{fault_number, word_size, pos, passing, value_in, is_counted, faulty, word_of, judged_right, judged_wrong, judged_in}
 use Rattle.words.specs.declared.reading.Fault.{Fault}
 use Rattle.words.specs.declared.reading.Fault.TheVariants.{Short, Index, Unlisted, Information, Sign, Characters, Separator, Value}
-use Rattle.words.specs.declared.reading.Judged.TheVariants.{Right, Wrong}
 use Rattle.words.proofs.Checks.{width_bounds}
-use Rattle.words.proofs.Told.{past}
+use Rattle.words.proofs.Told.{past, fault_in, told_at}
 use Rattle.damage.specs.Breaks.{KeptWord, First}
 use Rattle.damage.proofs.Passed.{passing_again}
 use Rattle.damage.proofs.Marks.{third_right, dot_right}
@@ -38,17 +37,17 @@ record Refused (f : Family) (wide : Bool) (s : List ℕ) (x : Fault) (at n : ℕ
   place : at ≡ 2 + n
 
 module _ (x : Fault) (at : ℕ) (low : 5 ≤ fault_number x) (high : fault_number x ≤ 9) where
-  failed : (w n : ℕ) (counts : Bool) → told w counts n ≡ Wrong x at → (n < 6 + w) × (x ≡ fault_at w n) × (at ≡ 2 + n)
+  failed : (w n : ℕ) (counts : Bool) → told w counts n ≡ judged_wrong x at → (n < 6 + w) × (x ≡ fault_at w n) × (at ≡ 2 + n)
   failed w n counts e = go (ltb n (6 + w)) counts (ltb-true n (6 + w)) e
     where
-      go : (b c : Bool) → (b ≡ true → n < 6 + w) → cond b (Wrong (fault_at w n) (2 + n)) (cond c Right (Wrong Value 7)) ≡ Wrong x at
+      go : (b c : Bool) → (b ≡ true → n < 6 + w) → cond b (judged_wrong (fault_at w n) (2 + n)) (cond c judged_right (judged_wrong Value 7)) ≡ judged_wrong x at
           → (n < 6 + w) × (x ≡ fault_at w n) × (at ≡ 2 + n)
-      go true c h q = (h refl, cc, cc)
+      go true c h q = (h refl, sym (ap fault_in q), sym (ap told_at q))
       go false true h q = absurd (clash (cc))
-      go false false h q = let is : Value ≡ x = cc in let ten = ap fault_number is in absurd (omega arith)
+      go false false h q = let is : Value ≡ x = ap fault_in q in let ten = ap fault_number is in absurd (omega arith)
 
   -- where positions 1-2 are digits
-  refused : (f : Family) (wide : Bool) (s : List ℕ) → word_size wide ≤ length s → are_digits (pos 1 s) (pos 2 s) ≡ true → (word_of f wide s).answer ≡ Wrong x at
+  refused : (f : Family) (wide : Bool) (s : List ℕ) → word_size wide ≤ length s → are_digits (pos 1 s) (pos 2 s) ≡ true → judged_in (word_of f wide s) ≡ judged_wrong x at
       → Refused f wide s x at (passing (tests_in f wide s) (drop 2 s))
   refused f wide s whole digits e =
       let (listed, _) = past x at (listed_by f (pos 1 s) (pos 2 s) (pos 3 s)) Unlisted _ _ (λ q. omega arith) (rw (le-leb (word_size wide) (length s) whole, digits) at e) in
@@ -79,14 +78,14 @@ head_same zero c x y = refl
 head_same (suc n) c x y = refl
 
 -- a word that is refused again, where it is whole, isn't right
-never_by : (f : Family) (wide : Bool) (t : List ℕ) (x : Fault) (at : ℕ) → (word_size wide ≤ length t → (word_of f wide t).answer ≡ Wrong x at)
-    → (word_of f wide t).answer ≡ Right → ⊥
+never_by : (f : Family) (wide : Bool) (t : List ℕ) (x : Fault) (at : ℕ) → (word_size wide ≤ length t → judged_in (word_of f wide t) ≡ judged_wrong x at)
+    → judged_in (word_of f wide t) ≡ judged_right → ⊥
 never_by f wide t x at again right =
     by_test (leb (word_size wide) (length t)) (λ q. let wrong = again (leb-true (word_size wide) (length t) q) in clash (cc))
     (λ q. let short = rw q at right in clash (cc))
 
 module _ (f : Family) (wide : Bool) (s : List ℕ) (x : Fault) (at : ℕ) (r : Refused f wide s x at (passing (tests_in f wide s) (drop 2 s))) where
-  again : (t : List ℕ) → word_size wide ≤ length t → take (suc at) t ≡ take (suc at) s → (word_of f wide t).answer ≡ Wrong x at
+  again : (t : List ℕ) → word_size wide ≤ length t → take (suc at) t ≡ take (suc at) s → judged_in (word_of f wide t) ≡ judged_wrong x at
   again t long same =
       let w = width wide in
       let n = passing (tests_in f wide s) (drop 2 s) in
@@ -98,7 +97,7 @@ module _ (f : Family) (wide : Bool) (s : List ℕ) (x : Fault) (at : ℕ) (r : R
       let later : take (suc n) (drop 2 t) ≡ take (suc n) (drop 2 s) =
       sym (take_later 2 (suc n) t (omega arith)) ∙ ap (drop 2) (rw far at same) ∙ take_later 2 (suc n) s (omega arith) in
       let count : passing (tests_in f wide t) (drop 2 t) ≡ n = rw (one, two, three) (passing_again (tests_in f wide s) (drop 2 s) (drop 2 t) later) in
-      let fails : told w (is_counted (value_in f wide t)) n ≡ Wrong x at = rw (lt-ltb n (6 + w) r.near) (cc (r.fault, r.place)) in
+      let fails : told w (is_counted (value_in f wide t)) n ≡ judged_wrong x at = rw (lt-ltb n (6 + w) r.near) (cc (r.fault, r.place)) in
       word_told f wide t long (rw (one, two) r.digits) (rw (one, two, three) r.listed) ∙ ap (told w (is_counted (value_in f wide t))) count ∙ fails
 
   kept : KeptWord f wide s x at
@@ -130,7 +129,7 @@ no_index f c e = let (low, high) = within_bounds 48 57 c e in go f low high
 
 module _ (f : Family) (wide : Bool) where
   unlisted : (t : List ℕ) → word_size wide ≤ length t → are_digits (pos 1 t) (pos 2 t) ≡ true → listed_by f (pos 1 t) (pos 2 t) (pos 3 t) ≡ false
-      → (word_of f wide t).answer ≡ Wrong Unlisted 0
+      → judged_in (word_of f wide t) ≡ judged_wrong Unlisted 0
   unlisted t long digits none = rw (le-leb (word_size wide) (length t) long, digits, none)
 
   kept_digit : (s : List ℕ) (n c : ℕ) → is_digit c ≡ true → take n (c ∷ 48 ∷ 46 ∷ replicate (5 + width wide) 46) ≡ take n s → KeptWord f wide s Index n
@@ -142,7 +141,7 @@ module _ (f : Family) (wide : Bool) where
   first_digit : (s : List ℕ) → word_size wide ≤ length s → (p : Bool) → is_digit (pos 1 s) ≡ p → p && is_digit (pos 2 s) ≡ false
       → First f wide s Index (cond p 1 0)
   first_digit s long true one two =
-      let again : (t : List ℕ) → word_size wide ≤ length t → take 2 t ≡ take 2 s → (word_of f wide t).answer ≡ Wrong Index 1 =
+      let again : (t : List ℕ) → word_size wide ≤ length t → take 2 t ≡ take 2 s → judged_in (word_of f wide t) ≡ judged_wrong Index 1 =
       λ t h e. let a = same_byte 2 0 s t e (omega arith) in let b = same_byte 2 1 s t e (omega arith) in
       rw (le-leb (word_size wide) (length t) h, a, b, one, two) in
       record {
@@ -151,11 +150,11 @@ module _ (f : Family) (wide : Bool) where
         never = λ t e. never_by f wide t Index 1 (λ h. again t h e);
       }
   first_digit s long false one two =
-      let again : (t : List ℕ) → word_size wide ≤ length t → take 1 t ≡ take 1 s → (word_of f wide t).answer ≡ Wrong Index 0 =
+      let again : (t : List ℕ) → word_size wide ≤ length t → take 1 t ≡ take 1 s → judged_in (word_of f wide t) ≡ judged_wrong Index 0 =
       λ t h e. let a = same_byte 1 0 s t e (omega arith) in rw (le-leb (word_size wide) (length t) h, a, one) in
       record { kept = kept_digit s 0 48 refl refl; again = again; never = λ t e. never_by f wide t Index 0 (λ h. again t h e) }
 
-pub first_breaks : (f : Family) (wide : Bool) (s : List ℕ) (x : Fault) (at : ℕ) → (word_of f wide s).answer ≡ Wrong x at
+pub first_breaks : (f : Family) (wide : Bool) (s : List ℕ) (x : Fault) (at : ℕ) → judged_in (word_of f wide s) ≡ judged_wrong x at
     → 5 ≤ fault_number x → fault_number x ≤ 9 → First f wide s x at
 first_breaks f wide s x at e low high =
     let (long, told) = past x at (leb (word_size wide) (length s)) Short _ _ (λ z. omega arith) e in
@@ -166,7 +165,7 @@ first_breaks f wide s x at e low high =
     let on = again f wide s x at r in
     record { kept = kept f wide s x at r; again = on; never = λ t same. never_by f wide t x at (λ h. on t h same) })
     (λ q.
-    let five : (faulty Index (first_other (pos 1 s))).answer ≡ Wrong x at = rw q at told in
-    let is : Index ≡ x = cc in
-    let place : first_other (pos 1 s) ≡ at = cc in
+    let five : judged_in (faulty Index (first_other (pos 1 s))) ≡ judged_wrong x at = rw q at told in
+    let is : Index ≡ x = ap fault_in five in
+    let place : first_other (pos 1 s) ≡ at = ap told_at five in
     rw (← is, ← place) (first_digit f wide s whole (is_digit (pos 1 s)) refl q))

@@ -7,13 +7,12 @@ use Rattle.figures.specs.Bytes.{among, every, run_of}
 use Rattle.figures.specs.Text.{codes}
 use Rattle.units.specs.declared.kinds.Family.{Family}
 use Rattle.units.specs.declared.kinds.Family.TheVariants.{Station, Level}
-use Rattle.words.specs.Reading.{word_of}
+use Rattle.words.specs.Reading.{word_of, judged_wrong, judged_in}
 use Rattle.words.specs.declared.reading.Fault.{Fault}
 use Rattle.words.specs.declared.reading.Fault.TheVariants.{Index, Information, Sign, Characters, Separator}
-use Rattle.words.specs.declared.reading.Judged.TheVariants.{Wrong}
 
 abbrev Tells : Family → String → Fault → ℕ → Type 0
-Tells f text x at = (word_of f false (codes text)).answer ≡ Wrong x at
+Tells f text x at = judged_in (word_of f false (codes text)) ≡ judged_wrong x at
 
 pub ones : Tells Station "8A..10+00005320 " Index 1
 ones = refl

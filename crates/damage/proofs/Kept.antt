@@ -15,10 +15,9 @@ use Rattle.units.specs.Information.{lead_of, sign_of}
 use Rattle.units.specs.declared.kinds.Family.{Family}
 use Rattle.units.specs.declared.kinds.Kind.{Kind}
 use Rattle.words.specs.Records.{width}
-use Rattle.words.specs.Reading.{fault_number, word_size, pos, data_in, data_tests, passing, value_in, is_counted, word_of}
+use Rattle.words.specs.Reading.{fault_number, word_size, pos, data_in, data_tests, passing, value_in, is_counted, word_of, judged_right, judged_wrong, judged_in}
 use Rattle.words.specs.declared.reading.Fault.{Fault}
 use Rattle.words.specs.declared.reading.Fault.TheVariants.{Value}
-use Rattle.words.specs.declared.reading.Judged.TheVariants.{Right, Wrong}
 use Rattle.words.proofs.Checks.{width_bounds}
 use Rattle.damage.specs.Breaks.{Survives, KeptWord}
 use Rattle.words.proofs.Letters.{passing_append}
@@ -74,7 +73,7 @@ module _ (n : ℕ) (x y : List ℕ) (h : n ≤ length x) where
   take_mixed : take n (mixed n x y) ≡ take n x
   take_mixed = take_at (take n x) (drop n y) n (length-take-le n x h)
 
-survives_by : (x : Fault) (counts : Bool) → (fault_number x < 8 → counts ≡ true) → Survives x (cond counts Right (Wrong Value 7))
+survives_by : (x : Fault) (counts : Bool) → (fault_number x < 8 → counts ≡ true) → Survives x (cond counts judged_right (judged_wrong Value 7))
 survives_by x true h = tt
 survives_by x false h = by_test (leb 8 (fault_number x)) (λ q. rw q) (λ q. absurd (false≢true (h (leb-false 8 (fault_number x) q))))
 
@@ -101,7 +100,7 @@ module _ (f : Family) (wide : Bool) (s : List ℕ) (whole : word_size wide ≤ l
       let long : length other ≡ word_size wide = omega (arith, mixed_length n (drop 2 s) fill far (omega arith)) in
       let all : passing (tests_in f wide other) tail ≡ 6 + w =
       rw third (passing_on (tests_by f wide t o c) n (drop 2 s) fill before (fill_passes f wide t o c right) ∙ all_length f wide t o c) in
-      let end : (word_of f wide other).answer ≡ cond (is_counted (value_in f wide other)) Right (Wrong Value 7) =
+      let end : judged_in (word_of f wide other) ≡ cond (is_counted (value_in f wide other)) judged_right (judged_wrong Value 7) =
       word_told f wide other (omega arith) digits (rw third listed) ∙ rw (all, le-ltb (6 + w) (6 + w) (omega arith)) in
       let counts : fault_number x < 8 → is_counted (value_in f wide other) ≡ true =
       λ q.

@@ -8,15 +8,14 @@ use native.Mathlib.Omega.{arith}
 use borrow.Author.Tests.{leb-true, leb-false}
 use lib.Dec.{eqb, leb}
 use lib.ListN.{length, take, drop, length-take}
+use Rattle.std.specs.Prelude.{Ok, Err}
 use Rattle.units.specs.declared.kinds.Family.{Family}
-use Rattle.words.specs.Reading.{fault_number, word_size}
+use Rattle.words.specs.Reading.{fault_number, word_size, judged_in}
 use Rattle.words.specs.declared.reading.Fault.{Fault}
-use Rattle.words.specs.declared.reading.OneWord.{OneWord}
 use Rattle.blocks.specs.Judging.{is_at, is_wide, judged}
 use Rattle.blocks.specs.Rules.{read_as, word_start}
 use Rattle.blocks.specs.declared.answers.Refusal.TheVariants.{Wrong}
 use Rattle.blocks.specs.declared.answers.Reading.{Reading}
-use Rattle.blocks.specs.declared.answers.Answer.TheVariants.{Refused, Read}
 use Rattle.blocks.proofs.Steps.{is_in, is_inside}
 use Rattle.blocks.proofs.Accepted.{accepted}
 use Rattle.blocks.proofs.Typed.{block_words, block_ends}
@@ -38,9 +37,9 @@ same_word s t p byte same inside =
     sym (take_later p (suc byte) t (omega arith)) ∙ ap (drop p) (rw all at same) ∙ take_later p (suc byte) s (omega arith)
 
 -- words of an accepted block are right, so that one has the bytes told only after its CR; and where that stands the refused one goes on
-pub block_never : (f : Family) (s : List ℕ) (places : ℕ) (x : Fault) (at : ℕ) → (judged f s places).answer ≡ Refused (Wrong x at)
+pub block_never : (f : Family) (s : List ℕ) (places : ℕ) (x : Fault) (at : ℕ) → (judged f s places).answer ≡ Err (Wrong x at)
     → 5 ≤ fault_number x → fault_number x ≤ 9
-    → (t : List ℕ) → take (suc at) t ≡ take (suc at) s → (more : ℕ) (r : Reading) → (judged f t more).answer ≡ Read r → ⊥
+    → (t : List ℕ) → take (suc at) t ≡ take (suc at) s → (more : ℕ) (r : Reading) → (judged f t more).answer ≡ Ok r → ⊥
 block_never f s places x at is low high t same more r e =
     let wide = is_wide s in
     let (own, first) = block_breaks f s places x at is low high in
@@ -56,7 +55,7 @@ block_never f s places x at is low high t same more r e =
     false≢true (sym (own.unended n h) ∙ same_end s t (suc at) (word_start wide n) same (omega (arith, own.told)) end) in
     let goes : k < n → ⊥ = λ h.
     let start : k * word_size wide ≤ n * word_size wide = mul-le-mul_right (word_size wide) (omega arith) in
-    let right = ap (λ (o : OneWord). o.answer) (rw width at (block_words f t more r ws read k h)) in
+    let right = ap judged_in (rw width at (block_words f t more r ws read k h)) in
     first.never (drop (word_start wide k) t) (same_word s t (word_start wide k) own.byte (rw own.told at same) (omega arith)) right in
     either (leb n k) refl ends goes
   where

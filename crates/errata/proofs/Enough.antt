@@ -3,12 +3,12 @@ use Prim.Native.Nat.{ℕ}
 use mathlib.Core.Path.{◌≡◌, refl, ap, ◌∙◌}
 use mathlib.Core.List.{List, [], ◌∷◌}
 use lib.ListN.{take}
+use Rattle.std.specs.Prelude.{Ok, Err}
 use Rattle.figures.specs.Text.{lf}
 use Rattle.figures.specs.Bytes.{run_of, is_other}
 use Rattle.units.specs.declared.kinds.Family.{Family}
 use Rattle.blocks.specs.Judging.{judged}
-use Rattle.blocks.specs.declared.answers.Answer.{Answer}
-use Rattle.blocks.specs.declared.answers.Answer.TheVariants as read
+use Rattle.blocks.specs.Judging.{Answer}
 use Rattle.listings.specs.Mending.{Mending, mended}
 use Rattle.listings.specs.declared.edits.Edit.{Edit}
 use Rattle.listings.proofs.Enough.{mended_enough}
@@ -29,8 +29,8 @@ lines_enough number s [] = refl
 lines_enough number s (e ∷ es) = rw (shown_enough s)
 
 answer_enough : (number : ℕ) (s : List ℕ) (a : Answer) (m : Mending) → told_by a number (take 800 s) m ≡ told_by a number s m
-answer_enough number s (read.Refused r) m = refl
-answer_enough number s (read.Read k) m = lines_enough number s m.edits
+answer_enough number s (Err r) m = refl
+answer_enough number s (Ok k) m = lines_enough number s m.edits
 
 pub told_enough : (f : Family) (number : ℕ) (s : List ℕ) → told_of f number (take 800 s) ≡ told_of f number s
 told_enough f number s =

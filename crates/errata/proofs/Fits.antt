@@ -7,14 +7,14 @@ use native.Mathlib.Omega.{arith}
 use borrow.Author.Tests.{ltb-false}
 use lib.Dec.{eqb, ltb}
 use lib.ListN.{length, replicate, length-append, length-map, length-take, length-replicate}
+use Rattle.std.specs.Prelude.{Ok, Err}
 use Rattle.figures.specs.Text.{codes, byte}
 use Rattle.figures.specs.Pointing.{caret_text}
 use Rattle.figures.proofs.Decimal.{digits_length}
 use Rattle.figures.proofs.Places.{digits_most}
 use Rattle.units.specs.declared.kinds.Family.{Family}
 use Rattle.blocks.specs.Answers.{refusal_tells}
-use Rattle.blocks.specs.declared.answers.Answer.{Answer}
-use Rattle.blocks.specs.declared.answers.Answer.TheVariants as read
+use Rattle.blocks.specs.Judging.{Answer}
 use Rattle.blocks.proofs.Steps.{cond_by}
 use Rattle.listings.specs.Edits.{dot_kind, blank_kind}
 use Rattle.listings.specs.Mending.{Mending, mended}
@@ -78,7 +78,7 @@ mended_short number line (e ∷ es) to h k o =
     )
 
 told_short : (f : Family) (number : ℕ) (line : List ℕ) (a : Answer) → answer_of f line ≡ a → length (told_by a number line (mended line)) ≤ 3800
-told_short f number line (read.Refused r) e =
+told_short f number line (Err r) e =
     let place = refusal_tells r in
     let bytes = (mended line).bytes in
     let near = told_near f bytes r e in
@@ -92,15 +92,15 @@ told_short f number line (read.Refused r) e =
       refusal_short r,
       shown_short bytes,
     )
-told_short f number line (read.Read k) e =
+told_short f number line (Ok k) e =
     mended_short number line (mended line).edits (taken (mended line)) (mended_few line) (omega (arith, mended_most line)) (in_order line)
 
 pub told_fits : (f : Family) (number : ℕ) (line : List ℕ) → length (told_of f number line) ≤ 3800
 told_fits f number line = told_short f number line (answer_of f line) refl
 
 block_short : (a : Answer) (m : Mending) → length m.bytes ≤ 771 → length (block_by a m) ≤ 771
-block_short (read.Refused r) m h = omega arith
-block_short (read.Read k) m h = h
+block_short (Err r) m h = omega arith
+block_short (Ok k) m h = h
 
 pub block_fits : (f : Family) (line : List ℕ) → length (block_of f line) ≤ 771
 block_fits f line = block_short (answer_of f line) (mended line) (mended_most line)

@@ -1,6 +1,5 @@
 pub mod Edits
 pub mod Carets
-pub mod Places
 pub mod Telling
 pub mod Enough
 pub mod Example

@@ -1,6 +1,6 @@
 -- What the program mend tells of a line of a listing (request 105): each edit, with carets under their places in the line, or the refusal, with a caret under
 -- its place in the mended text. Of a line that reads as it is nothing is told.
-use Rattle.std.specs.Prelude.{ℕ, ◌+◌, ◌-◌, ◌≡◌, cond, List, [], ◌∷◌, ◌++◌, map, eqb, ltb, take, replicate}
+use Rattle.std.specs.Prelude.{ℕ, ◌+◌, ◌-◌, ◌≡◌, cond, List, [], ◌∷◌, ◌++◌, map, eqb, ltb, take, replicate, Ok, Err}
 use Rattle.figures.specs.Text.{codes, byte, lf}
 use Rattle.figures.specs.Bytes.{run_of, is_other}
 use Rattle.figures.specs.Pointing.{shown, caret_text}
@@ -8,8 +8,7 @@ use Rattle.figures.specs.Rooms.{Puts}
 use Rattle.units.specs.declared.kinds.Family.{Family}
 use Rattle.blocks.specs.Answers.{refusal_tells}
 use Rattle.blocks.specs.Judging.{judged}
-use Rattle.blocks.specs.declared.answers.Answer.{Answer}
-use Rattle.blocks.specs.declared.answers.Answer.TheVariants as read
+use Rattle.blocks.specs.Judging.{Answer}
 use Rattle.listings.specs.Edits.{dot_kind, blank_kind}
 use Rattle.listings.specs.Mending.{Mending, mended}
 use Rattle.listings.specs.declared.edits.Edit.{Edit}
@@ -54,20 +53,20 @@ mended_text number line (e ∷ es) = edits_text number (e ∷ es) ++ (shown_text
 
 -- by what the reader answers of the mended bytes: the block that comes of a line, none where it is refused
 abbrev pub block_by : Answer → Mending → List ℕ
-block_by (read.Refused r) m = []
-block_by (read.Read k) m = m.bytes
+block_by (Err r) m = []
+block_by (Ok k) m = m.bytes
 
 abbrev pub told_by : Answer → ℕ → List ℕ → Mending → List ℕ
-told_by (read.Refused r) number line m = head_text number ++ (refusal_text r ++ (shown_text m.bytes ++ caret_text (refusal_tells r)))
-told_by (read.Read k) number line m = mended_text number line m.edits
+told_by (Err r) number line m = head_text number ++ (refusal_text r ++ (shown_text m.bytes ++ caret_text (refusal_tells r)))
+told_by (Ok k) number line m = mended_text number line m.edits
 
 abbrev pub by_edits : List Edit → Fate
 by_edits [] = Unchanged
 by_edits (e ∷ es) = Mended
 
 abbrev pub fate_by : Answer → Mending → Fate
-fate_by (read.Refused r) m = Refused
-fate_by (read.Read k) m = by_edits m.edits
+fate_by (Err r) m = Refused
+fate_by (Ok k) m = by_edits m.edits
 
 abbrev pub answer_of : Family → List ℕ → Answer
 answer_of f line = (judged f (mended line).bytes 32).answer

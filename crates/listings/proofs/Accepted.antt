@@ -5,26 +5,25 @@ use mathlib.Core.List.{List}
 use mathlib.Core.Logic.{◌↔◌}
 use lib.ListN.{length, take, drop}
 use lib.Seq.{length-take-le, take_at, drop_at}
+use Rattle.std.proofs.Common.{Result, Err, Ok}
 use Rattle.figures.proofs.Bytes.{laid_fits}
 use Rattle.units.specs.declared.kinds.Family.{Family}
 use Rattle.blocks.specs.Judging.{judged}
 use Rattle.blocks.specs.declared.answers.Refusal.{Refusal}
 use Rattle.blocks.specs.declared.answers.Refusal.TheVariants.{Room, NoPlace}
 use Rattle.blocks.specs.declared.answers.Reading.{Reading}
-use Rattle.blocks.specs.declared.answers.Answer.TheVariants as read
 use Rattle.blocks.proofs.Accepted.{accepted}
 use Rattle.blocks.proofs.Exactly.{IsRead}
 use Rattle.listings.specs.declared.edits.Edit.{Edit}
 use Rattle.listings.specs.declared.mending.Mended.{Mended}
-use Rattle.listings.specs.declared.mending.Mended.TheVariants.{Refused, Done}
 use Rattle.listings.specs.Mending.{Mending, mended}
-use Rattle.listings.specs.Outcome.{Outcome, listed, Mends}
+use Rattle.listings.specs.Outcome.{mended_as, Outcome, listed, Mends}
 use Rattle.listings.proofs.Outcomes.{done_by, fits_done, refused_read, refused_room, refused_list, refused_as}
 use Rattle.listings.proofs.Unchanged.{unchanged}
 use Rattle.listings.proofs.Twice.{twice}
 
 -- mended bytes that read are all of the block: nothing follows its terminator
-pub reads_all : (f : Family) (s : List ℕ) (places : ℕ) (r : Reading) → (judged f (mended s).bytes places).answer ≡ read.Read r
+pub reads_all : (f : Family) (s : List ℕ) (places : ℕ) (r : Reading) → (judged f (mended s).bytes places).answer ≡ Ok r
     → r.used ≡ length (mended s).bytes
 reads_all f s places r e =
     let m = (mended s).bytes in
@@ -36,7 +35,7 @@ reads_all f s places r e =
 -- what Done tells, and what stands in the room and in the list then
 pub record Accepted (f : Family) (s room : List ℕ) (list : List Edit) (n k : ℕ) (room' : List ℕ) (list' : List Edit) : Type 0 where
   pub reading : Reading
-  pub reads : (judged f (take n room') 32).answer ≡ read.Read reading
+  pub reads : (judged f (take n room') 32).answer ≡ Ok reading
   pub used : reading.used ≡ n
   pub bytes : take n room' ≡ (mended s).bytes
   pub edits : take k list' ≡ (mended s).edits
@@ -46,7 +45,7 @@ pub record Accepted (f : Family) (s room : List ℕ) (list : List Edit) (n k : �
   pub beyond_edits : drop k list' ≡ drop k list
 
 pub accepted_reads : (f : Family) (s room : List ℕ) (list : List Edit) (n k : ℕ) {room' : List ℕ} {list' : List Edit}
-    → Mends f s room list (Done n k) room' list' → Accepted f s room list n k room' list'
+    → Mends f s room list (mended_as n k) room' list' → Accepted f s room list n k room' list'
 accepted_reads f s room list n k {room'} {list'} (answer, (in-room, in_List)) =
     let m = mended s in
     let d = done_by (judged f m.bytes 32).answer m room (length list) n k (sym answer) in
@@ -69,7 +68,7 @@ accepted_reads f s room list n k {room'} {list'} (answer, (in-room, in_List)) =
 -- mending is accepted exactly where the mended bytes read and fit the room and the edits fit the list
 
 abbrev pub IsMended : Family → List ℕ → List ℕ → List Edit → Type 0
-IsMended f s room list = (n : ℕ) × (k : ℕ) × (room' : List ℕ) × (list' : List Edit) × Mends f s room list (Done n k) room' list'
+IsMended f s room list = (n : ℕ) × (k : ℕ) × (room' : List ℕ) × (list' : List Edit) × Mends f s room list (mended_as n k) room' list'
 
 abbrev pub Fits : Family → List ℕ → List ℕ → List Edit → Type 0
 Fits f s room list = IsRead f (mended s).bytes 32 × (length (mended s).bytes ≤ length room) × (length (mended s).edits ≤ length list)
@@ -86,20 +85,20 @@ accepted_exactly f s room list =
 
 -- "What can't be read afterwards is refused, nothing written."
 pub refused_leaves : (f : Family) (s room : List ℕ) (list : List Edit) (x : Refusal) {room' : List ℕ} {list' : List Edit}
-    → Mends f s room list (Refused x) room' list' → (room' ≡ room) × (list' ≡ list)
+    → Mends f s room list (Err x) room' list' → (room' ≡ room) × (list' ≡ list)
 refused_leaves f s room list x (answer, (in-room, in_List)) =
     let o = refused_as (judged f (mended s).bytes 32).answer (mended s) room (length list) x (sym answer) in
     (in-room ∙ ap (λ (o : Outcome). o.room) o, in_List ∙ ap (λ (o : Outcome). listed o.edits list) o)
 
 -- "Refusals: the reader's number, its place counted in the mended bytes; then 14; then 11 where the lent list is too short for the edits."
-module _ (f : Family) (s room : List ℕ) (list : List Edit) {a : Mended} {room' : List ℕ} {list' : List Edit} (is : Mends f s room list a room' list') where
-  pub refused_by_reader : (x : Refusal) → (judged f (mended s).bytes 32).answer ≡ read.Refused x → a ≡ Refused x
+module _ (f : Family) (s room : List ℕ) (list : List Edit) {a : Result Mended Refusal} {room' : List ℕ} {list' : List Edit} (is : Mends f s room list a room' list') where
+  pub refused_by_reader : (x : Refusal) → (judged f (mended s).bytes 32).answer ≡ Err x → a ≡ Err x
   refused_by_reader x e = is.0 ∙ ap (λ (o : Outcome). o.answer) (refused_read _ (mended s) room (length list) x e)
 
-  pub refused_by_room : (r : Reading) → (judged f (mended s).bytes 32).answer ≡ read.Read r → length room < length (mended s).bytes
-      → a ≡ Refused (Room (length (mended s).bytes))
+  pub refused_by_room : (r : Reading) → (judged f (mended s).bytes 32).answer ≡ Ok r → length room < length (mended s).bytes
+      → a ≡ Err (Room (length (mended s).bytes))
   refused_by_room r e short = is.0 ∙ ap (λ (o : Outcome). o.answer) (refused_room _ (mended s) room (length list) r e short)
 
-  pub refused_by_list : (r : Reading) → (judged f (mended s).bytes 32).answer ≡ read.Read r → length (mended s).bytes ≤ length room
-      → length list < length (mended s).edits → a ≡ Refused (NoPlace (length (mended s).edits))
+  pub refused_by_list : (r : Reading) → (judged f (mended s).bytes 32).answer ≡ Ok r → length (mended s).bytes ≤ length room
+      → length list < length (mended s).edits → a ≡ Err (NoPlace (length (mended s).edits))
   refused_by_list r e fits crowded = is.0 ∙ ap (λ (o : Outcome). o.answer) (refused_list _ (mended s) room (length list) r e fits crowded)

@@ -9,13 +9,13 @@ use borrow.Author.Tests.{le-ltb, ltb-true, ltb-false}
 use lib.Dec.{leb, ltb, eqb-suc-zero}
 use lib.ListN.{length, drop, length-append, length-drop}
 use lib.Seq.{drop_at}
+use Rattle.std.specs.Prelude.{Ok, Err}
 use Rattle.figures.specs.Text.{cr, star_bytes}
 use Rattle.figures.proofs.Tests.{by_test}
-use Rattle.words.specs.Reading.{word_size, word_of}
+use Rattle.words.specs.Reading.{word_size, Judged, judged_in, word_in, word_of}
 use Rattle.words.proofs.Places.{never_past}
 use Rattle.units.specs.declared.kinds.Family.{Family}
 use Rattle.words.specs.declared.records.Word.{Word}
-use Rattle.words.specs.declared.reading.Judged as one
 use Rattle.blocks.specs.Judging.{Judgement, is_at, is_wide, first_at, refused_by, after_word, block_from, judged}
 use Rattle.blocks.specs.declared.answers.Refusal.{Refusal}
 use Rattle.blocks.specs.declared.answers.Refusal.TheVariants.{Wrong, NoEnd, NoPlace}
@@ -47,13 +47,13 @@ word_before f more wide w t t' size unended later places at ws =
       drop_at w t (word_size wide) size,
       drop_at w t' (word_size wide) size,
     )
-    (by (leb places (length ws)) (word_of f wide w).answer (later places (at + word_size wide) (ws ++ ((word_of f wide w).word ∷ []))))
+    (by (leb places (length ws)) (judged_in (word_of f wide w)) (later places (at + word_size wide) (ws ++ (word_in (word_of f wide w) ∷ []))))
   where
-    by : {j j' : Judgement} (full : Bool) (a : one.Judged) → Alike j j'
+    by : {j j' : Judgement} (full : Bool) (a : Judged) → Alike j j'
         → Alike (cond full (refused_by (NoPlace at)) (after_word at a j)) (cond full (refused_by (NoPlace at)) (after_word at a j'))
     by true a next = (NoPlace at, refl, refl)
-    by false one.Judged.Right next = next
-    by false (one.Judged.Wrong fault byte) next = (Wrong fault (at + byte), refl, refl)
+    by false (Ok u) next = next
+    by false (Err e) next = (Wrong e.fault (at + e.at), refl, refl)
 
 -- where no end is next the walk starts as the input does
 starts : (wide : Bool) (at x : ℕ) (rest : List ℕ) → is_end (x ∷ rest) ≡ false → (more : ℕ)

@@ -8,6 +8,7 @@ use borrow.Author.Tests.{ltb-true, ltb-false}
 use lib.Dec.{ltb}
 use lib.ListN.{length, take, drop, length-append, take-append-drop}
 use lib.Seq.{length-take-le, take_at, drop_at, take-add}
+use Rattle.std.specs.Prelude.{Ok}
 use Rattle.figures.specs.Text.{cr, lf, end_bytes, star_bytes}
 use Rattle.figures.proofs.Tests.{by_test}
 use Rattle.words.specs.Records.{width}
@@ -15,7 +16,6 @@ use Rattle.words.specs.Reading.{word_size}
 use Rattle.units.specs.declared.kinds.Family.{Family}
 use Rattle.words.specs.declared.records.Word.{Word}
 use Rattle.blocks.specs.Judging.{is_at, is_wide, first_at, block_from, judged}
-use Rattle.blocks.specs.declared.answers.Answer.TheVariants.{Read}
 use Rattle.blocks.specs.declared.answers.Reading.{Reading}
 use Rattle.blocks.proofs.Rooms.{star_length}
 use Rattle.listings.specs.Edits.{cr_kind}
@@ -103,7 +103,7 @@ ends_so more wide at rest r own left m whole some end is counts past =
 
 -- the mended bytes that are read begin with a terminator: a CR LF, a CR, or an LF that gets its CR
 ended_on : (f : Family) (more : ℕ) (wide : Bool) (places at at' : ℕ) (rest : List ℕ) (ws : List Word) (r : Reading) → is_end rest ≡ true
-    → (block_from f more wide places at' (mended_from more wide at rest).bytes ws).answer ≡ Read r → On more wide at rest r
+    → (block_from f more wide places at' (mended_from more wide at rest).bytes ws).answer ≡ Ok r → On more wide at rest r
 ended_on f more wide places at at' rest ws r q e =
     by_test (is_at cr rest) (λ c.
     by_test (is_at lf (drop 1 rest)) (λ l.
@@ -120,9 +120,9 @@ ended_on f more wide places at at' rest ws r q e =
 
 -- or with a word, which is there whole with a byte or an end in its blank's place: a shorter one is refused
 goes_on : (f : Family) (more : ℕ) (wide : Bool) (places at at' x : ℕ) (l : List ℕ) (ws : List Word) (r : Reading) → is_end (x ∷ l) ≡ false
-    → ((at at' : ℕ) (rest : List ℕ) (ws : List Word) → (block_from f more wide places at' (mended_from more wide at rest).bytes ws).answer ≡ Read r
+    → ((at at' : ℕ) (rest : List ℕ) (ws : List Word) → (block_from f more wide places at' (mended_from more wide at rest).bytes ws).answer ≡ Ok r
     → On more wide at rest r)
-    → (block_from f (suc more) wide places at' (mended_from (suc more) wide at (x ∷ l)).bytes ws).answer ≡ Read r → On (suc more) wide at (x ∷ l) r
+    → (block_from f (suc more) wide places at' (mended_from (suc more) wide at (x ∷ l)).bytes ws).answer ≡ Ok r → On (suc more) wide at (x ∷ l) r
 goes_on f more wide places at at' x l ws r unended later e =
     let rest = x ∷ l in
     let size = word_taken wide rest in
@@ -139,7 +139,7 @@ goes_on f more wide places at at' x l ws r unended later e =
     absurd (omega (arith, w.long, ap length all, word_most wide at rest)))
 
 from_on : (f : Family) (more : ℕ) (wide : Bool) (places at at' : ℕ) (rest : List ℕ) (ws : List Word) (r : Reading)
-    → (block_from f more wide places at' (mended_from more wide at rest).bytes ws).answer ≡ Read r → On more wide at rest r
+    → (block_from f more wide places at' (mended_from more wide at rest).bytes ws).answer ≡ Ok r → On more wide at rest r
 from_on f zero wide places at at' rest ws r e =
     by_test (is_end rest) (λ q. ended_on f zero wide places at at' rest ws r q e)
     (λ q. absurd (read_none f wide places at' [] ws r refl (rw (over 0 wide at rest refl, no_end at rest q) at e)))
@@ -155,7 +155,7 @@ after_star : (s : List ℕ) → drop (first_at (is_wide s)) (mended s).bytes ≡
 unfolding mended
 after_star s = drop_at (star_bytes (is_wide s)) _ (first_at (is_wide s)) (star_length (is_wide s))
 
-block_on : (f : Family) (s : List ℕ) (places : ℕ) (r : Reading) → (judged f (mended s).bytes places).answer ≡ Read r
+block_on : (f : Family) (s : List ℕ) (places : ℕ) (r : Reading) → (judged f (mended s).bytes places).answer ≡ Ok r
     → On 32 (is_wide s) (first_at (is_wide s)) (drop (first_at (is_wide s)) s) r
 block_on f s places r e =
     from_on f 32 (is_wide s) places (first_at (is_wide s)) _ (drop (first_at (is_wide s)) s) _ r
@@ -178,7 +178,7 @@ wide_taken [] after n h some = absurd (omega arith)
 wide_taken (x ∷ s) after zero h some = absurd (omega arith)
 wide_taken (x ∷ s) after (suc n) h some = refl
 
-pub never_looks_past : (f : Family) (s : List ℕ) (places : ℕ) (r : Reading) (more : List ℕ) → (judged f (mended s).bytes places).answer ≡ Read r
+pub never_looks_past : (f : Family) (s : List ℕ) (places : ℕ) (r : Reading) (more : List ℕ) → (judged f (mended s).bytes places).answer ≡ Ok r
     → (r.crlf ≡ false → is_at lf more ≡ false) → mended (take (taken (mended s)) s ++ more) ≡ mended s
 never_looks_past f s places r more e apart =
     let first = first_at (is_wide s) in

@@ -1,15 +1,14 @@
 -- What the walk's tests say of the bytes where they look, and that they look at no others.
 use Prim.Native.Nat.{ℕ, suc, ◌+◌, ◌-◌, ◌<◌, ◌≤◌, min}
 use mathlib.Core.Path.{◌≡◌, refl, sym, ap, ◌∙◌}
-use mathlib.Core.Bool.{Bool, true, false, ◌&&◌, ◌||◌, and-false, false≢true}
+use mathlib.Core.Bool.{Bool, true, false, ◌&&◌, and-false, false≢true}
 use mathlib.Core.List.{List, [], ◌∷◌, ◌++◌}
 use mathlib.Core.Logic.{◌⊎◌, inl, inr, ⊎_elim}
-use native.Mathlib.Nat.{add-zero}
 use native.Mathlib.Omega.{arith}
 use borrow.Author.Tests.{eqb-true, ltb-true, ltb-false, leb-true, leb-false, ne_eqb}
 use lib.Dec.{eqb, leb, ltb}
 use lib.ListN.{length, get_or, take, drop, length-drop, get_or-append, get_or-eq_default}
-use lib.Seq.{get_or-drop, get_or-take, take_all}
+use lib.Seq.{get_or-take, take_all}
 use Rattle.figures.specs.Text.{byte, cr, lf, end_bytes, star_bytes}
 use Rattle.figures.specs.Bytes.{within}
 use Rattle.figures.proofs.Tests.{both, by_test}
@@ -30,9 +29,6 @@ pub is_byte : (b : ℕ) (s : List ℕ) (at : ℕ) → 0 < b → is_at b (drop at
 is_byte b s at h =
     by_test (ltb at (length s)) (λ e. is_in b s at (ltb-true at (length s) e))
     (λ e. let past = ltb-false at (length s) e in is_past b s at past ∙ sym (rw (get_or-eq_default s 0 past) (ne_eqb 0 b (λ q. omega arith))))
-
-pub end_byte : (s : List ℕ) (at : ℕ) → is_end (drop at s) ≡ eqb (get_or s at 0) 13 || eqb (get_or s at 0) 10
-end_byte s at = rw (is_byte 13 s at (omega arith), is_byte 10 s at (omega arith))
 
 -- the next byte, whatever follows it
 
@@ -62,14 +58,6 @@ end_bytes_lem rest true e f = rw (at_is cr rest e, at_is lf (drop 1 rest) f)
 end_bytes_lem rest false e f = rw (at_is cr rest e)
 
 -- whether a dot is lacking: positions 1-6 tell it
-
-abbrev pub lacks_by : (b₁ b₂ b₃ b₄ b₅ b₆ : ℕ) → Bool
-lacks_by b₁ b₂ b₃ b₄ b₅ b₆ = (eqb b₁ 52 && within 50 57 b₂) && ((eqb b₃ 46 && (eqb b₄ 46 && eqb b₅ 46)) && eqb b₆ 43)
-
-pub lacks_bytes : (s : List ℕ) (at : ℕ)
-    → lacks_dot (drop at s) ≡ lacks_by (get_or s at 0) (get_or s (at + 1) 0) (get_or s (at + 2) 0) (get_or s (at + 3) 0) (get_or s (at + 4) 0) (get_or s (at + 5) 0)
-lacks_bytes s at =
-    rw (get_or-drop at s 0 0, get_or-drop at s 1 0, get_or-drop at s 2 0, get_or-drop at s 3 0, get_or-drop at s 4 0, get_or-drop at s 5 0, add-zero at)
 
 lacks_same : (s t : List ℕ) → ((i : ℕ) → i < 6 → get_or s i 0 ≡ get_or t i 0) → lacks_dot s ≡ lacks_dot t
 lacks_same s t e = rw (e 0 (omega arith), e 1 (omega arith), e 2 (omega arith), e 3 (omega arith), e 4 (omega arith), e 5 (omega arith))

@@ -9,7 +9,7 @@ use borrow.Author.Tests.{lt-ltb, not-false}
 use lib.Dec.{ltb}
 use lib.ListN.{length, take, drop, length-append, length-take, length-drop, drop_of_length-le}
 use lib.Seq.{take-add, take_all, take_at, drop_at, take-append-le, drop-append-le, length-take-le, get_or_at}
-use Rattle.figures.specs.Text.{codes, cr, lf, end_bytes}
+use Rattle.figures.specs.Text.{cr, lf, end_bytes}
 use Rattle.figures.proofs.Tests.{by_test}
 use Rattle.words.specs.Records.{width}
 use Rattle.words.specs.Reading.{word_size}
@@ -22,23 +22,14 @@ use Rattle.listings.specs.Mending.{end_mended, to_next, mended_from}
 use Rattle.listings.specs.Keeping.{one_if}
 use Rattle.listings.proofs.Seen.{at_on, ends_on, end_first, lacks_on, lacks_taken, lacks_long, no_plus, no_return}
 
--- what stands in a blank's place, and what ends a block, by what is found there
+-- the bytes in a blank's place and at a block's end are the same at any place
 
 module _ (at : ℕ) (rest : List ℕ) where
-  pub blank_put : is_end rest ≡ true → (blank_mended at rest).bytes ≡ codes " "
-  blank_put e = rw e
+  pub blank_any : (blank_mended at rest).bytes ≡ (blank_mended 0 rest).bytes
+  blank_any = by_test (is_end rest) (λ e. rw e) (λ e. rw e)
 
-  pub blank_kept : is_end rest ≡ false → (blank_mended at rest).bytes ≡ take 1 rest
-  blank_kept e = rw e
-
-  pub end_kept : is_at cr rest ≡ true → (end_mended at rest).bytes ≡ end_bytes (is_at lf (drop 1 rest))
-  end_kept e = rw e
-
-  pub end_put : is_at cr rest ≡ false → is_at lf rest ≡ true → (end_mended at rest).bytes ≡ codes "\r\n"
-  end_put e f = rw (e, f)
-
-  pub end_none : is_at cr rest ≡ false → is_at lf rest ≡ false → (end_mended at rest).bytes ≡ []
-  end_none e f = rw (e, f)
+  pub end_any : (end_mended at rest).bytes ≡ (end_mended 0 rest).bytes
+  end_any = by_test (is_at cr rest) (λ e. rw e) (λ e. by_test (is_at lf rest) (λ l. rw (e, l)) (λ l. rw (e, l)))
 
 -- a CR LF, a CR, an LF that gets its CR, or none
 pub end_cases : (P : Mending → Type 0) (at : ℕ) (rest : List ℕ) → (is_at cr rest ≡ true → is_at lf (drop 1 rest) ≡ true → P (copied (end_bytes true)))

@@ -13,8 +13,7 @@ use Rattle.figures.specs.Bytes.{laid}
 use Rattle.units.specs.declared.kinds.Family.{Family}
 use Rattle.blocks.specs.Judging.{is_wide, judged}
 use Rattle.listings.specs.Mending.{Mending, copied, lacks_dot, word_taken, is_end, end_mended, to_next, mended_from, mended}
-use Rattle.listings.specs.declared.mending.Mended.TheVariants.{Done}
-use Rattle.listings.specs.Outcome.{outcome_by, outcome}
+use Rattle.listings.specs.Outcome.{mended_as, outcome_by, outcome}
 use Rattle.listings.proofs.Outcomes.{done_by, fits_done}
 use Rattle.listings.proofs.Seen.{end_first, lacks_on}
 use Rattle.listings.proofs.Turns.{end_cases, at_end, nothing_left, goes, word, word_dots, word_most, word_long, word_first, word_starts}
@@ -71,9 +70,9 @@ twice s =
     by_test (is_wide s) (λ e. rw (e, again 32 true (drop 1 s) 1 1)) (λ e. rw (e, narrow_kept 31 s e, again 32 false s 0 0))
 
 -- what was mended is mended to itself, with no edits, in whatever room it fits and with no place lent
-pub twice_done : (f : Family) (s room : List ℕ) (places n k : ℕ) → (outcome f s room places).answer ≡ Done n k → (room₂ : List ℕ) (places₂ : ℕ)
+pub twice_done : (f : Family) (s room : List ℕ) (places n k : ℕ) → (outcome f s room places).answer ≡ mended_as n k → (room₂ : List ℕ) (places₂ : ℕ)
     → n ≤ length room₂
-    → outcome f (mended s).bytes room₂ places₂ ≡ record { answer = Done n 0; room = laid (mended s).bytes room₂; edits = [] }
+    → outcome f (mended s).bytes room₂ places₂ ≡ record { answer = mended_as n 0; room = laid (mended s).bytes room₂; edits = [] }
 twice_done f s room places n k e room₂ places₂ fits =
     let d = done_by (judged f (mended s).bytes 32).answer (mended s) room places n k e in
     ap (λ (m : Mending). outcome_by (judged f m.bytes 32).answer m room₂ places₂) (twice s)

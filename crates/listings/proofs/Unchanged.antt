@@ -8,6 +8,7 @@ use borrow.Author.Tests.{eqb-true, leb-true, ne_eqb}
 use lib.Dec.{eqb, leb}
 use lib.ListN.{length, get_or, take, drop}
 use lib.Seq.{take-add, length-take-le}
+use Rattle.std.specs.Prelude.{Ok}
 use Rattle.figures.specs.Text.{byte}
 use Rattle.figures.specs.Bytes.{among, laid}
 use Rattle.figures.specs.Decimal.{is_digit, are_digits}
@@ -21,21 +22,17 @@ use Rattle.units.specs.declared.kinds.Family.TheVariants.{Station, Level}
 use Rattle.units.specs.declared.kinds.Kind.{Kind}
 use Rattle.units.specs.declared.kinds.Kind.TheVariants as kind
 use Rattle.words.specs.Records.{width}
-use Rattle.words.specs.Reading.{word_size, pos, kind_at, index_in, lead_in, marks_in, data_in, data_right, unless, word_of}
+use Rattle.words.specs.Reading.{word_size, pos, kind_at, index_in, lead_in, marks_in, data_in, data_right, unless, OneWord, judged_right, judged_in, word_of}
 use Rattle.words.specs.declared.records.Word.{Word}
 use Rattle.words.specs.declared.reading.Fault.{Fault}
-use Rattle.words.specs.declared.reading.Judged as one
-use Rattle.words.specs.declared.reading.OneWord.{OneWord}
 use Rattle.blocks.specs.Judging.{Judgement, is_at, is_wide, first_at, block_from, judged}
 use Rattle.blocks.specs.declared.answers.Reading.{Reading}
-use Rattle.blocks.specs.declared.answers.Answer.TheVariants.{Read}
 use Rattle.blocks.specs.Rules.{Ruled}
 use Rattle.blocks.proofs.Accepted.{accepted}
 use Rattle.blocks.proofs.Exactly.{ruled_read}
 use Rattle.blocks.proofs.Steps.{cond_by, is_in}
 use Rattle.listings.specs.Mending.{Mending, copied, lacks_dot, is_end, mended_from, mended}
-use Rattle.listings.specs.declared.mending.Mended.TheVariants.{Done}
-use Rattle.listings.specs.Outcome.{outcome_by, outcome}
+use Rattle.listings.specs.Outcome.{mended_as, outcome_by, outcome}
 use Rattle.listings.proofs.Outcomes.{fits_done}
 use Rattle.listings.proofs.Reader.{judged_reads, read_end, read_none, read_word}
 use Rattle.listings.proofs.Seen.{no_plus, end_bytes_lem, star_taken}
@@ -43,7 +40,7 @@ use Rattle.listings.proofs.Turns.{at_end, plain}
 
 -- a word that is right: it has its bytes, starts with two digits, has no `+` at position 6, and a blank in its place
 
-through : (b : Bool) (x : Fault) (at : ℕ) (o : OneWord) → (unless b x at o).answer ≡ one.Judged.Right → (b ≡ true) × (o.answer ≡ one.Judged.Right)
+through : (b : Bool) (x : Fault) (at : ℕ) (o : OneWord) → judged_in (unless b x at o) ≡ judged_right → (b ≡ true) × (judged_in o ≡ judged_right)
 through true x at o e = (refl, e)
 through false x at o e = absurd (clash (cc))
 
@@ -75,7 +72,7 @@ right_unit f i k a b c d e =
     let wrong : (info_marks f i k a b c d).3 ≡ false = rw (eqb-true d 43 q) (no_plus_unit f i k a b c) in
     absurd (false≢true (rw (wrong, and-false, and-false, and-false) at e))) (λ q. q)
 
-module _ (f : Family) (wide : Bool) (t : List ℕ) (right : (word_of f wide t).answer ≡ one.Judged.Right) where
+module _ (f : Family) (wide : Bool) (t : List ℕ) (right : judged_in (word_of f wide t) ≡ judged_right) where
   sized : (word_size wide ≤ length t) × (are_digits (pos 1 t) (pos 2 t) ≡ true) × (all_right (marks_in f t) ≡ true) × (get_or t (7 + width wide) 0 ≡ 32)
   sized =
       let long = through (leb (word_size wide) (length t)) _ _ _ right in
@@ -116,7 +113,7 @@ record Same (more : ℕ) (wide : Bool) (at : ℕ) (rest : List ℕ) (r : Reading
   same : mended_from more wide at rest ≡ copied (take size rest)
 
 same_end : (f : Family) (more : ℕ) (wide : Bool) (places at : ℕ) (rest : List ℕ) (ws : List Word) (r : Reading)
-    → (block_from f more wide places at rest ws).answer ≡ Read r → is_at 13 rest ≡ true → Same more wide at rest r
+    → (block_from f more wide places at rest ws).answer ≡ Ok r → is_at 13 rest ≡ true → Same more wide at rest r
 same_end f more wide places at rest ws r e q =
     by (is_at 10 (drop 1 rest)) refl (ap (λ (r : Reading). r.used) (read_end f wide places at rest ws r more q e))
   where
@@ -125,7 +122,7 @@ same_end f more wide places at rest ws r e q =
     by false is used = record { size = 1; used = used; same = at_end more wide at rest (rw q) ∙ rw (q, is, end_bytes_lem rest false q is) }
 
 -- a right word, its blank, and then the same
-same_word : (f : Family) (more : ℕ) (wide : Bool) (at : ℕ) (rest : List ℕ) (r : Reading) → (word_of f wide rest).answer ≡ one.Judged.Right
+same_word : (f : Family) (more : ℕ) (wide : Bool) (at : ℕ) (rest : List ℕ) (r : Reading) → judged_in (word_of f wide rest) ≡ judged_right
     → Same more wide (at + word_size wide) (drop (word_size wide) rest) r → Same (suc more) wide at rest r
 same_word f more wide at rest r right on = record {
   size = word_size wide + on.size;
@@ -136,7 +133,7 @@ same_word f more wide at rest r right on = record {
 }
 
 from_same : (f : Family) (more : ℕ) (wide : Bool) (places at : ℕ) (rest : List ℕ) (ws : List Word) (r : Reading)
-    → (block_from f more wide places at rest ws).answer ≡ Read r → Same more wide at rest r
+    → (block_from f more wide places at rest ws).answer ≡ Ok r → Same more wide at rest r
 from_same f zero wide places at rest ws r e =
     by_test (is_at 13 rest) (same_end f zero wide places at rest ws r e) (λ q. absurd (read_none f wide places at rest ws r q e))
 from_same f (suc more) wide places at rest ws r e =
@@ -144,7 +141,7 @@ from_same f (suc more) wide places at rest ws r e =
     let w = read_word f wide places at rest ws r more q e in
     same_word f more wide at rest r w.right (from_same f more wide places (at + word_size wide) (drop (word_size wide) rest) _ r w.next))
 
-pub unchanged : (f : Family) (s : List ℕ) (places : ℕ) (r : Reading) → (judged f s places).answer ≡ Read r → mended s ≡ copied (take r.used s)
+pub unchanged : (f : Family) (s : List ℕ) (places : ℕ) (r : Reading) → (judged f s places).answer ≡ Ok r → mended s ≡ copied (take r.used s)
 unfolding mended
 unchanged f s places r e =
     let wide = is_wide s in
@@ -154,8 +151,8 @@ unchanged f s places r e =
     whole ∙ ap (λ n. copied (take n s)) (sym on.used)
 
 -- so it is accepted in whatever room it fits, and no place need be lent
-pub unchanged_done : (f : Family) (s room : List ℕ) (places : ℕ) (r : Reading) → (judged f s places).answer ≡ Read r → r.used ≤ length room → (places₂ : ℕ)
-    → outcome f s room places₂ ≡ record { answer = Done r.used 0; room = laid (take r.used s) room; edits = [] }
+pub unchanged_done : (f : Family) (s room : List ℕ) (places : ℕ) (r : Reading) → (judged f s places).answer ≡ Ok r → r.used ≤ length room → (places₂ : ℕ)
+    → outcome f s room places₂ ≡ record { answer = mended_as r.used 0; room = laid (take r.used s) room; edits = [] }
 unchanged_done f s room places r e fits places₂ =
     let ws = (judged f s places).words in
     let a = accepted f s places r ws (λ i. record { answer = e i; words = ws }) in

@@ -1,16 +1,16 @@
 -- What the loop of `walk` keeps of the bytes that it put and the edits that it stored: at the start, after each turn, and at the end, where it is the promise.
-use Prim.Native.Nat.{ℕ, suc, ◌+◌, ◌-◌, ◌*◌, ◌<◌, ◌≤◌, min}
+use Prim.Native.Nat.{ℕ, suc, ◌+◌, ◌-◌, ◌*◌, ◌≤◌, min}
 use mathlib.Core.Path.{◌≡◌, refl, sym, ap, ◌∙◌}
-use mathlib.Core.Bool.{Bool, true, false, cond, not, ◌&&◌}
+use mathlib.Core.Bool.{Bool, true, false, cond, not, ◌&&◌, and-false}
+use mathlib.Core.Logic.{◌⊎◌, inl, inr}
 use mathlib.Core.List.{List, [], ◌∷◌, ◌++◌, append_assoc, append-nil}
-use native.Mathlib.Nat.{add-zero}
-use native.Mathlib.Numerals.{add-one}
 use native.Mathlib.Omega.{arith}
 use borrow.Author.Tests.{leb-true, leb-false}
 use lib.Dec.{eqb, leb, ltb}
-use lib.ListN.{length, get_or, set, take, drop, replicate, length-append, length-take, length-drop, length-set, length-replicate, get_or-replicate}
-use lib.ListN.{drop_of_length-le, take-append-drop}
-use lib.Seq.{drop-drop, drop-set-lt, drop-cons, take-suc-set, take-set-le, drop-set-add, take_at, drop_at, length-take-le}
+use lib.ListN.{length, take, drop, length-append, length-take, length-drop}
+use lib.ListN.{drop_of_length-le}
+use lib.Seq.{drop-drop, take_all, take_at, drop_at, length-take-le}
+use Rattle.std.proofs.lemmas.List.{drop-take, take-take}
 use Rattle.figures.specs.Text.{cr, lf, star_bytes}
 use Rattle.figures.specs.Bytes.{laid}
 use Rattle.figures.specs.Rooms.{Puts}
@@ -18,47 +18,16 @@ use Rattle.figures.proofs.Bytes.{laid_fits}
 use Rattle.figures.proofs.Putting.{puts_long, puts_more, puts_nothing}
 use Rattle.figures.proofs.Tests.{by_test}
 use Rattle.words.specs.Records.{width}
-use Rattle.blocks.specs.Judging.{is_at, is_wide}
+use Rattle.blocks.specs.Judging.{is_at, is_wide, first_at}
 use Rattle.blocks.proofs.Steps.{cond_by, width_small}
 use Rattle.blocks.proofs.Rooms.{star_length}
 use Rattle.listings.specs.declared.edits.Edit.{Edit}
-use Rattle.listings.specs.Edits.{dot_kind, blank_kind, cr_kind, edit}
+use Rattle.listings.specs.Edits.{dot_kind, blank_kind, cr_kind}
 use Rattle.listings.specs.Mending.{Mending, joined, lacks_dot, word_mended, word_taken, is_end, blank_mended, blank_taken, end_mended}
 use Rattle.listings.specs.Mending.{to_next, mended_from, mended}
-use Rattle.listings.specs.Keeping.{no_edit, edit_if, one_if, dotted, Walks}
-use Rattle.listings.proofs.Seen.{is_byte, lf_no_cr, lacks_long, star_taken, part_up, one_most}
-use Rattle.listings.proofs.Turns.{end_small, over, nothing_left, joined_on, steps, blank_most, word, word_most}
-
--- the edits that an edit which may not be due comes to
-abbrev edits_if : Bool → ℕ → ℕ → List Edit
-edits_if is place kind = cond is (edit place kind ∷ []) []
-
-abbrev pub none : List Edit
-none = replicate 34 no_edit
-
--- what is kept: the elements of a list up to n, and then those that were there first
-
-module _ {A : Type 0} (list first : List A) (n : ℕ) where
-  kept_all : n ≤ length list → drop n list ≡ drop n first → take n list ++ drop (length (take n list)) first ≡ list
-  kept_all h e = rw (length-take-le n list h, ← e) (take-append-drop n list)
-
-  kept_more : (x : A) → drop n list ≡ drop n first → drop (n + 1) (set list n x) ≡ drop (n + 1) first
-  kept_more x e = drop-set-lt (n + 1) list n x (omega arith) ∙ (sym (drop-drop 1 n list) ∙ (ap (drop 1) e ∙ drop-drop 1 n first))
-
--- the list after an edit, or none, is stored at the count
-
-module _ (list : List Edit) (n : ℕ) (long : length list ≡ 34) (h : n < 34) (e : drop n list ≡ drop n none) (place kind : ℕ) where
-  stored_edits : (is : Bool) → take (n + one_if is) (set list n (edit_if is place kind)) ≡ take n list ++ edits_if is place kind
-  stored_edits true = rw (add-one n, take-suc-set list n (edit place kind) (omega arith))
-  stored_edits false = rw (add-zero n, take-set-le n list n no_edit (omega arith), append-nil)
-
-  stored_none : (is : Bool) → drop (n + one_if is) (set list n (edit_if is place kind)) ≡ drop (n + one_if is) none
-  stored_none true = kept_more list none n (edit place kind) e
-  stored_none false =
-      let here : drop n none ≡ no_edit ∷ drop (suc n) none =
-      drop-cons none n no_edit (omega (arith, length-replicate 34 no_edit)) ∙ rw (get_or-replicate 34 n no_edit no_edit h) in
-      let there : drop n (set list n no_edit) ≡ set (drop n list) 0 no_edit = rw add-zero at (drop-set-add n list 0 no_edit) in
-      rw (add-zero n, there, e, here)
+use Rattle.listings.specs.Keeping.{edits_if, one_if, part, dotted, Walks}
+use Rattle.listings.proofs.Seen.{lf_no_cr, star_taken, part_up, one_most}
+use Rattle.listings.proofs.Turns.{blank_any, end_any, end_small, over, nothing_left, joined_on, steps, blank_most, word, word_most}
 
 -- a word
 
@@ -69,8 +38,9 @@ pub taken_is : (wide lacks : Bool) (w : ℕ) → w ≡ width wide → w + 7 - on
 taken_is wide true w e = omega arith
 taken_is wide false w e = omega arith
 
-lacks_six : (s : List ℕ) (from : ℕ) → lacks_dot (drop from s) ≡ true → from + 5 < length s
-lacks_six s from e = omega (arith, lacks_long (drop from s) e, length-drop from s)
+-- the input from a place on, as the code takes it
+pub rest_is : (s : List ℕ) (from : ℕ) → take (length s - from) (drop from s) ≡ drop from s
+rest_is s from = take_all (length s - from) (drop from s) (omega (arith, length-drop from s))
 
 -- where nothing is left the place is no matter, and so the walk may stop at the input's end
 up_to : {A : Type 0} (P : ℕ → List ℕ → A) → ((k n : ℕ) → P k [] ≡ P n []) → (s : List ℕ) (k : ℕ)
@@ -86,7 +56,7 @@ up_to P same s k =
 -- one word and its blank
 
 abbrev word_done : (s : List ℕ) (lacks : Bool) (from to : ℕ) → Mending
-word_done s lacks from to = record { bytes = dotted lacks from to s; edits = edits_if lacks (from + 5) dot_kind }
+word_done s lacks from to = record { bytes = dotted lacks (part from to s); edits = edits_if lacks (from + 5) dot_kind }
 
 abbrev blank_done : (s : List ℕ) (ends : Bool) (to : ℕ) → Mending
 blank_done s ends to = record { bytes = (blank_mended to (drop to s)).bytes; edits = edits_if ends to blank_kind }
@@ -94,9 +64,12 @@ blank_done s ends to = record { bytes = (blank_mended to (drop to s)).bytes; edi
 word_is : (wide : Bool) (s : List ℕ) (from to : ℕ) (lacks : Bool) → from ≤ length s → lacks_dot (drop from s) ≡ lacks
     → to ≡ min (from + taken_by wide lacks) (length s) → word_mended wide from (drop from s) ≡ word_done s lacks from to
 word_is wide s from to true h e f =
-    let five : from + 5 - from ≡ 5 = omega arith in
-    let on : from + (width wide + 6) ≡ from + 5 + (width wide + 1) = omega arith in
-    rw (e, f, on, five, drop-drop 5 from s, part_up s (from + 5) (width wide + 1) (omega (arith, lacks_six s from e)))
+    let rest = drop from s in
+    let size = width wide + 6 in
+    let all : part from to s ≡ take size rest = rw f (part_up s from size h) in
+    let split : size ≡ 5 + (width wide + 1) = omega arith in
+    let back : drop 5 (take size rest) ≡ take (width wide + 1) (drop 5 rest) = rw split (drop-take 5 (width wide + 1) rest) in
+    rw (e, all, take-take 5 size rest (omega arith), back)
 word_is wide s from to false h e f = rw (e, f, part_up s from (width wide + 7) h)
 
 blank_is : (s : List ℕ) (to : ℕ) (ends : Bool) → is_end (drop to s) ≡ ends → blank_mended to (drop to s) ≡ blank_done s ends to
@@ -106,14 +79,6 @@ blank_is s to false e = rw e
 blank_one : (ends : Bool) → cond ends 0 1 + one_if ends ≡ 1
 blank_one true = refl
 blank_one false = refl
-
-pub word_inside : (wide : Bool) (s : List ℕ) (from to : ℕ) (lacks : Bool) → from ≤ length s → lacks_dot (drop from s) ≡ lacks
-    → to ≡ min (from + taken_by wide lacks) (length s) → (from ≤ to) × (to ≤ length s) × (lacks ≡ true → from + 5 ≤ to)
-word_inside wide s from to lacks inside lacking e = (
-  omega arith,
-  omega arith,
-  λ is. let full : taken_by wide lacks ≡ width wide + 6 = rw is in omega (arith, lacks_six s from (lacking ∙ is)),
-)
 
 -- before a blank that was put an end stands, and there the walk ends
 ends_next : (s : List ℕ) (to next : ℕ) (ends : Bool) → to ≤ length s → is_end (drop to s) ≡ ends → next ≡ min (to + 1 - one_if ends) (length s)
@@ -146,13 +111,13 @@ module _ (more : ℕ) (wide : Bool) (s : List ℕ) (from to next : ℕ) (lacks e
       ∙ ap (λ k. mended_from more wide k (drop k s)) place) in
       steps more wide from rest going ∙ (λ i. joined (joined (w i) (b i)) (n i))
 
-  step_most : length (dotted lacks from to s ++ (blank_mended to (drop to s)).bytes) ≤ 24
+  step_most : length (dotted lacks (part from to s) ++ (blank_mended to (drop to s)).bytes) ≤ 24
   step_most =
-      let word : word wide from (drop from s) ≡ dotted lacks from to s = ap (λ (m : Mending). m.bytes) (word_is wide s from to lacks inside lacking to_is) in
+      let word : word wide from (drop from s) ≡ dotted lacks (part from to s) = ap (λ (m : Mending). m.bytes) (word_is wide s from to lacks inside lacking to_is) in
       let blank = (blank_mended to (drop to s)).bytes in
       omega (
         arith,
-        length-append (dotted lacks from to s) blank,
+        length-append (dotted lacks (part from to s)) blank,
         ap length word,
         word_most wide from (drop from s),
         width_small wide,
@@ -160,60 +125,47 @@ module _ (more : ℕ) (wide : Bool) (s : List ℕ) (from to next : ℕ) (lacks e
       )
 
 -- the walk at a place: what the block comes to is what stood in the room at first, what was put since and what comes from there on
-pub record Walking (s first : List ℕ) (start : ℕ) (wide : Bool) (room : List ℕ) (list : List Edit) (n from at more : ℕ) : Type 0 where
+pub record Walking (s first : List ℕ) (start : ℕ) (wide : Bool) (room : List ℕ) (edits : List Edit) (from at more : ℕ) : Type 0 where
   pub done : List ℕ
   pub put : Puts first start done at room
-  pub so_far : mended s ≡ joined (record { bytes = take start first ++ done; edits = take n list }) (mended_from more wide from (drop from s))
-  pub beyond : drop n list ≡ drop n none
-  pub places : length list ≡ 34
+  pub so_far : mended s ≡ joined (record { bytes = take start first ++ done; edits = edits }) (mended_from more wide from (drop from s))
   pub long : length room ≡ length first
   pub behind : from + 24 * more ≤ 769
   pub inside : from ≤ length s
   pub fits : at + 24 * more ≤ 769
-  pub few : n + more ≤ 32 + one_if (is_end (drop from s))
+  pub few : length edits + more ≤ 32 + one_if (is_end (drop from s))
 
--- two edits, or fewer
-step_edits : (list : List Edit) (n place place' : ℕ) (a b : Bool) → length list ≡ 34 → n < 33 → drop n list ≡ drop n none →
-    let list₁ = set list n (edit_if a place dot_kind) in
-    let list₂ = set list₁ (n + one_if a) (edit_if b place' blank_kind) in
-    let n₂ = n + one_if a + one_if b in
-    (take n₂ list₂ ≡ take n list ++ (edits_if a place dot_kind ++ edits_if b place' blank_kind)) × (drop n₂ list₂ ≡ drop n₂ none) × (length list₂ ≡ 34)
-step_edits list n place place' a b long h e =
-    let list₁ = set list n (edit_if a place dot_kind) in
-    let n₁ = n + one_if a in
-    let none₁ = stored_none list n long (omega arith) e place dot_kind a in
-    let long₁ : length list₁ ≡ 34 = length-set list n (edit_if a place dot_kind) ∙ long in
-    let h₁ : n₁ < 34 = omega (arith, one_most a) in
-    let edits₁ = stored_edits list n long (omega arith) e place dot_kind a in
-    let edits₂ = stored_edits list₁ n₁ long₁ h₁ none₁ place' blank_kind b in (
-      edits₂ ∙ (ap (λ es. es ++ edits_if b place' blank_kind) edits₁ ∙ append_assoc (take n list) (edits_if a place dot_kind) (edits_if b place' blank_kind)),
-      stored_none list₁ n₁ long₁ h₁ none₁ place' blank_kind b,
-      length-set list₁ n₁ (edit_if b place' blank_kind) ∙ long₁,
-    )
+edits_most : (due : Bool) (place kind : ℕ) → length (edits_if due place kind) ≡ one_if due
+edits_most true place kind = refl
+edits_most false place kind = refl
 
-pub few_left : {s first : List ℕ} {start : ℕ} {wide : Bool} {room : List ℕ} {list : List Edit} {n from at more : ℕ}
-    → Walking s first start wide room list n from at more → is_end (drop from s) ≡ false → n + more ≤ 32
+pub edits_more : (edits : List Edit) (due : Bool) (place kind : ℕ) → length (edits ++ edits_if due place kind) ≡ length edits + one_if due
+edits_more edits due place kind = omega (arith, length-append edits (edits_if due place kind), edits_most due place kind)
+
+pub few_left : {s first : List ℕ} {start : ℕ} {wide : Bool} {room : List ℕ} {edits : List Edit} {from at more : ℕ}
+    → Walking s first start wide room edits from at more → is_end (drop from s) ≡ false → length edits + more ≤ 32
 few_left w going = rw going at w.few
 
 -- a turn of the loop
-module _ {s first : List ℕ} {start : ℕ} {wide : Bool} {room : List ℕ} {list : List Edit} {n from at more : ℕ}
-    (w : Walking s first start wide room list n from at more) (m : ℕ) (large : 771 ≤ length first) (is : more ≡ suc m) (going : is_end (drop from s) ≡ false)
+module _ {s first : List ℕ} {start : ℕ} {wide : Bool} {room : List ℕ} {edits : List Edit} {from at more : ℕ}
+    (w : Walking s first start wide room edits from at more) (m : ℕ) (large : 771 ≤ length first) (is : more ≡ suc m) (going : is_end (drop from s) ≡ false)
     (lacks ends : Bool) (to next : ℕ) (lacking : lacks_dot (drop from s) ≡ lacks) (to_is : to ≡ min (from + taken_by wide lacks) (length s))
     (ending : is_end (drop to s) ≡ ends) (next_is : next ≡ min (to + 1 - one_if ends) (length s)) where
   abbrev step_bytes : List ℕ
-  step_bytes = dotted lacks from to s ++ (blank_mended to (drop to s)).bytes
+  step_bytes = dotted lacks (part from to s) ++ (blank_mended to (drop to s)).bytes
 
-  pub walk_on : {room₁ room₂ : List ℕ} {at₁ at₂ : ℕ} → Puts room at (dotted lacks from to s) at₁ room₁
-      → Puts room₁ at₁ (blank_mended to (drop to s)).bytes at₂ room₂
-      → Walking s first start wide room₂ (set (set list n (edit_if lacks (from + 5) dot_kind)) (n + one_if lacks) (edit_if ends to blank_kind))
-      (n + one_if lacks + one_if ends) next at₂ m
+  pub walk_on : {room₁ room₂ : List ℕ} {at₁ at₂ : ℕ} → Puts room at (dotted lacks (part from to s)) at₁ room₁
+      → Puts room₁ at₁ (blank_mended 0 (drop to s)).bytes at₂ room₂
+      → Walking s first start wide room₂ ((edits ++ edits_if lacks (from + 5) dot_kind) ++ edits_if ends to blank_kind) next at₂ m
   walk_on {room₁} {room₂} {at₁} {at₂} p q =
-      let put = puts_more room at (dotted lacks from to s) (blank_mended to (drop to s)).bytes p q in
+      let blanked : Puts room₁ at₁ (blank_mended to (drop to s)).bytes at₂ room₂ = rw (blank_any to (drop to s)) q in
+      let put = puts_more room at (dotted lacks (part from to s)) (blank_mended to (drop to s)).bytes p blanked in
       let most = step_most m wide s from to next lacks ends w.inside going lacking to_is ending next_is in
-      let kept = step_edits list n (from + 5) to lacks ends w.places (omega (arith, few_left w going)) w.beyond in
+      let dot = edits_if lacks (from + 5) dot_kind in
+      let blank = edits_if ends to blank_kind in
       let step = step_from m wide s from to next lacks ends w.inside going lacking to_is ending next_is in
       let after = mended_from m wide next (drop next s) in
-      let before : Mending = record { bytes = take start first ++ w.done; edits = take n list } in
+      let before : Mending = record { bytes = take start first ++ w.done; edits = edits } in
       record {
         done = w.done ++ step_bytes;
         put = puts_more first start w.done step_bytes w.put put;
@@ -222,93 +174,103 @@ module _ {s first : List ℕ} {start : ℕ} {wide : Bool} {room : List ℕ} {lis
             ∙ (ap (λ k. joined before (mended_from k wide from (drop from s))) is
             ∙ (ap (joined before) step
             ∙ (sym (joined_on before (joined (word_done s lacks from to) (blank_done s ends to)) after)
-            ∙ (λ i. joined (record { bytes = append_assoc (take start first) w.done step_bytes i; edits = sym kept.0 i }) after))));
-        beyond = kept.1;
-        places = kept.2;
+            ∙ (λ i. joined (record { bytes = append_assoc (take start first) w.done step_bytes i; edits = sym (append_assoc edits dot blank) i }) after))));
         long = puts_long room at step_bytes put ∙ w.long;
         behind = omega (arith, taken_is wide lacks (width wide) refl, width_small wide, w.behind);
         inside = omega arith;
         fits = omega (arith, most, put.0, w.fits);
-        few = omega (arith, few_left w going, one_most lacks, ends_next s to next ends (omega arith) ending next_is);
+        few =
+            omega (
+              arith,
+              few_left w going,
+              one_most lacks,
+              ends_next s to next ends (omega arith) ending next_is,
+              length-append (edits ++ dot) blank,
+              length-append edits dot,
+              edits_most lacks (from + 5) dot_kind,
+              edits_most ends to blank_kind,
+            );
       }
 
--- its end
+-- its end: no more words may come, or an end is next
+
+pub no_more : (more : ℕ) (end : Bool) → (more ≡ 0) ⊎ (end ≡ true) → ltb 0 more && not end ≡ false
+no_more more end (inl e) = rw e
+no_more more end (inr e) = rw (e, and-false)
 
 end_edits : (at : ℕ) (rest : List ℕ) → (end_mended at rest).edits ≡ edits_if (is_at lf rest) at cr_kind
 end_edits at rest =
     by_test (is_at lf rest) (λ l. rw (lf_no_cr rest l, l))
     (λ l. rw l (cond_by (λ (m : Mending). m.edits ≡ []) (is_at cr rest) _ _ (λ _. refl) (λ _. refl)))
 
-pub walk_end : {s first : List ℕ} {start : ℕ} {wide : Bool} {room : List ℕ} {list : List Edit} {n from at more : ℕ}
-    → Walking s first start wide room list n from at more → (entry : List ℕ) → 771 ≤ length entry → length first ≡ length entry
-    → drop start first ≡ drop start entry → ltb 0 more && not (is_end (drop from s)) ≡ false → (alone : Bool) → alone ≡ eqb (get_or s from 0) 10
-    → {room' : List ℕ} {r : ℕ} → Puts room at (end_mended from (drop from s)).bytes r room'
-    → Walks s entry (record { bytes = r; edits = record { list = set list n (edit_if alone from cr_kind); n = n + one_if alone } }) room'
-walk_end {s} {first} {start} {wide} {room} {list} {n} {from} {at} {more} w entry large same first-is ending alone alone-is {room'} {r} p =
+pub walk_end : {s first : List ℕ} {start : ℕ} {wide : Bool} {room : List ℕ} {edits : List Edit} {from at more : ℕ}
+    → Walking s first start wide room edits from at more → (entry : List ℕ) → 771 ≤ length entry → length first ≡ length entry
+    → drop start first ≡ drop start entry → ltb 0 more && not (is_end (drop from s)) ≡ false → (alone : Bool) → alone ≡ is_at lf (drop from s)
+    → {room' : List ℕ} {r : ℕ} → Puts room at (end_mended 0 (drop from s)).bytes r room'
+    → Walks s entry (record { bytes = r; edits = edits ++ edits_if alone from cr_kind }) room'
+walk_end {s} {first} {start} {wide} {room} {edits} {from} {at} {more} w entry large same first-is ending alone alone-is {room'} {r} p =
     let last = (end_mended from (drop from s)).bytes in
     let head = take start first in
     let t = w.done ++ last in
-    let (r-is, room-is) = puts_more first start w.done last w.put p in
+    let here : Puts room at last r room' = rw (end_any from (drop from s)) p in
+    let (r-is, room-is) = puts_more first start w.done last w.put here in
     let small : start + length t ≤ length first =
     omega (arith, length-append w.done last, (end_small from (drop from s)).0, w.put.0, w.fits) in
     let head-long = length-take-le start first (omega arith) in
     let size : r ≡ length (head ++ t) = omega (arith, length-append head t) in
-    let count : n < 34 = omega (arith, w.few, one_most (is_end (drop from s))) in
-    let list' = set list n (edit_if alone from cr_kind) in
-    let n' = n + one_if alone in
-    let edits = stored_edits list n w.places count w.beyond from cr_kind alone in
-    let rest = stored_none list n w.places count w.beyond from cr_kind alone in
-    let places : length list' ≡ 34 = length-set list n (edit_if alone from cr_kind) ∙ w.places in
     let ended : mended_from more wide from (drop from s) ≡ record { bytes = last; edits = edits_if alone from cr_kind } =
     over more wide from (drop from s) ending
-    ∙ rw (alone-is, ← is_byte lf s from (omega arith)) (λ i. record { bytes = last; edits = end_edits from (drop from s) i }) in
-    let whole : mended s ≡ record { bytes = head ++ t; edits = take n' list' } =
-    w.so_far ∙ (ap (joined (record { bytes = head ++ w.done; edits = take n list })) ended
-    ∙ (λ i. record { bytes = append_assoc head w.done last i; edits = sym edits i })) in
-    let number = length-take-le n' list' (omega (arith, one_most alone)) in
-    let all = kept_all list' none n' (omega (arith, one_most alone)) rest in
+    ∙ rw alone-is (λ i. record { bytes = last; edits = end_edits from (drop from s) i }) in
+    let whole : mended s ≡ record { bytes = head ++ t; edits = edits ++ edits_if alone from cr_kind } =
+    w.so_far ∙ (ap (joined (record { bytes = head ++ w.done; edits = edits })) ended
+    ∙ (λ i. record { bytes = append_assoc head w.done last i; edits = edits ++ edits_if alone from cr_kind })) in
     let to_end : start + length t ≡ length (head ++ t) = omega (arith, length-append head t) in
     let beyond : drop (length t) (drop start first) ≡ drop (length (head ++ t)) entry = rw (first-is, ← to_end) (drop-drop (length t) start entry) in
     let laid-is : room' ≡ laid (head ++ t) entry =
     room-is ∙ (rw (laid_fits t (drop start first) (omega (arith, length-drop start first)), beyond)
     (sym (append_assoc head t _) ∙ sym (laid_fits (head ++ t) entry (omega arith)))) in
-    rw whole ((λ i. record { bytes = size i; edits = record { list = sym all i; n = sym number i } }), laid-is)
+    rw whole ((λ i. record { bytes = size i; edits = edits ++ edits_if alone from cr_kind }), laid-is)
 
 -- its start
 
-pub star_inside : (s : List ℕ) → one_if (is_wide s) ≤ length s
-star_inside [] = omega arith
-star_inside (x ∷ s) = omega (arith, one_most (eqb x 42))
+pub first_is : (wide : Bool) → one_if wide ≡ first_at wide
+first_is true = refl
+first_is false = refl
 
-begins : (s room : List ℕ) (wide : Bool) (at first : ℕ) (list : List Edit) → wide ≡ is_wide s → first ≡ one_if wide → take at room ≡ star_bytes wide
-    → mended s ≡ joined (record { bytes = take at room ++ []; edits = take 0 list }) (mended_from 32 wide first (drop first s))
+first_most : (wide : Bool) → first_at wide ≤ 1
+first_most true = omega arith
+first_most false = omega arith
+
+star_inside : (s : List ℕ) → first_at (is_wide s) ≤ length s
+star_inside [] = omega arith
+star_inside (x ∷ s) = omega (arith, first_most (eqb x 42))
+
+begins : (s room : List ℕ) (wide : Bool) (at first : ℕ) → wide ≡ is_wide s → first ≡ first_at wide → take at room ≡ star_bytes wide
+    → mended s ≡ joined (record { bytes = take at room ++ []; edits = [] }) (mended_from 32 wide first (drop first s))
 unfolding mended
-begins s room wide at first list e f front = rw (append-nil, front, f, e)
+begins s room wide at first e f front = rw (append-nil, front, f, e)
 
 -- what the start left of the room
-module _ (s entry room : List ℕ) (at first : ℕ) (large : 771 ≤ length entry) (small : first ≤ 1) (p : Puts entry 0 (take (first - 0) s) at room) where
-  start_is : (at ≡ length (take (first - 0) s)) × (room ≡ take (first - 0) s ++ drop (length (take (first - 0) s)) entry)
+module _ (s entry room : List ℕ) (at first : ℕ) (large : 771 ≤ length entry) (small : first ≤ 1) (p : Puts entry 0 (take first s) at room) where
+  start_is : (at ≡ length (take first s)) × (room ≡ take first s ++ drop (length (take first s)) entry)
   start_is =
-      let fits : length (take (first - 0) s) ≤ length entry = omega (arith, length-take (first - 0) s) in
-      (omega (arith, p.0), p.1 ∙ laid_fits (take (first - 0) s) entry fits)
+      let fits : length (take first s) ≤ length entry = omega (arith, length-take first s) in
+      (omega (arith, p.0), p.1 ∙ laid_fits (take first s) entry fits)
 
   pub start_back : (length room ≡ length entry) × (drop at room ≡ drop at entry)
-  start_back = (puts_long entry 0 (take (first - 0) s) p, rw (start_is.1, start_is.0) (drop_at (take (first - 0) s) _ _ refl))
+  start_back = (puts_long entry 0 (take first s) p, rw (start_is.1, start_is.0) (drop_at (take first s) _ _ refl))
 
-pub walk_start : (s entry room : List ℕ) (wide : Bool) (at first : ℕ) (list : List Edit) → 771 ≤ length entry → wide ≡ is_wide s → first ≡ one_if wide
-    → list ≡ none → Puts entry 0 (take (first - 0) s) at room → Walking s room at wide room list 0 first at 32
-walk_start s entry room wide at first list large e f empty p =
-    let all : first - 0 ≡ one_if wide = omega arith in
-    let part : take (first - 0) s ≡ star_bytes wide = rw (all, e) (sym (star_taken s)) in
-    let small = one_most wide in
+pub walk_start : (s entry room : List ℕ) (wide : Bool) (at first : ℕ) → 771 ≤ length entry → wide ≡ is_wide s → first ≡ first_at wide
+    → Puts entry 0 (take first s) at room → Walking s room at wide room [] first at 32
+walk_start s entry room wide at first large e f p =
+    let part : take first s ≡ star_bytes wide = rw (f, e) (sym (star_taken s)) in
+    let small = first_most wide in
     let (at_is, room-is) = start_is s entry room at first large (omega arith) p in
-    let one : at ≡ one_if wide = at_is ∙ (ap length part ∙ star_length wide) in
+    let one : at ≡ first_at wide = at_is ∙ (ap length part ∙ star_length wide) in
     record {
       done = [];
       put = puts_nothing room at (omega (arith, (start_back s entry room at first large (omega arith) p).0));
-      so_far = begins s room wide at first list e f (ap (take at) room-is ∙ (take_at (take (first - 0) s) _ at (sym at_is) ∙ part));
-      beyond = empty;
-      places = ap length empty;
+      so_far = begins s room wide at first e f (ap (take at) room-is ∙ (take_at (take first s) _ at (sym at_is) ∙ part));
       long = refl;
       behind = omega arith;
       inside = rw (f, e) (star_inside s);

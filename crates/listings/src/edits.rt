@@ -1,8 +1,10 @@
 // What is told of a mended block: the byte of the input before which something was put, and what it was.
-ghost use Rattle.std.specs.Prelude.{◌≡◌, []};
-ghost use Rattle.listings.specs.Keeping.{edits_of};
+ghost use Rattle.std.specs.Prelude.{◌≡◌, ◌≤◌, ◌<◌, ◌++◌, [], length};
+ghost use Rattle.listings.specs.Keeping.{edits_if};
 
-// An edit's kinds: a dot, a blank or a CR was put.
+use std::marker::Model;
+
+// An edit's kinds: a dot, a blank or a CR was put. They are numbers, since a host in C lends the list and may leave anything in it.
 pub const DOT: u32 = 1;
 
 pub const BLANK: u32 = 2;
@@ -13,24 +15,57 @@ pub const CR: u32 = 3;
 pub const EDITS: usize = 34;
 
 #[repr(C)]
-#[derive(Clone, Copy)]
+#[derive(Clone, Copy, PartialEq, Eq)]
 pub struct Edit {
     pub place: u32,
     pub kind: u32,
 }
 
-// A block's edits, and how many they are; those past the count are noughts.
-#[derive(Clone, Copy)]
+// A block's edits, first to last.
+#[derive(Drop)]
 pub struct Edits {
-    pub list: [Edit; EDITS],
-    pub n: usize,
+    list: [Edit; EDITS],
+    n: usize,
 }
 
-// Gives the list of no edits.
-pub(crate) fn no_edits() -> Edits
-    ensures { result ≡ edits_of [] }
-{
-    let none = Edit { place: 0, kind: 0 };
-    let list = [none; EDITS];
-    Edits { list: list, n: 0 }
+impl Model for Edits {
+    ghost use Rattle.std.specs.Prelude.{◌≤◌, List, take};
+    ghost use Rattle.listings.specs.declared.edits.Edit.{Edit};
+
+    ghost Value = { List Edit };
+
+    ghost view = { λ e. take e.n e.list };
+
+    ghost invariant = { λ e. e.n ≤ 34 };
+}
+
+impl Edits {
+    // Gives the list of no edits.
+    pub(crate) fn none() -> Edits
+        ensures { result ≡ [] }
+    {
+        Edits {
+            list: [Edit { place: 0, kind: 0 }; EDITS],
+            n: 0,
+        }
+    }
+
+    // Adds an edit if it is due. One that isn't is written past the count, so that this decides no branch.
+    pub(crate) fn add_if(&mut self, due: bool, place: usize, kind: u32)
+        requires { (length self.old < 34) × (place ≤ 800) }
+        ensures { self.new ≡ self.old ++ edits_if due place kind }
+    {
+        self.list[self.n] = Edit {
+            place: place as u32,
+            kind,
+        };
+        self.n += usize::from(due);
+    }
+
+    // Lends the edits.
+    pub fn as_slice(&self) -> &[Edit]
+        ensures { result.now ≡ self.now }
+    {
+        &self.list[..self.n]
+    }
 }

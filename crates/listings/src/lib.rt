@@ -4,4 +4,5 @@
 pub mod edits;
 pub mod lists;
 pub mod mending;
+pub mod unjudged;
 pub mod walking;

@@ -61,9 +61,9 @@ text_short wide t = omega (arith, length-take (width wide) t, width_bounds wide)
 shown_short : (wide : Bool) (t : List ℕ) (shown : Shown) → length (shown_text wide t shown) ≤ 82
 shown_short wide t Nothing = omega arith
 shown_short wide t Text = text_short wide t
-shown_short wide t (Measure m n step u) = measure_short m n step u
-shown_short wide t (Tenths m n) = tenth_short m n
-shown_short wide t (Pair m n m' n') = pair_short m n m' n'
+shown_short wide t (Measure n step u) = measure_short n.minus n.size step u
+shown_short wide t (Tenths n) = tenth_short n.minus n.size
+shown_short wide t (Pair n n') = pair_short n.minus n.size n'.minus n'.size
 
 pub value_short : (f : Family) (wide : Bool) (w : Word) → length (value_text f wide w) ≤ 82
 value_short f wide w = shown_short wide w.text (shown_of w.index (typed_of f w))

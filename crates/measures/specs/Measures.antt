@@ -65,9 +65,13 @@ signed_of m n = (sign_byte m ∷ []) ++ decimal_of n
 abbrev pub start_text : ℕ → ℕ → List ℕ
 start_text m n = (codes " count=" ++ signed_of m n) ++ codes " step=1/"
 
--- ` reads=`, a minus where there is one, and the whole part
+-- ` reads=`, and a minus where there is one
+abbrev pub reads_key : ℕ → List ℕ
+reads_key m = cond (eqb m 0) (codes " reads=") (codes " reads=-")
+
+-- and the whole part
 abbrev pub reads_text : ℕ → ℕ → List ℕ
-reads_text m n = cond (eqb m 0) (codes " reads=") (codes " reads=-") ++ decimal_of n
+reads_text m n = reads_key m ++ decimal_of n
 
 -- a mark, and the last k digits of n
 abbrev pub part_text : ℕ → ℕ → ℕ → List ℕ
@@ -97,23 +101,23 @@ keyed_text wide text = codes " text=" ++ take (width wide) text
 abbrev pub shown_of : ℕ → Count → Shown
 shown_of i count.Nothing = Nothing
 shown_of i count.Text = Text
-shown_of i (count.Gon c) = Measure c.0.minus c.0.size Five unit.Gon
-shown_of i (count.Degree c) = Measure c.0.minus c.0.size Five unit.Degree
-shown_of i (count.Tenth c) = Tenths c.0.minus c.0.size
-shown_of i (count.Mil c) = Measure c.0.minus c.0.size Four unit.Mil
+shown_of i (count.Gon c) = Measure c.0 Five unit.Gon
+shown_of i (count.Degree c) = Measure c.0 Five unit.Degree
+shown_of i (count.Tenth c) = Tenths c.0
+shown_of i (count.Mil c) = Measure c.0 Four unit.Mil
 shown_of i (count.Metre c) =
-    cond (eqb i 58) (Measure c.0.minus c.0.size One unit.Millimetre) (Measure c.0.minus c.0.size (decimals_of c.1) unit.Metre)
-shown_of i (count.Feet c) = Measure c.0.minus c.0.size (decimals_of c.1) unit.Feet
-shown_of i (count.Inch c) = Measure c.0.minus c.0.size Half unit.Inch
-shown_of i (count.Ppm c) = Measure c.0.minus c.0.size Four unit.Ppm
-shown_of i (count.Pair p q) = Pair p.minus p.size q.minus q.size
+    cond (eqb i 58) (Measure c.0 One unit.Millimetre) (Measure c.0 (decimals_of c.1) unit.Metre)
+shown_of i (count.Feet c) = Measure c.0 (decimals_of c.1) unit.Feet
+shown_of i (count.Inch c) = Measure c.0 Half unit.Inch
+shown_of i (count.Ppm c) = Measure c.0 Four unit.Ppm
+shown_of i (count.Pair p q) = Pair p q
 
 abbrev pub shown_text : Bool → List ℕ → Shown → List ℕ
 shown_text wide text Nothing = []
 shown_text wide text Text = keyed_text wide text
-shown_text wide text (Measure m n step u) = measure_text m n step u
-shown_text wide text (Tenths m n) = tenth_text m n
-shown_text wide text (Pair m ppm m' mm) = pair_text m ppm m' mm
+shown_text wide text (Measure n step u) = measure_text n.minus n.size step u
+shown_text wide text (Tenths n) = tenth_text n.minus n.size
+shown_text wide text (Pair ppm mm) = pair_text ppm.minus ppm.size mm.minus mm.size
 
 abbrev pub count_text : Bool → Word → Count → List ℕ
 count_text wide w k = shown_text wide w.text (shown_of w.index k)

@@ -1,23 +1,22 @@
 // A word as people read it: its index and information, and its count, its step, and the value with its unit's decimals.
 #![tactic(auto)]
 
-ghost use Rattle.std.specs.Prelude.{◌≡◌, ◌<◌, ◌≤◌, ◌-◌, ◌++◌, take, drop};
+ghost use Rattle.std.specs.Prelude.{◌≡◌, ◌<◌, ◌≤◌, ◌++◌};
 ghost use Rattle.figures.specs.Decimal.{digits_of};
-ghost use Rattle.figures.specs.Rooms.{Puts};
-ghost use Rattle.measures.specs.Keeping.{index_digits, unit_names, reads_size};
+ghost use Rattle.figures.specs.Rooms.{Fills};
 ghost use Rattle.measures.specs.Measures.{index_text, decimals_of, power_of, places_of, last_of, unit_text, signed_of, start_text};
-ghost use Rattle.measures.specs.Measures.{reads_text, part_text, measure_text, tenth_text, pair_text, keyed_text, shown_of, shown_text, value_text};
+ghost use Rattle.measures.specs.Measures.{reads_key, reads_text, part_text, measure_text, tenth_text, pair_text, keyed_text, shown_of, shown_text, value_text};
 
-use figures::casts::wide_index;
-use figures::rooms::{put, put_decimal};
-use units::counts::Count;
+use figures::put_number;
+use figures::rooms::Room;
+use units::counts::{Count, Whole};
 use units::information::sign_byte;
 use units::kinds::Family;
 use words::reading::width_of;
 use words::records::{Word, count};
 
 // A count's step: the last of so many decimals of its unit; or half of the third, 1/2000, which is shown with four.
-#[derive(Clone, Copy)]
+#[derive(Clone, Copy, PartialEq, Eq)]
 pub enum Step {
     One,
     Three,
@@ -27,7 +26,7 @@ pub enum Step {
 }
 
 // The unit that a value is shown in.
-#[derive(Clone, Copy)]
+#[derive(Clone, Copy, PartialEq, Eq)]
 pub enum Unit {
     Gon,
     Degree,
@@ -40,209 +39,184 @@ pub enum Unit {
 }
 
 // What is shown of a word. A number is its sign and its size, so that no function below has a count's type to carry.
-#[derive(Clone, Copy)]
+#[derive(Clone, Copy, PartialEq, Eq)]
 pub enum Shown {
     Nothing,
     Text,
-    Measure(u8, u64, Step, Unit),
-    Tenths(u8, u64),
-    Pair(u8, u64, u8, u64),
+    Measure(Whole, Step, Unit),
+    Tenths(Whole),
+    Pair(Whole, Whole),
 }
 
-// How many steps make one of the unit, how many decimals are shown, and the number that ends in them.
-#[derive(Clone, Copy)]
-struct Parts {
-    power: u64,
-    places: usize,
-    last: u64,
+impl Step {
+    // Gives the step of a metre or a foot with so many decimals.
+    fn of_decimals(n: u8) -> Step
+        ensures { result ≡ decimals_of n }
+    {
+        match n {
+            3 => Step::Three,
+            4 => Step::Four,
+            _ => Step::Five,
+        }
+    }
+
+    // Tells how many steps make one of the unit.
+    fn power(self) -> u64
+        ensures { (result ≡ power_of self) × (0 < result) }
+    {
+        match self {
+            Step::One => 10,
+            Step::Three => 1_000,
+            Step::Four => 10_000,
+            Step::Five => 100_000,
+            Step::Half => 2_000,
+        }
+    }
+
+    // Tells how many decimals are shown.
+    fn places(self) -> usize
+        ensures { (result ≡ places_of self) × (result ≤ 20) }
+    {
+        match self {
+            Step::One => 1,
+            Step::Three => 3,
+            Step::Four | Step::Half => 4,
+            Step::Five => 5,
+        }
+    }
+
+    // Gives the number that ends in the decimals of a count n.
+    fn last(self, n: u64) -> u64
+        ensures { result ≡ last_of self n }
+    {
+        match self {
+            Step::Half => n % 2_000 * 5,
+            _ => n,
+        }
+    }
 }
 
-// Where in the units' names one begins and ends.
-#[derive(Clone, Copy)]
-struct Span(usize, usize);
+impl Unit {
+    // Gives the unit's name.
+    fn name(self) -> &'static [u8]
+        ensures { result.now ≡ unit_text self }
+    {
+        match self {
+            Unit::Gon => b"gon",
+            Unit::Degree => b"deg",
+            Unit::Mil => b"mil",
+            Unit::Millimetre => b"mm",
+            Unit::Metre => b"m",
+            Unit::Feet => b"ft",
+            Unit::Inch => b"in",
+            Unit::Ppm => b"ppm",
+        }
+    }
+}
 
 // Puts the last k digits of n.
-fn put_digits(room: &mut [u8], at: usize, n: u64, k: usize) -> usize
+fn put_digits(room: &mut Room, n: u64, k: usize)
     requires { k ≤ 20 }
-    ensures { Puts room.old at (digits_of k n) result room.new }
+    ensures { Fills room.old (digits_of k n) room.new }
 {
     let mut bytes = [0; 20];
-    figures::put_number(n, &mut bytes[0..k]);
-    put(room, at, &bytes[0..k])
-}
-
-// Tells how many digits an index has.
-fn index_digits(index: u16) -> usize
-    ensures { result ≡ index_digits index }
-{
-    if index < 100 { 2 } else { 3 }
+    put_number(n, &mut bytes[..k]);
+    room.put(&bytes[..k]);
 }
 
 // Puts index and information as positions 1-6 have them.
-pub fn put_index(room: &mut [u8], at: usize, index: u16, info: [u8; 4]) -> usize
-    ensures { Puts room.old at (index_text index info) result room.new }
+pub fn put_index(room: &mut Room, index: u16, info: [u8; 4])
+    ensures { Fills room.old (index_text index info) room.new }
 {
-    let k = index_digits(index);
-    let after_digits = put_digits(room, at, wide_index(index), k);
-    let after_key = put(room, after_digits, b" info=");
-    let from = k - 2;
-    put(room, after_key, &info[from..4])
-}
-
-// Gives the step of a metre or a foot with so many decimals.
-fn decimals_of(n: u8) -> Step
-    ensures { result ≡ decimals_of n }
-{
-    match n {
-        3 => Step::Three,
-        4 => Step::Four,
-        _ => Step::Five,
-    }
-}
-
-// Gives the parts of a count n.
-fn parts_of(step: Step, n: u64) -> Parts
-    ensures { (result.power ≡ power_of step) × (result.places ≡ places_of step) × (result.last ≡ last_of step n) × (0 < result.power) × (result.places ≤ 20) }
-{
-    match step {
-        Step::One => Parts {
-            power: 10,
-            places: 1,
-            last: n,
-        },
-        Step::Three => Parts {
-            power: 1_000,
-            places: 3,
-            last: n,
-        },
-        Step::Four => Parts {
-            power: 10_000,
-            places: 4,
-            last: n,
-        },
-        Step::Five => Parts {
-            power: 100_000,
-            places: 5,
-            last: n,
-        },
-        Step::Half => Parts {
-            power: 2_000,
-            places: 4,
-            last: n % 2_000 * 5,
-        },
-    }
-}
-
-fn span_of(unit: Unit) -> Span
-    ensures { (take (result.1 - result.0) (drop result.0 unit_names) ≡ unit_text unit) × (result.0 ≤ result.1) × (result.1 ≤ 18) }
-{
-    match unit {
-        Unit::Gon => Span(0, 3),
-        Unit::Degree => Span(3, 6),
-        Unit::Mil => Span(6, 9),
-        Unit::Millimetre => Span(9, 11),
-        Unit::Metre => Span(9, 10),
-        Unit::Feet => Span(11, 13),
-        Unit::Inch => Span(13, 15),
-        Unit::Ppm => Span(15, 18),
-    }
-}
-
-// Puts a unit's name. The names stand in one text, so that the checker goes through one byte string and not eight.
-fn put_unit(room: &mut [u8], at: usize, unit: Unit) -> usize
-    ensures { Puts room.old at (unit_text unit) result room.new }
-{
-    let names = *b"gondegmilmmftinppm";
-    let span = span_of(unit);
-    let from = span.0;
-    let to = span.1;
-    put(room, at, &names[from..to])
+    let (digits, rest) = if index < 100 {
+        (2, &info[..])
+    } else {
+        (3, &info[1..])
+    };
+    put_digits(room, u64::from(index), digits);
+    room.put(b" info=");
+    room.put(rest);
 }
 
 // Puts a key, and a whole number with its sign.
-fn put_whole(room: &mut [u8], at: usize, key: &[u8], minus: u8, n: u64) -> usize
-    ensures { Puts room.old at (key.now ++ signed_of minus n) result room.new }
+fn put_whole(room: &mut Room, key: &[u8], n: Whole)
+    ensures { Fills room.old (key.now ++ signed_of n.minus n.size) room.new }
 {
-    let sign = [sign_byte(minus)];
-    let after_key = put(room, at, key);
-    let after_sign = put(room, after_key, &sign);
-    put_decimal(room, after_sign, n)
+    room.put(key);
+    room.put(&[sign_byte(n.minus)]);
+    room.put_decimal(n.size);
 }
 
 // Puts a count, up to the number of its step.
-fn put_count(room: &mut [u8], at: usize, minus: u8, n: u64) -> usize
-    ensures { Puts room.old at (start_text minus n) result room.new }
+fn put_count(room: &mut Room, n: Whole)
+    ensures { Fills room.old (start_text n.minus n.size) room.new }
 {
-    let after_count = put_whole(room, at, b" count=", minus, n);
-    put(room, after_count, b" step=1/")
+    put_whole(room, b" count=", n);
+    room.put(b" step=1/");
 }
 
-// Tells how long the key of a value is, with a minus where there is one.
-fn reads_size(minus: u8) -> usize
-    ensures { result ≡ reads_size minus }
+// Gives the key of a value, with a minus where there is one.
+fn reads_key(minus: u8) -> &'static [u8]
+    ensures { result.now ≡ reads_key minus }
 {
-    if minus == 0 { 7 } else { 8 }
+    if minus == 0 { b" reads=" } else { b" reads=-" }
 }
 
 // Puts the value up to its decimals.
-fn put_reads(room: &mut [u8], at: usize, minus: u8, n: u64) -> usize
-    ensures { Puts room.old at (reads_text minus n) result room.new }
+fn put_reads(room: &mut Room, minus: u8, n: u64)
+    ensures { Fills room.old (reads_text minus n) room.new }
 {
-    let key = *b" reads=-";
-    let k = reads_size(minus);
-    let after_key = put(room, at, &key[0..k]);
-    put_decimal(room, after_key, n)
+    room.put(reads_key(minus));
+    room.put_decimal(n);
 }
 
 // Puts a mark, and the last k digits of n.
-fn put_part(room: &mut [u8], at: usize, mark: u8, n: u64, k: usize) -> usize
+fn put_part(room: &mut Room, mark: u8, n: u64, k: usize)
     requires { k ≤ 20 }
-    ensures { Puts room.old at (part_text mark k n) result room.new }
+    ensures { Fills room.old (part_text mark k n) room.new }
 {
-    let marks = [mark];
-    let next = put(room, at, &marks);
-    put_digits(room, next, n, k)
+    room.put(&[mark]);
+    put_digits(room, n, k);
 }
 
 // Puts a count of a unit's steps.
-fn put_measure(room: &mut [u8], at: usize, minus: u8, n: u64, step: Step, unit: Unit) -> usize
-    ensures { Puts room.old at (measure_text minus n step unit) result room.new }
+fn put_measure(room: &mut Room, n: Whole, step: Step, unit: Unit)
+    ensures { Fills room.old (measure_text n.minus n.size step unit) room.new }
 {
-    let parts = parts_of(step, n);
-    let after_count = put_count(room, at, minus, n);
-    let after_step = put_decimal(room, after_count, parts.power);
-    let after_unit = put_unit(room, after_step, unit);
-    let after_whole = put_reads(room, after_unit, minus, n / parts.power);
-    let after_decimals = put_part(room, after_whole, b'.', parts.last, parts.places);
-    put_unit(room, after_decimals, unit)
+    put_count(room, n);
+    room.put_decimal(step.power());
+    room.put(unit.name());
+    put_reads(room, n.minus, n.size / step.power());
+    put_part(room, b'.', step.last(n.size), step.places());
+    room.put(unit.name());
 }
 
 // Puts a count of tenths of a second, as degrees, minutes, seconds and tenths.
-fn put_tenths(room: &mut [u8], at: usize, minus: u8, n: u64) -> usize
-    ensures { Puts room.old at (tenth_text minus n) result room.new }
+fn put_tenths(room: &mut Room, n: Whole)
+    ensures { Fills room.old (tenth_text n.minus n.size) room.new }
 {
-    let after_count = put_count(room, at, minus, n);
-    let after_step = put(room, after_count, b"10s");
-    let after_degrees = put_reads(room, after_step, minus, n / 36_000);
-    let after_minutes = put_part(room, after_degrees, b'-', n / 600 % 60, 2);
-    let after_seconds = put_part(room, after_minutes, b'-', n / 10 % 60, 2);
-    put_part(room, after_seconds, b'.', n % 10, 1)
+    let tenths = n.size;
+    put_count(room, n);
+    room.put(b"10s");
+    put_reads(room, n.minus, tenths / 36_000);
+    put_part(room, b'-', tenths / 600 % 60, 2);
+    put_part(room, b'-', tenths / 10 % 60, 2);
+    put_part(room, b'.', tenths % 10, 1);
 }
 
-fn put_pair(room: &mut [u8], at: usize, minus: u8, ppm: u64, other: u8, mm: u64) -> usize
-    ensures { Puts room.old at (pair_text minus ppm other mm) result room.new }
+fn put_pair(room: &mut Room, ppm: Whole, mm: Whole)
+    ensures { Fills room.old (pair_text ppm.minus ppm.size mm.minus mm.size) room.new }
 {
-    let after_ppm = put_whole(room, at, b" ppm=", minus, ppm);
-    put_whole(room, after_ppm, b" mm=", other, mm)
+    put_whole(room, b" ppm=", ppm);
+    put_whole(room, b" mm=", mm);
 }
 
 // Puts text, 8 or 16 characters.
-fn put_text(room: &mut [u8], at: usize, text: [u8; 16], wide: bool) -> usize
-    ensures { Puts room.old at (keyed_text wide text) result room.new }
+fn put_text(room: &mut Room, text: [u8; 16], wide: bool)
+    ensures { Fills room.old (keyed_text wide text) room.new }
 {
-    let next = put(room, at, b" text=");
-    let n = width_of(wide);
-    put(room, next, &text[0..n])
+    room.put(b" text=");
+    room.put(&text[..width_of(wide)]);
 }
 
 // Gives what is shown of a count; 58 counts 1/10 mm.
@@ -252,40 +226,34 @@ fn shown_of(counted: Count, index: u16) -> Shown
     match counted {
         Count::Nothing => Shown::Nothing,
         Count::Text => Shown::Text,
-        Count::Gon(c) => Shown::Measure(c.0.minus, c.0.size, Step::Five, Unit::Gon),
-        Count::Degree(c) => Shown::Measure(c.0.minus, c.0.size, Step::Five, Unit::Degree),
-        Count::Tenth(c) => Shown::Tenths(c.0.minus, c.0.size),
-        Count::Mil(c) => Shown::Measure(c.0.minus, c.0.size, Step::Four, Unit::Mil),
-        Count::Metre(c) => {
-            if index == 58 {
-                return Shown::Measure(c.0.minus, c.0.size, Step::One, Unit::Millimetre);
-            }
-            Shown::Measure(c.0.minus, c.0.size, decimals_of(c.1), Unit::Metre)
-        }
-        Count::Feet(c) => Shown::Measure(c.0.minus, c.0.size, decimals_of(c.1), Unit::Feet),
-        Count::Inch(c) => Shown::Measure(c.0.minus, c.0.size, Step::Half, Unit::Inch),
-        Count::Ppm(c) => Shown::Measure(c.0.minus, c.0.size, Step::Four, Unit::Ppm),
-        Count::Pair(ppm, mm) => Shown::Pair(ppm.minus, ppm.size, mm.minus, mm.size),
+        Count::Gon(c) => Shown::Measure(c.0, Step::Five, Unit::Gon),
+        Count::Degree(c) => Shown::Measure(c.0, Step::Five, Unit::Degree),
+        Count::Tenth(c) => Shown::Tenths(c.0),
+        Count::Mil(c) => Shown::Measure(c.0, Step::Four, Unit::Mil),
+        Count::Metre(c) if index == 58 => Shown::Measure(c.0, Step::One, Unit::Millimetre),
+        Count::Metre(c) => Shown::Measure(c.0, Step::of_decimals(c.1), Unit::Metre),
+        Count::Feet(c) => Shown::Measure(c.0, Step::of_decimals(c.1), Unit::Feet),
+        Count::Inch(c) => Shown::Measure(c.0, Step::Half, Unit::Inch),
+        Count::Ppm(c) => Shown::Measure(c.0, Step::Four, Unit::Ppm),
+        Count::Pair(ppm, mm) => Shown::Pair(ppm, mm),
     }
 }
 
-fn put_shown(room: &mut [u8], at: usize, shown: Shown, text: [u8; 16], wide: bool) -> usize
-    ensures { Puts room.old at (shown_text wide text shown) result room.new }
+fn put_shown(room: &mut Room, shown: Shown, text: [u8; 16], wide: bool)
+    ensures { Fills room.old (shown_text wide text shown) room.new }
 {
     match shown {
-        Shown::Nothing => put(room, at, b""),
-        Shown::Text => put_text(room, at, text, wide),
-        Shown::Measure(minus, n, step, unit) => put_measure(room, at, minus, n, step, unit),
-        Shown::Tenths(minus, n) => put_tenths(room, at, minus, n),
-        Shown::Pair(minus, ppm, other, mm) => put_pair(room, at, minus, ppm, other, mm),
+        Shown::Nothing => room.put(b""),
+        Shown::Text => put_text(room, text, wide),
+        Shown::Measure(n, step, unit) => put_measure(room, n, step, unit),
+        Shown::Tenths(n) => put_tenths(room, n),
+        Shown::Pair(ppm, mm) => put_pair(room, ppm, mm),
     }
 }
 
 // Puts what a record of a right word of the family counts, and nothing for any other record.
-pub fn put_value(room: &mut [u8], at: usize, w: Word, family: Family, wide: bool) -> usize
-    ensures { Puts room.old at (value_text family wide w) result room.new }
+pub fn put_value(room: &mut Room, w: Word, family: Family, wide: bool)
+    ensures { Fills room.old (value_text family wide w) room.new }
 {
-    let shown = shown_of(count(w, family), w.index);
-    let text = w.text;
-    put_shown(room, at, shown, text, wide)
+    put_shown(room, shown_of(count(w, family), w.index), w.text, wide);
 }

@@ -9,9 +9,8 @@ use lib.Seq.{take-take}
 use Rattle.units.specs.declared.kinds.Family.{Family}
 use Rattle.words.specs.declared.records.Word.{Word}
 use Rattle.figures.specs.Bytes.{run_of, is_other}
-use Rattle.blocks.specs.Judging.{Judgement, judged}
-use Rattle.blocks.specs.declared.answers.Answer.{Answer}
-use Rattle.blocks.specs.declared.answers.Answer.TheVariants.{Refused, Read}
+use Rattle.blocks.specs.Judging.{Answer, Judgement, judged}
+use Rattle.std.specs.Prelude.{Ok, Err}
 use Rattle.blocks.proofs.Enough.{judged_enough}
 use Rattle.reports.specs.Piece.{text_in, head_text, answer_text, report_of}
 
@@ -33,8 +32,8 @@ text_enough s =
     ap (λ k. take k (take 800 s)) same ∙ take-take n 800 s (omega arith)
 
 answer_enough : (f : Family) (s : List ℕ) (a : Answer) (ws : List Word) → answer_text f (take 800 s) a ws ≡ answer_text f s a ws
-answer_enough f s (Refused r) ws = rw (text_enough s)
-answer_enough f s (Read r) ws = refl
+answer_enough f s (Err r) ws = rw (text_enough s)
+answer_enough f s (Ok r) ws = refl
 
 pub report_enough : (f : Family) (number at : ℕ) (s : List ℕ) → report_of f number at (take 800 s) ≡ report_of f number at s
 report_enough f number at s =

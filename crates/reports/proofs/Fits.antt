@@ -18,12 +18,11 @@ use Rattle.units.specs.declared.kinds.Family.{Family}
 use Rattle.words.specs.Records.{is_right, width}
 use Rattle.words.specs.declared.records.Word.{Word}
 use Rattle.blocks.specs.Answers.{refusal_number, refusal_tells}
-use Rattle.blocks.specs.Judging.{judged}
+use Rattle.blocks.specs.Judging.{Answer, judged}
 use Rattle.blocks.specs.Rules.{right_all}
 use Rattle.blocks.specs.declared.answers.Refusal.{Refusal}
 use Rattle.blocks.specs.declared.answers.Reading.{Reading}
-use Rattle.blocks.specs.declared.answers.Answer.{Answer}
-use Rattle.blocks.specs.declared.answers.Answer.TheVariants.{Refused, Read}
+use Rattle.std.specs.Prelude.{Ok, Err}
 use Rattle.blocks.proofs.Accepted.{accepted}
 use Rattle.blocks.proofs.Counts.{judged_by}
 use Rattle.measures.proofs.Fits.{value_short, index_short}
@@ -73,17 +72,17 @@ reading_short r =
 
 -- no place that is told is further on
 abbrev Near : Answer → Type 0
-Near (Refused r) = refusal_tells r ≤ 769
-Near (Read r) = Unit {0}
+Near (Err r) = refusal_tells r ≤ 769
+Near (Ok r) = Unit {0}
 
-pub told_near : (f : Family) (s : List ℕ) (r : Refusal) → (judged f s 32).answer ≡ Refused r → refusal_tells r ≤ 769
+pub told_near : (f : Family) (s : List ℕ) (r : Refusal) → (judged f s 32).answer ≡ Err r → refusal_tells r ≤ 769
 told_near f s r e = subst Near e (judged_by f 32 (λ j. Near j.answer) (λ r h. h) (λ wide at rest ws h few. tt) s)
 
 answer_short : (f : Family) (s : List ℕ) (a : Answer) → (judged f s 32).answer ≡ a → length (answer_text f s a (judged f s 32).words) ≤ 5193
-answer_short f s (Refused r) e =
+answer_short f s (Err r) e =
     let place = refusal_tells r in
     omega (arith, length-append (refusal_text r) (where_text s place), refusal_short r, where_short s place (told_near f s r e))
-answer_short f s (Read r) e =
+answer_short f s (Ok r) e =
     let ws = (judged f s 32).words in
     let lawful = (accepted f s 32 r ws (λ i. record { answer = e i; words = ws })).lawful in
     omega (arith, length-append (reading_text r) (words_text f 1 r.wide ws), reading_short r, words_short f 1 r.wide ws lawful.right, lawful.most)

@@ -1,7 +1,6 @@
 pub mod Words
 pub mod Standing
 pub mod Enough
-pub mod Reporting
 pub mod Example
 pub mod Fits
 pub mod Determined

@@ -1,6 +1,6 @@
 -- What is printed of a piece: `at` is its start in the file, `place` the refusal's place in the block, and under the block's text a caret at that
 -- place; of a refused block never a value.
-use Rattle.std.specs.Prelude.{ℕ, suc, min, ◌≡◌, Bool, true, false, cond, List, [], ◌∷◌, ◌++◌, map, take}
+use Rattle.std.specs.Prelude.{ℕ, suc, min, ◌≡◌, Bool, true, false, cond, List, [], ◌∷◌, ◌++◌, map, take, Ok, Err}
 use Rattle.figures.specs.Text.{codes, cr}
 use Rattle.figures.specs.Bytes.{run_of, is_other}
 use Rattle.figures.specs.Pointing.{shown, caret_text}
@@ -9,11 +9,9 @@ use Rattle.units.specs.declared.kinds.Family.{Family}
 use Rattle.words.specs.Records.{width}
 use Rattle.words.specs.declared.records.Word.{Word}
 use Rattle.blocks.specs.Answers.{refusal_number, refusal_tells}
-use Rattle.blocks.specs.Judging.{judged}
+use Rattle.blocks.specs.Judging.{Answer, judged}
 use Rattle.blocks.specs.declared.answers.Refusal.{Refusal}
 use Rattle.blocks.specs.declared.answers.Reading.{Reading}
-use Rattle.blocks.specs.declared.answers.Answer.{Answer}
-use Rattle.blocks.specs.declared.answers.Answer.TheVariants.{Refused, Read}
 use Rattle.figures.specs.Rooms.{Puts}
 use Rattle.measures.specs.Measures.{index_text, value_text}
 use Rattle.reports.specs.declared.piece.Reported.{Reported}
@@ -71,16 +69,16 @@ abbrev pub where_text : List ℕ → ℕ → List ℕ
 where_text piece place = map shown (text_in piece) ++ (codes "\n" ++ caret_text place)
 
 abbrev pub answer_text : Family → List ℕ → Answer → List Word → List ℕ
-answer_text f piece (Refused r) ws = refusal_text r ++ where_text piece (refusal_tells r)
-answer_text f piece (Read r) ws = reading_text r ++ words_text f 1 r.wide ws
+answer_text f piece (Err r) ws = refusal_text r ++ where_text piece (refusal_tells r)
+answer_text f piece (Ok r) ws = reading_text r ++ words_text f 1 r.wide ws
 
 -- the report of a piece of the family's file, by its number, its start in the file and its bytes, which are read into a list of 32 places
 abbrev pub report_of : Family → ℕ → ℕ → List ℕ → List ℕ
 report_of f number at piece = head_text number at ++ answer_text f piece (judged f piece 32).answer (judged f piece 32).words
 
 abbrev pub is_read : Answer → Bool
-is_read (Refused r) = false
-is_read (Read r) = true
+is_read (Err r) = false
+is_read (Ok r) = true
 
 -- the report in a room, as far as there is room; how many bytes were put there, and whether the block was accepted
 abbrev pub Reports : Family → ℕ → ℕ → List ℕ → List ℕ → Reported → List ℕ → Type 0

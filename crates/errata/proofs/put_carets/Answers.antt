@@ -1,28 +1,17 @@
 -- `put_carets` meets its contract: the caret of one more edit is put in each turn, and after them LF.
-use mathlib.Core.Path.{◌≡◌}
+use mathlib.Core.Path.{refl}
 use native.Mathlib.Omega.{arith}
-use borrow.Author.Rules.{rules}
-use lib.ListN.{length}
-use Rattle.listings.specs.Keeping.{no_edit}
-use Rattle.errata.proofs.Carets.{marked_more, marked_all}
-use Rattle.errata.proofs.Places.{place_fits}
+use Rattle.figures.proofs.Putting.{fills_more, puts_within}
+use Rattle.errata.proofs.Carets.{marked_none, marked_more, marked_all}
 use Rattle.errata.proofs.put_carets.Goals as goal
 
-pub after_mark-done-requires : goal.after_mark-done-requires
-after_mark-done-requires c = rw c.column-place.ensures (place_fits 34 c.args.list _ c.well_formed.1.1.0 c.loop-i.i (omega arith))
+pub loop-e-init : goal.loop-e-init
+loop-e-init c = marked_none c.args.edits.now c.put.new.self (puts_within _ _ _ c.put.ensures.puts)
 
-pub loop-i-preserved : goal.loop-i-preserved
-loop-i-preserved c =
-    let a = c.args in
-    let l = c.loop-i in
-    let long : length c.args.list ≡ 34 = search rules in
-    let more = marked_more a.room.now a.at a.list a.n l.i no_edit l.done l.next c.put_mark-next.result c.column-place.result (omega arith) (omega arith)
-    l.invariant.1 c.column-place.ensures c.put_mark-next.ensures in
-    (omega arith, rw c.after_mark-done.ensures more)
+pub loop-e-preserved : goal.loop-e-preserved
+loop-e-preserved c =
+    let l = c.loop-e in
+    marked_more c.args.edits.now l.e-index _ l.done _ c.max-done.result c.loop-e-test.true l.invariant refl c.put_mark.ensures c.max-done.ensures
 
 pub returns : goal.returns
-returns c =
-    let a = c.args in
-    let l = c.loop-i in
-    let long : length c.args.list ≡ 34 = search rules in
-    marked_all a.room.now a.at a.list a.n l.i l.done l.next (omega arith) (omega arith) l.invariant.1 c.put.ensures
+returns c = fills_more c.put.ensures (marked_all c.args.edits.now c.loop-e.e-index c.loop-e.done (omega arith) c.loop-e.invariant c.put-2.ensures)

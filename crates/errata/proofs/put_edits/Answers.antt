@@ -1,20 +1,17 @@
 -- `put_edits` meets its contract: the line of one more edit is put in each turn.
-use mathlib.Core.Path.{◌≡◌}
-use native.Mathlib.Omega.{arith}
-use borrow.Author.Rules.{rules}
-use lib.ListN.{length}
-use Rattle.figures.proofs.Putting.{puts_nothing}
-use Rattle.listings.specs.Keeping.{no_edit}
-use Rattle.errata.specs.Errata.{edits_text}
-use Rattle.errata.proofs.Edits.{edits_more}
+use Rattle.std.proofs.Common.{◌≡◌, length, arith}
+use lib.Seq.{take-length}
+use Rattle.figures.proofs.Putting.{fills_more, puts_within}
+use Rattle.errata.proofs.Edits.{edits_none, edits_more}
 use Rattle.errata.proofs.put_edits.Goals as goal
 
-pub loop-i-init : goal.loop-i-init
-loop-i-init c = (omega arith, unfold edits_text in puts_nothing c.args.room.now c.args.at c.requires.0)
+pub loop-e-init : goal.loop-e-init
+loop-e-init c = edits_none c.args.number c.put.new.self (puts_within _ _ _ c.put.ensures.puts)
 
-pub loop-i-preserved : goal.loop-i-preserved
-loop-i-preserved c =
-    let a = c.args in
-    let l = c.loop-i in
-    let long : length c.args.list ≡ 34 = search rules in
-    (omega arith, edits_more a.number a.room.now a.at a.list l.i no_edit (omega arith) l.invariant.1 c.put_edit-next.ensures)
+pub loop-e-preserved : goal.loop-e-preserved
+loop-e-preserved c = edits_more c.args.number c.args.edits.now c.loop-e.e-index _ c.loop-e-test.true c.loop-e.invariant c.put_edit.ensures
+
+pub returns : goal.returns
+returns c =
+    let end : c.loop-e.e-index ≡ length c.args.edits.now = omega arith in
+    fills_more c.put.ensures (rw (end, take-length) at c.loop-e.invariant)

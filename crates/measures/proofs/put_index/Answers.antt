@@ -1,31 +1,23 @@
--- What `put_index` puts: its digits, and what is left of the information.
-use Prim.Native.Nat.{ℕ, ◌-◌}
-use mathlib.Core.Path.{◌≡◌, refl, sym}
-use mathlib.Core.Bool.{Bool, true, false, cond}
-use mathlib.Core.List.{List, ◌++◌}
-use native.Mathlib.Omega.{arith}
-use borrow.Author.Rules.{rules}
-use borrow.Rule.Slice.PartMut.{mid_of}
-use lib.Dec.{ltb}
-use lib.ListN.{length, drop, length-drop}
+-- Two digits and the information, or three and what is left of it.
+use Rattle.std.proofs.Common.{◌≡◌, refl, ◌++◌, length, arith, rules, lt-ltb, le-ltb}
+use lib.ListN.{drop, length-drop}
 use lib.Seq.{take_all}
 use Rattle.figures.specs.Text.{codes}
 use Rattle.figures.specs.Decimal.{digits_of}
-use Rattle.figures.proofs.Putting.{puts_as, puts_more}
+use Rattle.figures.proofs.Putting.{fills_as, fills_more}
+use Rattle.measures.specs.Measures.{index_text}
 use Rattle.measures.proofs.put_index.Goals as goal
-
--- two digits and the information, or three and what is left of it
-text : (b : Bool) (i : ℕ) (info : List ℕ) → length info ≡ 4
-    → cond b (digits_of 2 i) (digits_of 3 i) ++ (codes " info=" ++ cond b info (drop 1 info))
-    ≡ digits_of (cond b 2 3) i ++ (codes " info=" ++ mid_of (cond b 2 3 - 2) (4 - (cond b 2 3 - 2)) info)
-text true i info h = rw (take_all 4 info (omega arith))
-text false i info h = rw (take_all 3 (drop 1 info) (omega (arith, length-drop 1 info)))
+use Rattle.measures.proofs.put_index.Goals.{then-index-lt100, else-index-lt100}
 
 pub returns : goal.returns
 returns c =
-    let k = c.index_digits-k.ensures in
-    let wide = c.wide_index.ensures in
-    let long : length c.args.info ≡ 4 = search rules in
-    puts_as _ _ _ _ (text (ltb c.args.index 100) c.args.index c.args.info long) refl refl
-    (puts_more _ _ _ _ (puts_as _ _ _ _ (sym (λ i. digits_of (k i) (wide i))) refl refl c.put_digits-after_digits.ensures)
-    (puts_more _ _ _ _ c.put-after_key.ensures (rw k at c.put.ensures)))
+    let index = c.args.index in
+    let info = c.args.info in
+    let long : length info ≡ 4 = search rules in
+    let rest = take_all 3 (drop 1 info) (omega (arith, length-drop 1 info)) in
+    let d = c.if-index-lt100.digits in
+    let text : digits_of d.0 index ++ (codes " info=" ++ d.1.now) ≡ index_text index info = elim c.if-index-lt100.branch [
+      | then-index-lt100 w ↦ rw (w.digits-is, lt-ltb index 100 w.if-index-lt100.true) refl
+      | else-index-lt100 w ↦ rw (w.digits-is, le-ltb index 100 (omega (arith, w.if-index-lt100.false)), rest) refl
+    ] in
+    fills_as (fills_more (rw c.from.ensures at c.put_digits.ensures) (fills_more c.put.ensures c.put-2.ensures)) text

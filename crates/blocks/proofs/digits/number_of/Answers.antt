@@ -9,31 +9,30 @@ use Rattle.blocks.proofs.digits.number_of.Goals as goal
 
 pub overflow_mul-n : goal.overflow_mul-n
 overflow_mul-n c =
-    let at = c.loop-i in
-    omega (arith, few_digits at.n at.i (omega arith) at.invariant.1)
+    let at = c.loop-b in
+    omega (arith, few_digits at.n at.b-index (omega arith) at.invariant.0)
 
 pub overflow_sub-n : goal.overflow_sub-n
-overflow_sub-n c = omega (arith, digit_bounds c.args.s.now c.loop-i.i c.requires.1 (omega arith), c.wide.ensures)
+overflow_sub-n c = omega (arith, c.from.ensures, digit_bounds c.args.s.now c.loop-b.b-index c.requires.1 (omega arith))
 
 pub overflow_add-n : goal.overflow_add-n
 overflow_add-n c =
-    let at = c.loop-i in
-    let bounds = digit_bounds c.args.s.now at.i c.requires.1 (omega arith) in
-    omega (arith, few_digits at.n at.i (omega arith) at.invariant.1, c.wide.ensures)
+    let at = c.loop-b in
+    let bounds = digit_bounds c.args.s.now at.b-index c.requires.1 (omega arith) in
+    omega (arith, c.from.ensures, few_digits at.n at.b-index (omega arith) at.invariant.0)
 
-pub loop-i-preserved : goal.loop-i-preserved
-loop-i-preserved c =
-    let at = c.loop-i in
+pub loop-b-preserved : goal.loop-b-preserved
+loop-b-preserved c =
+    let at = c.loop-b in
     let s = c.args.s.now in
-    let bounds = digit_bounds s at.i c.requires.1 (omega arith) in (
-      omega arith,
-      one_digit_more at.n (c.wide.result - 48) at.i (omega (arith, c.wide.ensures)) at.invariant.1,
-      at.invariant.2 ∙ rw c.wide.ensures (number_more at.n s at.i (omega arith)),
+    let bounds = digit_bounds s at.b-index c.requires.1 (omega arith) in (
+      one_digit_more at.n (c.from.result - 48) at.b-index (omega (arith, c.from.ensures)) at.invariant.0,
+      at.invariant.1 ∙ rw c.from.ensures (number_more at.n s at.b-index (omega arith)),
     )
 
 pub returns : goal.returns
 returns c =
-    let at = c.loop-i in
+    let at = c.loop-b in
     let s = c.args.s.now in
-    let is : at.n ≡ number_of s = sym (at.invariant.2 ∙ number_all at.n s at.i (omega arith)) in
+    let is : at.n ≡ number_of s = sym (at.invariant.1 ∙ number_all at.n s at.b-index (omega arith)) in
     (is, rw is (number_below s c.requires.1))

@@ -7,9 +7,8 @@ use native.Mathlib.Omega.{arith}
 use borrow.Rule.Slice.PartMut.{mid_of}
 use lib.ListN.{length, drop, length-drop}
 use Rattle.units.specs.declared.kinds.Family.{Family}
-use Rattle.words.specs.Reading.{word_size, word_of}
+use Rattle.words.specs.Reading.{OneWord, word_size, judged_in, word_of}
 use Rattle.words.proofs.Told.{told_within}
-use Rattle.words.specs.declared.reading.OneWord.{OneWord}
 use Rattle.blocks.specs.Judging.{is_at}
 use Rattle.blocks.specs.Keeping.{next_of, step_of}
 use Rattle.blocks.proofs.Steps.{next_word}
@@ -22,29 +21,29 @@ module _ (f : Family) (wide : Bool) (at : ℕ) (s : List ℕ) {one : OneWord} (e
 
   -- where a word was read the step is by what the word is
   found : (places n : ℕ) {t : Bool} → t ≡ is_at 13 (drop at s) → t ≡ false → n < 32 → word_size wide ≤ length (drop at s) → n < places
-      → next_of f wide places n at (drop at s) ≡ step_of at one.answer
+      → next_of f wide places n at (drop at s) ≡ step_of at (judged_in one)
   found places n is off few long free =
-      next_word f wide places n at (drop at s) (sym is ∙ off) few long free ∙ ap (λ (o : OneWord). step_of at o.answer) (sym word)
+      next_word f wide places n at (drop at s) (sym is ∙ off) few long free ∙ ap (λ (o : OneWord). step_of at (judged_in o)) (sym word)
 
-pub overflow_add-refusal : goal.overflow_add-refusal
-overflow_add-refusal c =
+pub overflow_add-result : goal.overflow_add-result
+overflow_add-result c =
     let a = c.args in
     let left = length-drop a.at a.s.now in
-    let is = word a.family a.wide a.at a.s.now c.read_word-one.ensures in
-    let wrong = ap (λ (o : OneWord). o.answer) (sym is) ∙ c.in-Wrong.is in
+    let is = word a.family a.wide a.at a.s.now c.read_word.ensures in
+    let wrong = ap judged_in (sym is ∙ c.in-Err.is) in
     let byte = told_within a.family a.wide (drop a.at a.s.now) _ _ wrong in
     omega (arith, byte)
 
-pub returns-in-Wrong : goal.returns-in-Wrong
-returns-in-Wrong c =
+pub returns-in-Ok : goal.returns-in-Ok
+returns-in-Ok c =
     let a = c.args in
     let left = length-drop a.at a.s.now in
-    sym (found a.family a.wide a.at a.s.now c.read_word-one.ensures a.places a.count c.is_at.ensures c.if-is_at.false
-    (omega arith) (omega arith) (omega arith) ∙ rw c.in-Wrong.is)
+    sym (found a.family a.wide a.at a.s.now c.read_word.ensures a.places a.count c.is_at.ensures c.if-is_at.false
+    (omega arith) (omega arith) (omega arith) ∙ rw c.in-Ok.is)
 
-pub returns-in-Right : goal.returns-in-Right
-returns-in-Right c =
+pub returns-in-Err : goal.returns-in-Err
+returns-in-Err c =
     let a = c.args in
     let left = length-drop a.at a.s.now in
-    sym (found a.family a.wide a.at a.s.now c.read_word-one.ensures a.places a.count c.is_at.ensures c.if-is_at.false
-    (omega arith) (omega arith) (omega arith) ∙ rw c.in-Right.is)
+    sym (found a.family a.wide a.at a.s.now c.read_word.ensures a.places a.count c.is_at.ensures c.if-is_at.false
+    (omega arith) (omega arith) (omega arith) ∙ rw c.in-Err.is)

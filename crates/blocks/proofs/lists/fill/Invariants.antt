@@ -1,11 +1,9 @@
--- After i turns of `lists::fill`, the list begins with the first i of the judged block's words, and is as it was from there on.
-use Rattle.std.proofs.Common.{◌≡◌, ◌≤◌, ◌-◌, length}
-use Rattle.blocks.specs.Judging.{judged}
-use Rattle.blocks.proofs.Row.{mix}
+-- After i turns of `fill`, each of the list's first i records is its word's.
+use Rattle.std.proofs.Common.{◌≡◌, ◌<◌, ℕ, drop, get_or}
+use Rattle.words.specs.Records.{blank}
+use Rattle.words.specs.Reading.{word_in, word_of}
+use Rattle.blocks.specs.Rules.{word_start}
 use Rattle.blocks.proofs.lists.fill.Given as goal
 
 abbrev pub invariant-loop-i : goal.invariant-loop-i
-invariant-loop-i l = (l.list ≡ mix (judged l.family l.s (length l.fn.list)).words l.fn.list l.i) × (l.i ≤ l.n)
-
-abbrev pub decreases-loop-i : goal.decreases-loop-i
-decreases-loop-i l = l.n - l.i
+invariant-loop-i l = (k : ℕ) → k < l.i → get_or l.list k blank ≡ word_in (word_of l.family l.wide (drop (word_start l.wide k) l.s))

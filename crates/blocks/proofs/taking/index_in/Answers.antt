@@ -69,18 +69,18 @@ small a b e = let (first, second) = both (is_digit a) (is_digit b) e in two_digi
 pub returns-then-not-digit : goal.returns-then-not-digit
 returns-then-not-digit c =
     let s = c.args.s.now in
-    alone (index_of (pos 1 s) (pos 2 s)) (pos 3 s) (said c.figure.ensures c.figure-2.ensures) c.requires.1.1 c.in_default.is
+    alone (index_of (pos 1 s) (pos 2 s)) (pos 3 s) (said c.from.ensures c.from-2.ensures) c.requires.1.1 c.in_default.is
     (small (pos 1 s) (pos 2 s) c.requires.1.0) (sym c.digit.ensures ∙ c.if-not-digit.true)
 
 pub returns-in-11 : goal.returns-in-11
 returns-in-11 c =
     let s = c.args.s.now in
-    block (index_of (pos 1 s) (pos 2 s)) (pos 3 s) (said c.figure.ensures c.figure-2.ensures) c.requires.1.1 c.in_default.is
+    block (index_of (pos 1 s) (pos 2 s)) (pos 3 s) (said c.from.ensures c.from-2.ensures) c.requires.1.1 c.in_default.is
     (small (pos 1 s) (pos 2 s) c.requires.1.0) (sym c.digit.ensures ∙ c.if-not-digit.false) c.in-11.is
 
 pub returns-in_default-two : goal.returns-in_default-two
 returns-in_default-two c =
     let s = c.args.s.now in
-    long (index_of (pos 1 s) (pos 2 s)) (pos 3 s) (said c.figure.ensures c.figure-2.ensures) c.requires.1.1 c.in_default.is
+    long (index_of (pos 1 s) (pos 2 s)) (pos 3 s) (said c.from.ensures c.from-2.ensures) c.requires.1.1 c.in_default.is
     (small (pos 1 s) (pos 2 s) c.requires.1.0) (sym c.digit.ensures ∙ c.if-not-digit.false)
-    (λ h. ⊎_elim (λ is. grind arith) (λ is. grind arith) h) c.figure-in_default-two.ensures
+    (λ h. ⊎_elim (λ is. grind arith) (λ is. grind arith) h) c.from-in_default-two.ensures

@@ -11,7 +11,7 @@ use Rattle.figures.proofs.Tests.{both}
 use Rattle.units.specs.Information.{is_sign}
 use Rattle.units.specs.declared.kinds.Kind.TheVariants.{Pair}
 use Rattle.words.specs.Reading.{ppm_in, under_in, mm_in, data_right}
-use Rattle.words.proofs.Checks.{ppm_part, mm_part}
+use Rattle.words.proofs.Checks.{mm_part}
 use Rattle.words.proofs.Letters.{halves_in, pair_right}
 use Rattle.blocks.proofs.taking.pair_word.Goals as goal
 
@@ -25,7 +25,7 @@ parts d h e =
 pub number_of-requires : goal.number_of-requires
 number_of-requires c =
     let d = c.args.d.now in
-    rw (ppm_part d) (omega (arith, (halves_in d c.requires.0).front), (parts d c.requires.0 c.requires.1.1).0)
+    (omega (arith, (halves_in d c.requires.0).front), (parts d c.requires.0 c.requires.1.1).0)
 
 pub minus_at-requires : goal.minus_at-requires
 minus_at-requires c = (parts c.args.d.now c.requires.0 c.requires.1.1).1
@@ -38,6 +38,6 @@ number_of-requires-2 c =
 pub returns : goal.returns
 returns c =
     let d = c.args.d.now in
-    let first = c.number_of.ensures.0 ∙ ap number_of (ppm_part d) in
+    let first = c.number_of.ensures.0 in
     let second = c.number_of-2.ensures.0 ∙ ap number_of (mm_part d c.requires.0) in
     rw (← first, ← c.minus_at.ensures, ← second) c.record_of.ensures

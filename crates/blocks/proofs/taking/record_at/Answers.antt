@@ -23,9 +23,8 @@ use Rattle.units.specs.declared.counts.Count.{Count}
 use Rattle.units.specs.declared.counts.Count.TheVariants.{Text, Inch, Ppm}
 use Rattle.units.proofs.Positions.{sign_of_lem}
 use Rattle.words.specs.Records.{width, record_of}
-use Rattle.words.specs.Reading.{pos, data_in, index_in, kind_at, info_in, data_right, figures_in, text_field, count_or, word_of}
+use Rattle.words.specs.Reading.{pos, data_in, index_in, kind_at, info_in, data_right, figures_in, text_field, count_or, word_of, judged_right, judged_in, word_in}
 use Rattle.words.specs.declared.records.Word.{Word}
-use Rattle.words.specs.declared.reading.Judged.TheVariants.{Right}
 use Rattle.words.proofs.Checks.{data_part, data_fits}
 use Rattle.words.proofs.Letters.{one_right}
 use Rattle.blocks.specs.Keeping.{DigitsRight, angle_in, length_in, pair_in}
@@ -134,16 +133,16 @@ module _ {f : Family} {wide : Bool} {s : List ℕ} {i lead : ℕ} {k : Kind} (o 
   -- what it gives is the word's record
 
   given : (x : Kind) (c : Count) (t : List ℕ) {r : Word} → kind_at f s ≡ x → record_of (index_in f s) (info_in f s) c t ≡ record_by f wide s x
-      → r ≡ record_of i (four lead s) c t → r ≡ (word_of f wide s).word
+      → r ≡ record_of i (four lead s) c t → r ≡ word_in (word_of f wide s)
   given x c t e same er =
       let all : record_of i (four lead s) c t ≡ record_of (index_in f s) (info_in f s) c t = rw (o.led, o.index) in
       er ∙ all ∙ same ∙ ap (record_by f wide s) (sym e) ∙ sym o.right.word
 
-  angle_given : {r : Word} → k ≡ kind.Angle → r ≡ record_of i (four lead s) (angle_in wide s) (replicate 16 0) → r ≡ (word_of f wide s).word
+  angle_given : {r : Word} → k ≡ kind.Angle → r ≡ record_of i (four lead s) (angle_in wide s) (replicate 16 0) → r ≡ word_in (word_of f wide s)
   angle_given e er = given kind.Angle (angle_in wide s) (replicate 16 0) (is refl e) refl er
 
   number_given : {r : Word} → (k ≡ kind.Length) ⊎ (k ≡ kind.Constant) → r ≡ record_of i (four lead s) (length_in wide s) (replicate 16 0)
-      → r ≡ (word_of f wide s).word
+      → r ≡ word_in (word_of f wide s)
   number_given h er =
       let j = index_in f s in
       let info = info_in f s in
@@ -153,17 +152,17 @@ module _ {f : Family} {wide : Bool} {s : List ℕ} {i lead : ℕ} {k : Kind} (o 
       (λ e. given kind.Constant (length_in wide s) t e (length_plain j info n t (pos 6 s) ∙ sym (constant_plain j info n t)) er) (is_number h)
 
   pair_given : {n m : ℕ} {r : Word} → k ≡ kind.Pair → n ≡ width wide → m ≡ sign_of (pos 7 s)
-      → r ≡ record_of i (four lead s) (pair_in m (mid_of 7 (7 + n - 7) s)) (replicate 16 0) → r ≡ (word_of f wide s).word
+      → r ≡ record_of i (four lead s) (pair_in m (mid_of 7 (7 + n - 7) s)) (replicate 16 0) → r ≡ word_in (word_of f wide s)
   pair_given {n} e w under er =
       given kind.Pair (pair_in (sign_of (pos 7 s)) (data_in wide s)) (replicate 16 0) (is refl e) refl (rw (under, data_part wide s n w) at er)
 
   text_given : {r : Word} → (k ≡ kind.Angle → ⊥) → (k ≡ kind.Length → ⊥) → (k ≡ kind.Constant → ⊥) → (k ≡ kind.Pair → ⊥)
-      → r ≡ record_of i (four lead s) Text (laid (data_in wide s) (replicate 16 0)) → r ≡ (word_of f wide s).word
+      → r ≡ record_of i (four lead s) Text (laid (data_in wide s) (replicate 16 0)) → r ≡ word_in (word_of f wide s)
   text_given a l c p er =
       let t = laid (data_in wide s) (replicate 16 0) in
       ⊎_elim (λ e. given kind.Numbered Text t e refl er) (λ e. given kind.Text Text t e refl er) (is_text a l c p)
 
-found : (f : Family) (wide : Bool) (s : List ℕ) {i lead : ℕ} {k : Kind} → (word_of f wide s).answer ≡ Right → i ≡ index_in f s
+found : (f : Family) (wide : Bool) (s : List ℕ) {i lead : ℕ} {k : Kind} → judged_in (word_of f wide s) ≡ judged_right → i ≡ index_in f s
     → lead ≡ lead_of i (pos 3 s) → k ≡ number_kind (kind_of f i) → Found f wide s i lead k
 found f wide s e index led asked = record { right = right_word f wide s e; index = index; led = led; asked = asked }
 
@@ -199,7 +198,7 @@ pub pair_word-requires : goal.pair_word-requires
 pair_word-requires c =
     let a = c.args in
     let o = found a.family a.wide a.s.now c.requires c.index_in-index.ensures c.lead_of.ensures c.kind_in.ensures in
-    pair_part o c.in-Pair.is c.width_of-end.ensures
+    pair_part o c.in-Pair.is c.width_of.ensures
 
 pub returns-in-Angle : goal.returns-in-Angle
 returns-in-Angle c =
@@ -217,7 +216,7 @@ pub returns-in-Pair : goal.returns-in-Pair
 returns-in-Pair c =
     let a = c.args in
     let o = found a.family a.wide a.s.now c.requires c.index_in-index.ensures c.lead_of.ensures c.kind_in.ensures in
-    pair_given o c.in-Pair.is c.width_of-end.ensures c.minus_at.ensures c.pair_word.ensures
+    pair_given o c.in-Pair.is c.width_of.ensures c.minus_at.ensures c.pair_word.ensures
 
 pub returns-in_default : goal.returns-in_default
 returns-in_default c =

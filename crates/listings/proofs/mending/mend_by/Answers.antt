@@ -1,75 +1,48 @@
 -- `mending::mend_by` meets its contract: by what the reader answers of the mended bytes, and by what fits.
-use Rattle.std.proofs.Common.{refl, ap, ◌∙◌}
-use Rattle.figures.specs.Bytes.{laid}
-use Rattle.blocks.specs.declared.answers.Refusal.TheVariants.{Room, NoPlace}
-use Rattle.listings.specs.declared.mending.Mended.TheVariants.{Done}
-use Rattle.listings.specs.Outcome.{refused_mend}
-use Rattle.listings.proofs.Answered.{walked_fits, walked_part, walked_edits, mends_as, mend_refused, mend_no_room, mend_no_place, mend_done}
+use Rattle.std.proofs.Common.{rules, refl, lt-ltb, le-ltb}
+use Rattle.listings.proofs.Answered.{walked_fits, walked_size, by_answer}
 use Rattle.listings.proofs.mending.mend_by.Goals as goal
 
-pub slice_bounds-answer_of-end : goal.slice_bounds-answer_of-end
-slice_bounds-answer_of-end c =
+pub slice_bounds-bytes-end : goal.slice_bounds-bytes-end
+slice_bounds-bytes-end c = walked_fits c.args.s.now c.walk-walked.result c.walk-walked.new.room c.walk-walked.ensures
+
+pub slice_bounds-mended-end : goal.slice_bounds-mended-end
+slice_bounds-mended-end c = walked_size c.args.s.now c.walk-walked.result c.walk-walked.new.room c.walk-walked.ensures
+
+pub returns-in_err-answer_of : goal.returns-in_err-answer_of
+returns-in_err-answer_of c =
     let a = c.args in
     let w = c.walk-walked in
-    walked_fits a.family a.s.now a.room.now a.places w.result w.new.room w.ensures
+    rw (by_answer a.s.now w.result w.new.room w.ensures a.family a.room.now a.places c.answer_of.result c.answer_of.ensures, c.in_err-answer_of.was) (search rules)
 
--- no room
-pub returns-then-room-n : goal.returns-then-room-n
-returns-then-room-n c =
+pub returns-then-room-mended : goal.returns-then-room-mended
+returns-then-room-mended c =
     let a = c.args in
-    let s = a.s.now in
-    let room = a.room.now in
     let w = c.walk-walked in
-    let told = c.answer_of-answer in
-    let is = mend_no_room a.family s room a.places w.result w.new.room w.ensures told.result told.ensures c.in-Read.field-0 c.in-Read.is c.if-room-n.true in
-    mends_as a.family s a.places room room c.refuse-then-room-n.result (refused_mend room (Room w.result.bytes)) is c.refuse-then-room-n.ensures refl
+    rw (by_answer a.s.now w.result w.new.room w.ensures a.family a.room.now a.places c.answer_of.result c.answer_of.ensures, c.in_ok-answer_of.was, lt-ltb _ _ c.if-room-mended.true) (refl, refl)
 
--- no place for the edits
 pub returns-then-places-count : goal.returns-then-places-count
 returns-then-places-count c =
     let a = c.args in
-    let s = a.s.now in
-    let room = a.room.now in
     let w = c.walk-walked in
-    let told = c.answer_of-answer in
-    let is =
-    mend_no_place a.family s room a.places w.result w.new.room w.ensures told.result told.ensures c.in-Read.field-0 c.in-Read.is c.if-room-n.false
-    c.if-places-count.true in
-    mends_as a.family s a.places room room c.refuse-then-places-count.result (refused_mend room (NoPlace w.result.edits.n)) is
-    c.refuse-then-places-count.ensures refl
+    rw (
+      by_answer a.s.now w.result w.new.room w.ensures a.family a.room.now a.places c.answer_of.result c.answer_of.ensures,
+      c.in_ok-answer_of.was,
+      le-ltb _ _ c.if-room-mended.false,
+      c.as_slice-count.ensures,
+      lt-ltb _ _ (rw c.as_slice-count.ensures at c.if-places-count.true),
+    )
+    (refl, refl)
 
-pub slice_bounds-lay-end : goal.slice_bounds-lay-end
-slice_bounds-lay-end c =
+pub returns : goal.returns
+returns c =
     let a = c.args in
     let w = c.walk-walked in
-    walked_fits a.family a.s.now a.room.now a.places w.result w.new.room w.ensures
-
--- refused by the reader
-pub returns-in-Refused : goal.returns-in-Refused
-returns-in-Refused c =
-    let a = c.args in
-    let s = a.s.now in
-    let room = a.room.now in
-    let w = c.walk-walked in
-    let told = c.answer_of-answer in
-    let r = c.in-Refused.refusal in
-    let is = mend_refused a.family s room a.places w.result w.new.room w.ensures told.result told.ensures r c.in-Refused.is in
-    mends_as a.family s a.places room room c.refuse.result (refused_mend room r) is c.refuse.ensures refl
-
--- written
-pub returns-else-places-count : goal.returns-else-places-count
-returns-else-places-count c =
-    let a = c.args in
-    let s = a.s.now in
-    let room = a.room.now in
-    let walk = c.walk-walked in
-    let w = walk.result in
-    let bytes = walk.new.room in
-    let told = c.answer_of-answer in
-    let is =
-    mend_done a.family s room a.places w bytes walk.ensures told.result told.ensures c.in-Read.field-0 c.in-Read.is c.if-room-n.false
-    c.if-places-count.false in
-    let edits = walked_edits a.family s room a.places w bytes walk.ensures in
-    let part = walked_part a.family s room a.places w bytes walk.ensures in
-    mends_as a.family s a.places room c.lay.new.room (record { answer = Done w.bytes w.edits.n; edits = w.edits }) _ is
-    (λ i. record { answer = Done w.bytes w.edits.n; edits = edits i }) (c.lay.ensures ∙ ap (λ t. laid t room) part)
+    rw (
+      by_answer a.s.now w.result w.new.room w.ensures a.family a.room.now a.places c.answer_of.result c.answer_of.ensures,
+      c.in_ok-answer_of.was,
+      le-ltb _ _ c.if-room-mended.false,
+      le-ltb _ _ (rw c.as_slice-count.ensures at c.if-places-count.false),
+      ← walked_size a.s.now w.result w.new.room w.ensures,
+    )
+    (refl, rw (← walked_size a.s.now w.result w.new.room w.ensures) at c.lay.ensures)

@@ -1,0 +1,10 @@
+-- The head, and then the answer.
+use Rattle.std.proofs.Common.{rules}
+use Rattle.figures.proofs.Putting.{fills_more, fills_new}
+use Rattle.reports.proofs.piece.report.Goals as goal
+
+pub returns : goal.returns
+returns c =
+    let new = c.new-out.ensures in
+    let all = fills_new new.bytes new.at (fills_more c.put_head.ensures c.put_answer-accepted.ensures.text) in
+    search rules
