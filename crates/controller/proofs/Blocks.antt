@@ -12,8 +12,7 @@ use Rattle.blocks.specs.Judging.{judged}
 use Rattle.blocks.specs.Composing.{words_bytes, block_bytes}
 use Rattle.blocks.specs.Rules.{right_all, Lawful, read_as, reading_of}
 use Rattle.blocks.proofs.Written.{block_read}
-use Rattle.instrument.specs.Values.{is_put, kept_right, get_word, word_in}
-use Rattle.instrument.specs.declared.values.Kept.{Kept}
+use Rattle.instrument.specs.Values.{Kept, is_put, kept_right, get_word, word_in}
 use Rattle.controller.specs.Given.{given}
 use Rattle.controller.proofs.Words.{given_right, given_bytes}
 

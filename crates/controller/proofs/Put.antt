@@ -16,9 +16,8 @@ use Rattle.words.specs.Reading.{pos, right_word, word_of}
 use Rattle.words.proofs.Places.{spread}
 use Rattle.units.specs.declared.kinds.Family.TheVariants.{Station}
 use Rattle.words.specs.declared.records.Word.{Word}
-use Rattle.words.specs.declared.reading.OneWord.{OneWord}
-use Rattle.instrument.specs.Values.{is_text, stored_at, put_right, put_kept, eight_of}
-use Rattle.instrument.specs.declared.values.Eight.{Eight}
+use Rattle.words.specs.Reading.{word_in}
+use Rattle.instrument.specs.Values.{Eight, is_text, stored_at, put_right, put_kept, eight_of}
 use Rattle.instrument.proofs.Kept.{word_back, put_kept_right}
 use Rattle.controller.specs.Given.{zeros, given}
 use Rattle.controller.proofs.Words.{positions, row_given, place_reads, kept_small}
@@ -54,9 +53,9 @@ module _ (place : ℕ) (b : List ℕ) (long : length b ≡ 16) (named : (stored_
       sym (word_back place b long named first second right) ∙ rw (same_cond (eqb (stored_at place).first 46) 46) in
       ap (word_of Station false) is ∙ place_reads false false u m d small place kept
 
-  pub put_given : (wide : Bool) → PutGiven wide place b (word_of Station false b).word
+  pub put_given : (wide : Bool) → PutGiven wide place b (word_in (word_of Station false b))
   put_given wide =
-      let is = ap (λ (o : OneWord). o.word) put_reads in
+      let is = ap word_in put_reads in
       record {
         index = ap (λ (w : Word). w.index) (sym is);
         unit = ap unit_in (sym is);

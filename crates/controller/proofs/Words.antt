@@ -5,10 +5,11 @@ use mathlib.Core.Path.{◌≡◌, refl, sym, ap, ◌∙◌}
 use mathlib.Core.Bool.{Bool, true, false, cond, ◌&&◌, false≢true, and-false}
 use mathlib.Core.List.{List, [], ◌∷◌, ◌++◌}
 use native.Mathlib.Omega.{arith}
-use borrow.Author.Tests.{eqb-true, eqb-false, ne_eqb, leb-true, lt-ltb}
-use lib.Dec.{eqb, leb, ltb}
+use borrow.Author.Tests.{eqb-true, eqb-false, ne_eqb, lt-ltb}
+use lib.Dec.{eqb, ltb}
 use lib.ListN.{length, replicate}
 use lib.Seq.{take_all}
+use Rattle.std.specs.Prelude.{Option, Some, None}
 use Rattle.figures.specs.Bytes.{within, among, every}
 use Rattle.figures.specs.Decimal.{is_digit, number_from, number_of}
 use Rattle.figures.proofs.Bytes.{within_bounds}
@@ -31,15 +32,10 @@ use Rattle.units.specs.declared.counts.Whole.{Whole}
 use Rattle.units.specs.declared.counts.Count.{Count}
 use Rattle.units.specs.declared.counts.Count.TheVariants.{Text, Gon, Degree, Tenth}
 use Rattle.units.specs.declared.counts.Figures.TheVariants.{Number}
-use Rattle.units.specs.declared.counts.Valued.{Valued}
-use Rattle.units.specs.declared.counts.Valued.TheVariants.{Counted}
 use Rattle.words.specs.declared.records.Word.{Word}
-use Rattle.instrument.specs.Values.{units_of, stored_at, is_put, value_word, put_right, kept_right, get_word, eight_bytes, word_in}
+use Rattle.instrument.specs.Values.{Eight, Kept, put_of, units_of, stored_at, is_put, kept_right, get_word, eight_bytes, word_in}
 use Rattle.instrument.specs.declared.values.Stored.{Stored}
-use Rattle.instrument.specs.declared.values.Eight.{Eight}
-use Rattle.instrument.specs.declared.values.Kept.{Kept}
-use Rattle.instrument.specs.declared.values.Kept.TheVariants.{Never, Put}
-use Rattle.instrument.proofs.Kept.{each_stored, held_by, kept_outside, kept_held}
+use Rattle.instrument.proofs.Kept.{each_stored, held_by, kept_parts, kept_outside, kept_held}
 use Rattle.controller.specs.Given.{size_in, zeros, text_given, given}
 
 -- zeros on the left
@@ -59,9 +55,9 @@ zeros_length true d = refl
 zeros_length false d = refl
 
 -- v counts x, and nothing besides
-record Sized (v : Valued) (x : Whole) : Type 0 where
+record Sized (v : Option Count) (x : Whole) : Type 0 where
   count : Count
-  counts : v ≡ Counted count
+  counts : v ≡ Some count
   first : first_of count ≡ x
   second : second_of count ≡ zero_whole
 
@@ -81,7 +77,7 @@ angle_sized u m n low high =
     rw is (counted_sized range (Tenth (record { 0 = whole m (tenths_of n) })) (whole m (tenths_of n)) refl refl)))
 
 -- units 0 and 1
-length_sized : (u m n : ℕ) → u ≤ 49 → Sized (Counted (length_of u (whole m n))) (whole m (size_in u n))
+length_sized : (u m n : ℕ) → u ≤ 49 → Sized (Some (length_of u (whole m n))) (whole m (size_in u n))
 length_sized u m n high =
     let x = whole m n in
     let plain =
@@ -109,7 +105,7 @@ angle_units false = refl
 
 -- text by its kind
 
-text_value : (k : Kind) (i u m : ℕ) (l : List ℕ) → is_textual k ≡ true → value_at k i u m (figures_in k l) ≡ Counted Text
+text_value : (k : Kind) (i u m : ℕ) (l : List ℕ) → is_textual k ≡ true → value_at k i u m (figures_in k l) ≡ Some Text
 text_value kind.Missing i u m l e = absurd (false≢true e)
 text_value kind.Numbered i u m l e = refl
 text_value kind.Text i u m l e = refl
@@ -159,7 +155,7 @@ module _ (get wide : Bool) (u m : ℕ) (d : Eight) (small : m ≤ 1) where
 
   row_reads : (r : Stored) (c : Count) → is_listed (station_kind r.index) ≡ true → Units r → r.first ≤ u → u ≤ r.last
       → sign_right (station_kind r.index) (sign_byte m) ≡ true → data_right (station_kind r.index) letters ≡ true
-      → value_at (station_kind r.index) r.index u m (figures_in (station_kind r.index) letters) ≡ Counted c
+      → value_at (station_kind r.index) r.index u m (figures_in (station_kind r.index) letters) ≡ Some c
       → record_of r.index (info r) c (text_field (station_kind r.index) letters) ≡ row_given r
       → word_by Station wide (positions r) ≡ right_word (row_given r)
   row_reads r c listed units low high sign right value same =
@@ -190,7 +186,7 @@ module _ (get wide : Bool) (u m : ℕ) (d : Eight) (small : m ≤ 1) where
       let s = sized n low high parts.1 in
       let sign = sign_right_lem k m (record { small = small; plus = λ t. absurd (false≢true (sym plain ∙ t)) }) in
       let right : data_right k letters ≡ true = digits letters ∙ zeros_every is_digit wide (eight_bytes d) refl ∙ parts.0 in
-      let value : value_at k r.index u m (figures_in k letters) ≡ Counted s.count = rw (says letters, zeros_number wide (eight_bytes d)) s.counts in
+      let value : value_at k r.index u m (figures_in k letters) ≡ Some s.count = rw (says letters, zeros_number wide (eight_bytes d)) s.counts in
       row_reads r s.count listed units low high sign right value (rw (plain, dot, s.first, s.second))
 
   each : (place : ℕ) → Reads (stored_at place)
@@ -207,41 +203,42 @@ module _ (get wide : Bool) (u m : ℕ) (d : Eight) (small : m ≤ 1) where
       (λ n low high. rw is (λ _. length_sized u m n high)))
       (λ low high held. absurd (false≢true (sym (and-false (every is_digit (eight_bytes d))) ∙ held)))
 
-  pub place_reads : (place : ℕ) → kept_right place (Put u m d) ≡ true
+  pub place_reads : (place : ℕ) → kept_right place (put_of u m d) ≡ true
       → word_of Station wide (spread (positions (stored_at place)) []) ≡ right_word (row_given (stored_at place))
   place_reads place right =
       let r = stored_at place in
+      let long = (kept_parts place (record { unit = u; minus = m; eight = d }) right).long in
       by_test (within r.first r.last u)
       (λ q.
       let unit = within_bounds r.first r.last u q in
-      let held = sym (kept_held u m d small place (Put u m d) refl unit.0 unit.1) ∙ right in
+      let held = sym (kept_held u m d small place long unit.0 unit.1) ∙ right in
       word_spread wide (positions r) (zeros_length wide d) Station [] ∙ each place unit.0 unit.1 held)
-      (λ q. absurd (false≢true (sym (kept_outside u m d small place (Put u m d) refl q) ∙ right)))
+      (λ q. absurd (false≢true (sym (kept_outside u m d small place long q) ∙ right)))
 
-pub kept_small : (place u m : ℕ) (d : Eight) → kept_right place (Put u m d) ≡ true → m ≤ 1
-kept_small place u m d right = leb-true m 1 (both (leb m 1) (put_right place (value_word 46 place u m d)) right).0
+pub kept_small : (place u m : ℕ) (d : Eight) → kept_right place (put_of u m d) ≡ true → m ≤ 1
+kept_small place u m d right = (kept_parts place (record { unit = u; minus = m; eight = d }) right).small
 
 -- the word of GET, place by place
 word_places : (wide : Bool) (place u m : ℕ) (d : Eight) (small : m ≤ 1)
-    → word_in wide (get_word place (Put u m d)) ≡ spread (positions true wide u m d small (stored_at place)) []
+    → word_in wide (get_word place (put_of u m d)) ≡ spread (positions true wide u m d small (stored_at place)) []
 word_places true place u m d small = refl
 word_places false place u m d small = refl
 
 pub given_read : (wide : Bool) (place : ℕ) (k : Kept) → is_put k ≡ true → kept_right place k ≡ true
     → word_of Station wide (word_in wide (get_word place k)) ≡ right_word (given wide place k)
-given_read wide place Never put right = absurd (false≢true put)
-given_read wide place (Put u m d) put right =
-    let small = kept_small place u m d right in
-    ap (word_of Station wide) (word_places wide place u m d small) ∙ place_reads true wide u m d small place right
+given_read wide place None put right = absurd (false≢true put)
+given_read wide place (Some p) put right =
+    let small = kept_small place p.unit p.minus p.eight right in
+    ap (word_of Station wide) (word_places wide place p.unit p.minus p.eight small) ∙ place_reads true wide p.unit p.minus p.eight small place right
 
 pub given_right : (wide : Bool) (place : ℕ) (k : Kept) → is_put k ≡ true → kept_right place k ≡ true → is_right Station wide (given wide place k) ≡ true
 given_right wide place k put right =
     (read_write Station wide (word_in wide (get_word place k)) (given wide place k) (given_read wide place k put right)).0
 
 word_length : (wide : Bool) (place : ℕ) (k : Kept) → is_put k ≡ true → length (word_in wide (get_word place k)) ≡ word_size wide
-word_length wide place Never put = absurd (false≢true put)
-word_length true place (Put u m d) put = refl
-word_length false place (Put u m d) put = refl
+word_length wide place None put = absurd (false≢true put)
+word_length true place (Some p) put = refl
+word_length false place (Some p) put = refl
 
 pub given_bytes : (wide : Bool) (place : ℕ) (k : Kept) → is_put k ≡ true → kept_right place k ≡ true
     → bytes_of Station wide (given wide place k) ≡ word_in wide (get_word place k)

@@ -6,14 +6,13 @@ use Prim.Native.Nat.{ℕ}
 use Rattle.figures.specs.Promises.{Determined}
 use Rattle.figures.proofs.Determined.{by_equation}
 use Rattle.instrument.specs.Settings.{setting_number, row_at, settings_n, setting_place, factory_settings, rows_of, in_range, in_ranges}
-use Rattle.words.specs.declared.reading.Judged.{Judged}
-use Rattle.instrument.specs.Values.{stored_at, value_place, is_put, put_judged, put_kept, parts_right, get_word, widened}
+use Rattle.words.specs.Reading.{Judged}
+use Rattle.instrument.specs.Values.{Kept, stored_at, value_place, is_put, put_judged, put_kept, parts_right, get_word, widened}
 use Rattle.instrument.specs.Rows.{key_bytes}
 use Rattle.instrument.specs.declared.settings.Series.{Series}
 use Rattle.instrument.specs.declared.settings.Row.{Row}
-use Rattle.instrument.specs.declared.settings.Found.{Found}
+use Rattle.std.specs.Prelude.{Option}
 use Rattle.instrument.specs.declared.values.Stored.{Stored}
-use Rattle.instrument.specs.declared.values.Kept.{Kept}
 
 pub row_at_determined : Determined (Series × ℕ) Row (λ i r. r ≡ row_at i.0 i.1)
 row_at_determined = by_equation (Series × ℕ) Row (λ i. row_at i.0 i.1)
@@ -24,11 +23,8 @@ key_at_determined = by_equation (Series × ℕ) (List ℕ) (λ i. key_bytes "s" 
 pub settings_of_determined : Determined Series ℕ (λ i r. r ≡ settings_n i)
 settings_of_determined = by_equation Series ℕ settings_n
 
-pub setting_at_determined : Determined (Series × ℕ) Found (λ i r. r ≡ setting_place i.0 i.1)
-setting_at_determined = by_equation (Series × ℕ) Found (λ i. setting_place i.0 i.1)
-
-pub seek_determined : Determined (Series × ℕ) Found (λ i r. r ≡ setting_place i.0 i.1)
-seek_determined = setting_at_determined
+pub setting_at_determined : Determined (Series × ℕ) (Option ℕ) (λ i r. r ≡ setting_place i.0 i.1)
+setting_at_determined = by_equation (Series × ℕ) (Option ℕ) (λ i. setting_place i.0 i.1)
 
 pub in_range_determined : Determined (Row × ℕ) Bool (λ i r. r ≡ in_range i.0 i.1)
 in_range_determined = by_equation (Row × ℕ) Bool (λ i. in_range i.0 i.1)
@@ -42,8 +38,8 @@ in_ranges_determined = by_equation (Series × List ℕ) Bool (λ i. in_ranges (r
 pub stored_at_determined : Determined ℕ Stored (λ i r. r ≡ stored_at i)
 stored_at_determined = by_equation ℕ Stored stored_at
 
-pub value_place_determined : Determined ℕ Found (λ i r. r ≡ value_place i)
-value_place_determined = by_equation ℕ Found value_place
+pub value_place_determined : Determined ℕ (Option ℕ) (λ i r. r ≡ value_place i)
+value_place_determined = by_equation ℕ (Option ℕ) value_place
 
 pub is_put_determined : Determined Kept Bool (λ i r. r ≡ is_put i)
 is_put_determined = by_equation Kept Bool is_put

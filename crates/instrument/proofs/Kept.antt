@@ -4,7 +4,7 @@ use mathlib.Core.Path.{◌≡◌, refl, sym, ap, ◌∙◌}
 use mathlib.Core.Bool.{Bool, true, false, cond, not, ◌&&◌, ◌||◌, false≢true, and-true, and-false, and-eq-true_iff}
 use mathlib.Core.List.{List, [], ◌∷◌, ◌++◌}
 use native.Mathlib.Omega.{arith}
-use borrow.Author.Tests.{eqb-true, eq-eqb, leb-true, le-leb, lt-leb, lt-ltb}
+use borrow.Author.Tests.{eqb-true, eq-eqb, leb-true, le-leb, lt-ltb}
 use lib.Dec.{eqb, leb}
 use lib.ListN.{length, get_or, take, drop, drop_of_length-le, length-drop, get_or-eq_default}
 use lib.Seq.{drop-cons, get_or-drop, take_all}
@@ -29,19 +29,15 @@ use Rattle.units.specs.declared.kinds.Kind.TheVariants as kind
 use Rattle.units.specs.declared.counts.Figures.TheVariants.{Number}
 use Rattle.words.specs.declared.reading.Fault.{Fault}
 use Rattle.words.specs.declared.reading.Fault.TheVariants.{Short, Information}
-use Rattle.words.specs.declared.reading.Judged as one
-use Rattle.words.specs.declared.reading.OneWord.{OneWord}
+use Rattle.words.specs.Reading.{OneWord, Judged, judged_in, judged_wrong}
 use Rattle.words.specs.declared.records.Word.{Word}
-use Rattle.instrument.proofs.Seek.{Each, each_at}
-use Rattle.instrument.specs.Values.{units_of, stored, no_stored, stored_at, values_n, is_right_word, put_marks, put_right}
-use Rattle.instrument.specs.Values.{put_kept, value_word, kept_right, parts_in, parts_n, parts_right, eight_of, eight_bytes}
+use Rattle.instrument.proofs.Seek.{Each, each_at, turn_at, turn_on, seek_past}
+use Rattle.instrument.specs.Rows.{seek}
+use Rattle.instrument.specs.Values.{index_number, value_place, units_of, stored, no_stored, stored_at, values_n, is_right_word, put_marks, put_right}
+use Rattle.std.specs.Prelude.{Some, None}
+use Rattle.instrument.specs.Values.{Eight, put_of, put_kept, value_word, kept_right, parts_n, parts_right, eight_of, eight_bytes}
 use Rattle.instrument.specs.declared.values.Stored.{Stored}
-use Rattle.instrument.specs.declared.values.Eight.{Eight}
-use Rattle.instrument.specs.declared.values.Kept.{Kept}
-use Rattle.instrument.specs.declared.values.Kept.TheVariants.{Put}
-
-kept_put : (place : ℕ) (k : Kept) (u m : ℕ) (d : Eight) → k ≡ Put u m d → m ≤ 1 → kept_right place k ≡ put_right place (value_word 46 place u m d)
-kept_put place k u m d e h = rw e (ap (λ (t : Bool). t && put_right place (value_word 46 place u m d)) (le-leb m 1 h))
+use Rattle.instrument.specs.declared.values.Put.{Put}
 
 -- the n elements from i on
 unfoldable pub elements : ℕ → ℕ → List ℕ → List ℕ
@@ -53,9 +49,45 @@ unfolding elements
 elements_are zero i b h = drop_of_length-le b {i = i} (omega arith)
 elements_are (suc n) i b h = rw (drop-cons b i 0 (omega arith), elements_are n (suc i) b (omega arith))
 
+-- a turn of the lookup of an index: the row there is of it, or the place is that among the rows after it
+
+pub value_here : (i n : ℕ) → value_place n ≡ seek index_number (drop i stored) i n → i < values_n → (stored_at i).index ≡ n → Some i ≡ value_place n
+unfolding stored
+value_here i n e h q = turn_at index_number stored no_stored (stored_at i) i n (value_place n) e h refl q
+
+pub value_further : (i n : ℕ) → value_place n ≡ seek index_number (drop i stored) i n → i < values_n → ((stored_at i).index ≡ n → ⊥)
+    → value_place n ≡ seek index_number (drop (i + 1) stored) (i + 1) n
+unfolding stored
+value_further i n e h q = turn_on index_number stored no_stored (stored_at i) i n (value_place n) e h refl q
+
+pub value_none : (i n : ℕ) → value_place n ≡ seek index_number (drop i stored) i n → values_n ≤ i → None ≡ value_place n
+unfolding stored
+value_none i n e h = sym (e ∙ seek_past index_number stored i n h)
+
+-- an array of eight is its eight elements
+pub eight_whole : (d : Eight) → length d ≡ 8 → eight_bytes d ≡ d
+unfolding elements
+eight_whole d long = sym (elements_are 8 0 d long)
+
+-- what a value that may be held has
+pub record KeptParts (place : ℕ) (p : Put) : Type 0 where
+  pub long : length p.eight ≡ 8
+  pub small : p.minus ≤ 1
+  pub right : put_right place (value_word 46 place p.unit p.minus p.eight) ≡ true
+
+pub kept_parts : (place : ℕ) (p : Put) → kept_right place (Some p) ≡ true → KeptParts place p
+kept_parts place p e =
+    let may = put_right place (value_word 46 place p.unit p.minus p.eight) in
+    let (long, rest) = (and-eq-true_iff (eqb (length p.eight) 8) (leb p.minus 1 && may)).0 e in
+    let (small, right) = (and-eq-true_iff (leb p.minus 1) may).0 rest in
+    record { long = eqb-true (length p.eight) 8 long; small = leb-true p.minus 1 small; right = right }
+
+pub kept_put : (place u m : ℕ) (d : Eight) → length d ≡ 8 → m ≤ 1 → kept_right place (put_of u m d) ≡ put_right place (value_word 46 place u m d)
+kept_put place u m d long h = rw (eq-eqb (length d) 8 long, le-leb m 1 h)
+
 -- what a word that is read has at 7 and 16
 read_parts : (t : Tells) (long digits listed info sign chars blank counted : Bool) (w : Word)
-    → is_right_word (unless long Short 0 (rules t digits listed info sign chars blank counted (right_word w))).answer ≡ true
+    → is_right_word (judged_in (unless long Short 0 (rules t digits listed info sign chars blank counted (right_word w)))) ≡ true
     → (sign ≡ true) × (blank ≡ true)
 read_parts t false digits listed info sign chars blank counted w e = absurd (false≢true e)
 read_parts t true false listed info sign chars blank counted w e = absurd (false≢true e)
@@ -83,7 +115,7 @@ sign_below b = go (eqb b 43)
 
 -- a word with dots at 3-5 and a unit of the place: what is left is whether it is read
 pub put_read : (place : ℕ) (b : List ℕ) → pos 3 b ≡ 46 → pos 4 b ≡ 46 → pos 5 b ≡ 46 → (stored_at place).first ≤ pos 6 b → pos 6 b ≤ (stored_at place).last
-    → put_right place b ≡ is_right_word (word_of Station false b).answer
+    → put_right place b ≡ is_right_word (judged_in (word_of Station false b))
 put_read place b p q r low high =
     let unit = bounds_within (stored_at place).first (stored_at place).last (pos 6 b) low high in
     rw (eq-eqb (pos 3 b) 46 p, eq-eqb (pos 4 b) 46 q, eq-eqb (pos 5 b) 46 r, unit)
@@ -99,7 +131,7 @@ kind_right k i u m l = sign_right k (sign_byte m) && (data_right k l && is_count
 
 -- a word whose index, information and blank are right
 rules_read : (t : Tells) (info sign letters value : Bool) (w : Word) → info ≡ true
-    → is_right_word (rules t true true info sign letters true value (right_word w)).answer ≡ sign && (letters && value)
+    → is_right_word (judged_in (rules t true true info sign letters true value (right_word w))) ≡ sign && (letters && value)
 rules_read t false sign letters value w e = absurd (false≢true e)
 rules_read t true false letters value w e = refl
 rules_read t true true false value w e = refl
@@ -148,11 +180,11 @@ module _ (u m : ℕ) (d : Eight) (small : m ≤ 1) where
   Units r = Even (λ x. all_right (station_marks (station_kind r.index) 46 46 46 x)) true r.first (suc r.last)
 
   -- the word of a value with a unit of the row is read where its parts hold
-  abbrev Judged : Stored → Type 0
-  Judged r = r.first ≤ u → u ≤ r.last → is_right_word (word_of Station false (spread (positions r.index) [])).answer ≡ held_by r u m (eight_bytes d)
+  abbrev Held : Stored → Type 0
+  Held r = r.first ≤ u → u ≤ r.last → is_right_word (judged_in (word_of Station false (spread (positions r.index) []))) ≡ held_by r u m (eight_bytes d)
 
   row_read : (r : Stored) → is_listed (station_kind r.index) ≡ true → Units r → r.first ≤ u → u ≤ r.last
-      → is_right_word (word_of Station false (spread (positions r.index) [])).answer ≡ kind_right (station_kind r.index) r.index u m (eight_bytes d)
+      → is_right_word (judged_in (word_of Station false (spread (positions r.index) []))) ≡ kind_right (station_kind r.index) r.index u m (eight_bytes d)
   row_read r listed units low high =
       let i = r.index in
       let k = station_kind i in
@@ -162,11 +194,11 @@ module _ (u m : ℕ) (d : Eight) (small : m ≤ 1) where
       let word = record_by Station i p (count_or value) in
       let info : all_right (informed_at Station i p) ≡ true =
       rw (lt-ltb i 100 (index_below i listed)) (sym (along (λ x. all_right (station_marks k 46 46 46 x)) r.first (suc r.last) units low (omega arith))) in
-      ap (λ (w : OneWord). is_right_word w.answer) (word_spread false p refl Station [])
+      ap (λ (w : OneWord). is_right_word (judged_in w)) (word_spread false p refl Station [])
       ∙ rw (index_on i (index_below i listed), tens_digit i, ones_digit i, listed, sign_on m small)
       (rules_read (tells_by Station false i p) (all_right (informed_at Station i p)) (sign_right k (sign_byte m)) (data_right k l) (is_counted value) word info)
 
-  by_text : (r : Stored) → is_listed (station_kind r.index) ≡ true → Units r → is_textual (station_kind r.index) ≡ true → eqb r.first 46 ≡ true → Judged r
+  by_text : (r : Stored) → is_listed (station_kind r.index) ≡ true → Units r → is_textual (station_kind r.index) ≡ true → eqb r.first 46 ≡ true → Held r
   by_text r listed units text dot low high =
       row_read r listed units low high ∙ text_held (station_kind r.index) r.index u m (eight_bytes d) text ∙ rw dot
 
@@ -178,29 +210,28 @@ module _ (u m : ℕ) (d : Eight) (small : m ≤ 1) where
   by_number : (r : Stored) → is_listed (station_kind r.index) ≡ true → Units r → is_textual (station_kind r.index) ≡ false
       → data_right (station_kind r.index) (eight_bytes d) ≡ every is_digit (eight_bytes d)
       → figures_in (station_kind r.index) (eight_bytes d) ≡ Number (number_of (eight_bytes d))
-      → eqb r.first 46 ≡ false → Judged r
+      → eqb r.first 46 ≡ false → Held r
   by_number r listed units plain digits says dot low high =
       row_read r listed units low high ∙ number_held (station_kind r.index) r.index (eight_bytes d) plain digits says ∙ rw dot
 
-  each : (place : ℕ) → Judged (stored_at place)
+  each : (place : ℕ) → Held (stored_at place)
   unfolding among
   each =
-      each_stored Judged
+      each_stored Held
       (by_text (units_of 11 "." ".") refl refl refl refl)
       (by_text (units_of 16 "." ".") refl refl refl refl)
       (λ i is. by_number (units_of i "2" "4") (rw is) (rw is) (rw is) (rw is (one_right is_digit (eight_bytes d))) (rw is) refl)
       (λ i is. by_number (units_of i "0" "1") (rw is) (rw is) (rw is) (rw is (one_right is_digit (eight_bytes d))) (rw is) refl)
       (λ low high. sym (none_held u m (number_of (eight_bytes d)) (every is_digit (eight_bytes d))))
 
-  pub kept_outside : (place : ℕ) (k : Kept) → k ≡ Put u m d → within (stored_at place).first (stored_at place).last u ≡ false → kept_right place k ≡ false
-  kept_outside place k e out =
-      kept_put place k u m d e small ∙ rw out
+  pub kept_outside : (place : ℕ) → length d ≡ 8 → within (stored_at place).first (stored_at place).last u ≡ false → kept_right place (put_of u m d) ≡ false
+  kept_outside place long out = kept_put place u m d long small ∙ rw out
 
   -- a unit of the place: what is left is the sign and the characters
-  pub kept_held : (place : ℕ) (k : Kept) → k ≡ Put u m d → (stored_at place).first ≤ u → u ≤ (stored_at place).last
-      → kept_right place k ≡ held_by (stored_at place) u m (eight_bytes d)
-  kept_held place k e low high =
-      kept_put place k u m d e small
+  pub kept_held : (place : ℕ) → length d ≡ 8 → (stored_at place).first ≤ u → u ≤ (stored_at place).last
+      → kept_right place (put_of u m d) ≡ held_by (stored_at place) u m (eight_bytes d)
+  kept_held place long low high =
+      kept_put place u m d long small
       ∙ put_read place (value_word 46 place u m d) refl refl refl low high
       ∙ each place low high
 
@@ -257,13 +288,10 @@ parts_past place l long past =
     by_test (within 0 0 u)
     (λ i.
     let b = within_bounds 0 0 u i in
-    kept_held u m d small place (parts_in l) refl (rw none (omega arith)) (rw none b.1)
+    kept_held u m d small place refl (rw none (omega arith)) (rw none b.1)
     ∙ rw none (none_held u m (number_of (eight_bytes d)) (every is_digit (eight_bytes d))))
-    (λ o. kept_outside u m d small place (parts_in l) refl (rw none o)))
+    (λ o. kept_outside u m d small place refl (rw none o)))
     (λ e. rw e))
-
-pub parts_sign : (place : ℕ) (l : List ℕ) → 1 < get_or l 1 0 → parts_right place l ≡ false
-parts_sign place l h = rw (lt-leb (get_or l 1 0) 1 h) (and-false (eqb (length l) parts_n))
 
 -- parts that lie there, with a place that there is and a sign
 module _ (place : ℕ) (l : List ℕ) (long : length l ≡ parts_n) (there : place < values_n) (small : get_or l 1 0 ≤ 1) where
@@ -276,13 +304,10 @@ module _ (place : ℕ) (l : List ℕ) (long : length l ≡ parts_n) (there : pla
   abbrev characters : List ℕ
   characters = take 8 (drop 2 l)
 
-  pub parts_outside : within (stored_at place).first (stored_at place).last unit ≡ false → parts_right place l ≡ false
-  parts_outside out = rw (eq-eqb (length l) parts_n long) (kept_outside unit minus (eight_of (drop 2 l)) small place (parts_in l) refl out)
-
   module _ (low : (stored_at place).first ≤ unit) (high : unit ≤ (stored_at place).last) where
     held : parts_right place l ≡ held_by (stored_at place) unit minus characters
     held =
-        rw (eq-eqb (length l) parts_n long) (kept_held unit minus (eight_of (drop 2 l)) small place (parts_in l) refl low high)
+        rw (eq-eqb (length l) parts_n long) (kept_held unit minus (eight_of (drop 2 l)) small place refl low high)
         ∙ ap (held_by (stored_at place) unit minus) (parts_eight l long)
 
     pub parts_text : unit ≡ 46 → parts_right place l ≡ eqb minus 0 && every is_graphic characters
@@ -300,14 +325,15 @@ pub put_minus : (place a b c d e u : ℕ) (rest : List ℕ) → is_textual (kind
     → put_right place (a ∷ b ∷ c ∷ d ∷ e ∷ u ∷ 45 ∷ rest) ≡ put_right place (a ∷ b ∷ c ∷ d ∷ e ∷ u ∷ 43 ∷ rest)
 put_minus place a b c d e u rest number =
     let m = put_marks place (a ∷ b ∷ c ∷ d ∷ e ∷ u ∷ []) in
-    ap (λ (t : one.Judged). is_right_word (cond (all_right m) t (one.Judged.Wrong Information (2 + first_wrong m))))
+    ap (λ (t : Judged). is_right_word (cond (all_right m) t (judged_wrong Information (2 + first_wrong m))))
     (minus_as_plus Station false a b c d e u rest number)
 
 pub kept_minus : (place u : ℕ) (d : Eight) → is_listed (station_kind (stored_at place).index) ≡ true → is_textual (station_kind (stored_at place).index) ≡ false
-    → kept_right place (Put u 1 d) ≡ kept_right place (Put u 0 d)
+    → kept_right place (put_of u 1 d) ≡ kept_right place (put_of u 0 d)
 kept_minus place u d listed number =
     let i = (stored_at place).index in
-    put_minus place (tens_of i) (ones_of i) 46 46 46 u (eight_bytes d ++ codes " ") (rw (index_on i (index_below i listed), listed) number)
+    ap (λ (t : Bool). eqb (length d) 8 && t)
+    (put_minus place (tens_of i) (ones_of i) 46 46 46 u (eight_bytes d ++ codes " ") (rw (index_on i (index_below i listed), listed) number))
 
 -- a word that may be put there
 pub record PutRight (place : ℕ) (b : List ℕ) : Type 0 where
@@ -315,7 +341,7 @@ pub record PutRight (place : ℕ) (b : List ℕ) : Type 0 where
   pub dot4 : pos 4 b ≡ 46
   pub dot5 : pos 5 b ≡ 46
   pub unit : within (stored_at place).first (stored_at place).last (pos 6 b) ≡ true
-  pub read : is_right_word (word_of Station false b).answer ≡ true
+  pub read : is_right_word (judged_in (word_of Station false b)) ≡ true
 
 pub put_parts : (place : ℕ) (b : List ℕ) → put_right place b ≡ true → PutRight place b
 put_parts place b e =
@@ -323,7 +349,7 @@ put_parts place b e =
     let q = is_dot (pos 4 b) in
     let r = is_dot (pos 5 b) in
     let u = within (stored_at place).first (stored_at place).last (pos 6 b) in
-    let (all, read) = both_right (all_right (put_marks place b)) (word_of Station false b).answer _ _ e in
+    let (all, read) = both_right (all_right (put_marks place b)) (judged_in (word_of Station false b)) _ _ e in
     let first = (and-eq-true_iff p (q && (r && u))).0 all in
     let second = (and-eq-true_iff q (r && u)).0 first.1 in
     let third = (and-eq-true_iff r u).0 second.1 in
@@ -335,7 +361,7 @@ put_parts place b e =
       read = read;
     }
   where
-    both_right : (t : Bool) (j : one.Judged) (x : Fault) (at : ℕ) → is_right_word (cond t j (one.Judged.Wrong x at)) ≡ true
+    both_right : (t : Bool) (j : Judged) (x : Fault) (at : ℕ) → is_right_word (cond t j (judged_wrong x at)) ≡ true
         → (t ≡ true) × (is_right_word j ≡ true)
     both_right true j x at h = (refl, h)
     both_right false j x at h = absurd (false≢true h)
@@ -373,4 +399,4 @@ module _ (place : ℕ) (b : List ℕ) (long : length b ≡ 16) (named : (stored_
 
   pub put_kept_right : kept_right place (put_kept b) ≡ true
   put_kept_right =
-      kept_put place (put_kept b) (pos 6 b) (sign_of (pos 7 b)) (eight_of (drop 7 b)) refl (sign_below (pos 7 b)) ∙ ap (put_right place) word_back ∙ right
+      kept_put place (pos 6 b) (sign_of (pos 7 b)) (eight_of (drop 7 b)) refl (sign_below (pos 7 b)) ∙ ap (put_right place) word_back ∙ right

@@ -5,6 +5,7 @@ use mathlib.Core.Bool.{Bool, true, false, cond, not, ◌&&◌, false≢true, and
 use mathlib.Core.List.{List, [], ◌∷◌, ◌++◌, map}
 use native.Mathlib.Numerals.{add-one}
 use native.Mathlib.Omega.{arith}
+use borrow.Author.Rules.{rules}
 use borrow.Author.Tests.{le-leb, leb-true, leb-false, not-true}
 use lib.Dec.{leb}
 use lib.ListN.{length, get_or, set, take, drop, replicate, drop_of_length-le, length-map, length-append, length-replicate, get_or-map}
@@ -12,10 +13,10 @@ use lib.Seq.{drop-cons, take-suc, take-suc-set, take_all}
 use Rattle.instrument.specs.declared.settings.Row.{Row}
 use Rattle.instrument.specs.declared.settings.Series.{Series}
 use Rattle.instrument.specs.declared.settings.Series.TheVariants.{Tps100, Tps300}
-use Rattle.instrument.specs.Settings.{rows100, rows300, setting_number, setting_place, rows_of, settings_n, settings_most, no_row, row_at, held_rows, only, is_gap, in_range, in_ranges, modes161}
+use Rattle.instrument.specs.Settings.{factory_of, factory_settings, rows100, rows300, setting_number, setting_place, rows_of, settings_n, settings_most, no_row, row_at, held_rows, only, is_gap, in_range, in_ranges, modes161}
 use Rattle.instrument.specs.Rows.{seek, key_bytes}
-use Rattle.instrument.specs.declared.settings.Found.TheVariants.{At}
-use Rattle.instrument.proofs.Seek.{each_row, row_tested, NoneOf, past_place, turn_at, turn_on}
+use Rattle.std.specs.Prelude.{Some, None}
+use Rattle.instrument.proofs.Seek.{each_at, each_row, row_tested, turn_at, turn_on, seek_past}
 use Rattle.figures.specs.Bytes.{among, every}
 use Rattle.figures.proofs.Tests.{and_on, and_off, by_test, along, among_above}
 
@@ -52,26 +53,27 @@ row_there (r ∷ rs) n (suc i) = row_there rs n i
 pub place_row : (k : Series) (i : ℕ) → get_or (held_rows k) i no_row ≡ row_at k i
 place_row k i = row_there (rows_of k) (settings_most - settings_n k) i
 
--- what a `match` on a place gives of the rows' keys: the key of an arm's row, and past the last
+-- each row has the key of its number
+abbrev Keyed : Row → Type 0
+Keyed r = r.key ≡ key_bytes "s" r.number
 
-abbrev key_in : List Row → ℕ → List ℕ
-key_in rs i = key_bytes "s" (setting_number (get_or rs i no_row))
-
-pub key_place : (rs : List Row) {r : List ℕ} {place i : ℕ} → place ≡ i → r ≡ key_in rs i → r ≡ key_in rs place
-key_place rs e h = rw e h
-
-pub key_past : (rs : List Row) (n place : ℕ) {r : List ℕ} → r ≡ key_bytes "s" 0 → length rs ≡ n → NoneOf place n → r ≡ key_in rs place
-key_past rs n place e long none = e ∙ ap (λ (x : Row). key_bytes "s" (setting_number x)) (past_place rs no_row n place long none)
+pub keyed : (k : Series) (i : ℕ) → (row_at k i).key ≡ key_bytes "s" (row_at k i).number
+unfolding rows100 rows300
+keyed Tps100 = each_at Keyed no_row rows100 (search rules)
+keyed Tps300 = each_at Keyed no_row rows300 (search rules)
 
 -- a turn of the lookup of a series: the row there has that number, or the place is that among the rows after it
 
 pub seek_here : (k : Series) (i n : ℕ) → setting_place k n ≡ seek setting_number (drop i (rows_of k)) i n → i < settings_n k
-    → setting_number (row_at k i) ≡ n → At i ≡ setting_place k n
+    → setting_number (row_at k i) ≡ n → Some i ≡ setting_place k n
 seek_here k i n e h q = turn_at setting_number (rows_of k) no_row (row_at k i) i n (setting_place k n) e h refl q
 
 pub seek_further : (k : Series) (i n : ℕ) → setting_place k n ≡ seek setting_number (drop i (rows_of k)) i n → i < settings_n k
     → (setting_number (row_at k i) ≡ n → ⊥) → setting_place k n ≡ seek setting_number (drop (i + 1) (rows_of k)) (i + 1) n
 seek_further k i n e h q = turn_on setting_number (rows_of k) no_row (row_at k i) i n (setting_place k n) e h refl q
+
+pub seek_none : (k : Series) (i n : ℕ) → setting_place k n ≡ seek setting_number (drop i (rows_of k)) i n → settings_n k ≤ i → None ≡ setting_place k n
+seek_none k i n e h = sym (e ∙ seek_past setting_number (rows_of k) i n h)
 
 -- parameters
 
@@ -106,6 +108,10 @@ ranges_long (r ∷ rs) (p ∷ ps) e = ap suc (ranges_long rs ps ((and-eq-true_if
 
 pub ranges_short : (rs : List Row) (ps : List ℕ) → (length ps ≡ length rs → ⊥) → in_ranges rs ps ≡ false
 ranges_short rs ps n = by_test (in_ranges rs ps) (λ e. absurd (n (ranges_long rs ps e))) (λ e. e)
+
+pub ranges_all : (rs : List Row) (ps : List ℕ) (i : ℕ) → length rs ≤ i → length ps ≤ i → in_ranges (drop i rs) (drop i ps) ≡ true
+unfolding in_ranges
+ranges_all rs ps i hr hp = rw (drop_of_length-le rs hr, drop_of_length-le ps hp)
 
 pub range_high : (r : Row) (p : ℕ) → in_range r p ≡ true → p ≤ r.highest
 range_high r p e =
@@ -142,9 +148,23 @@ only_those p =
     same true b e = sym e
     same false b e = sym (not-true b e)
 
-pub ranges_all : (rs : List Row) (ps : List ℕ) (i : ℕ) → length rs ≤ i → length ps ≤ i → in_ranges (drop i rs) (drop i ps) ≡ true
-unfolding in_ranges
-ranges_all rs ps i hr hp = rw (drop_of_length-le rs hr, drop_of_length-le ps hp)
+-- a turn of the loop that judges parameters by a series' rows
+
+pub ranges_else : (k : Series) (ps : List ℕ) → (length ps ≡ settings_n k → ⊥) → false ≡ in_ranges (rows_of k) ps
+ranges_else k ps n = sym (ranges_short (rows_of k) ps n)
+
+pub ranges_off : (k : Series) (ps : List ℕ) (i : ℕ) → in_ranges (rows_of k) ps ≡ in_ranges (drop i (rows_of k)) (drop i ps) → length ps ≡ settings_n k
+    → i < length ps → in_range (row_at k i) (get_or ps i 0) ≡ false → false ≡ in_ranges (rows_of k) ps
+ranges_off k ps i e long h off = sym (e ∙ ranges_not (rows_of k) ps no_row i (omega arith) h off)
+
+pub ranges_on : (k : Series) (ps : List ℕ) (i : ℕ) → in_ranges (rows_of k) ps ≡ in_ranges (drop i (rows_of k)) (drop i ps) → length ps ≡ settings_n k
+    → i < length ps → in_range (row_at k i) (get_or ps i 0) ≡ true
+    → in_ranges (rows_of k) ps ≡ in_ranges (drop (i + 1) (rows_of k)) (drop (i + 1) ps)
+ranges_on k ps i e long h on = e ∙ ranges_more (rows_of k) ps no_row i (omega arith) h on
+
+pub ranges_done : (k : Series) (ps : List ℕ) (i : ℕ) → in_ranges (rows_of k) ps ≡ in_ranges (drop i (rows_of k)) (drop i ps) → length ps ≡ settings_n k
+    → length ps ≤ i → true ≡ in_ranges (rows_of k) ps
+ranges_done k ps i e long h = sym (e ∙ ranges_all (rows_of k) ps i (omega arith) h)
 
 -- a list mapped into an array
 
@@ -157,6 +177,13 @@ module _ {A B : Type 0} (f : A → B) where
   pub map_all : (l : List A) (out : List B) (i : ℕ) → length l ≤ i → length out ≤ i → take i out ≡ take i (map f l) → out ≡ map f l
   map_all l out i hl ho e = sym (take_all i out ho) ∙ e ∙ take_all i (map f l) (rw (length-map l f) hl)
 
--- what `search` lacks to find the length of an array of structs that a struct holds
-pub unmapped : (A B : Type 0) (f : A → B) (l : List A) (n : ℕ) → length (map f l) ≡ n → length l ≡ n
-unmapped A B f l n e = sym (length-map l f) ∙ e
+-- the loop that lays the factory's parameters down
+
+pub factory_more : (k : Series) (out : List ℕ) (i : ℕ) → length out ≡ settings_most → i < settings_most → take i out ≡ take i (factory_settings k)
+    → take (i + 1) (set out i (row_at k i).factory) ≡ take (i + 1) (factory_settings k)
+factory_more k out i long h e =
+    rw (sym (place_row k i)) (map_more factory_of (held_rows k) out no_row i (omega (arith, held_rows_long k)) (omega arith) e)
+
+pub factory_all : (k : Series) (out : List ℕ) (i : ℕ) → length out ≡ settings_most → settings_most ≤ i → take i out ≡ take i (factory_settings k)
+    → out ≡ factory_settings k
+factory_all k out i long h e = map_all factory_of (held_rows k) out i (omega (arith, held_rows_long k)) (omega arith) e

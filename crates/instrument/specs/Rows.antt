@@ -1,16 +1,14 @@
 -- What holds of any list of rows: the lookup of one by its number, and its key on a sheet.
-use Rattle.std.specs.Prelude.{ℕ, ◌+◌, cond, List, [], ◌∷◌, ◌++◌, eqb, replicate}
+use Rattle.std.specs.Prelude.{ℕ, ◌+◌, cond, Option, Some, None, List, [], ◌∷◌, ◌++◌, eqb, replicate}
 use Prim.Native.String.{String}
 use Rattle.figures.specs.Text.{codes}
 use Rattle.figures.specs.Bytes.{laid}
 use Rattle.figures.specs.Decimal.{decimal_of}
-use Rattle.instrument.specs.declared.settings.Found.{Found}
-use Rattle.instrument.specs.declared.settings.Found.TheVariants.{Nothing, At}
 
 -- the place, counted from i, of the first row of that number
-unfoldable pub seek : {A : Type 0} → (A → ℕ) → List A → ℕ → ℕ → Found
-seek number [] i n = Nothing
-seek number (r ∷ rs) i n = cond (eqb (number r) n) (At i) (seek number rs (i + 1) n)
+unfoldable pub seek : {A : Type 0} → (A → ℕ) → List A → ℕ → ℕ → Option ℕ
+seek number [] i n = None
+seek number (r ∷ rs) i n = cond (eqb (number r) n) (Some i) (seek number rs (i + 1) n)
 
 -- "`s` and each setting", "`v` and each index": a letter and the number
 abbrev pub name_of : String → ℕ → List ℕ

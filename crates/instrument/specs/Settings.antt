@@ -1,26 +1,24 @@
 -- The settings of each series. "Settings (000, SET list of TPS100; all equipment fitted), those up to 136 only, as number:highest parameter, lowest 0
 -- each"; of TPS300 (request 103) "000's CONF list from 41 to 171, with its ranges".
-use Rattle.std.specs.Prelude.{ℕ, zero, suc, ◌+◌, ◌-◌, Bool, true, false, not, ◌&&◌, ◌||◌, List, [], ◌∷◌, ◌++◌, map, eqb, leb, length, get_or, take, replicate}
+use Rattle.std.specs.Prelude.{ℕ, zero, suc, ◌+◌, ◌-◌, Bool, true, false, not, ◌&&◌, Option, Some, None, List, [], ◌∷◌, ◌++◌, map, eqb, leb, length, get_or, take, replicate}
+use Rattle.std.specs.List.{list_any}
 use Rattle.figures.specs.Bytes.{laid}
-use Rattle.instrument.specs.Rows.{seek}
+use Rattle.instrument.specs.Rows.{seek, key_bytes}
 use Rattle.instrument.specs.declared.settings.Series.{Series}
 use Rattle.instrument.specs.declared.settings.Series.TheVariants.{Tps100, Tps300}
-use Rattle.instrument.specs.declared.settings.Gaps.{Gaps}
 use Rattle.instrument.specs.declared.settings.Row.{Row}
-use Rattle.instrument.specs.declared.settings.Found.{Found}
-use Rattle.instrument.specs.declared.settings.Found.TheVariants.{Nothing, At}
 
 -- up to four parameters that are left out between the lowest and the highest; 255 leaves none out
-abbrev pub gaps_of : List ℕ → Gaps
-gaps_of l = record { 0 = get_or l 0 255; 1 = get_or l 1 255; 2 = get_or l 2 255; 3 = get_or l 3 255 }
+abbrev pub gaps_of : List ℕ → List ℕ
+gaps_of l = get_or l 0 255 ∷ get_or l 1 255 ∷ get_or l 2 255 ∷ get_or l 3 255 ∷ []
 
-abbrev pub no_gaps : Gaps
+abbrev pub no_gaps : List ℕ
 no_gaps = gaps_of []
 
--- number, lowest and highest parameter, gaps, whether it can only be asked for, and the factory's
-abbrev pub row_of : ℕ → ℕ → ℕ → Gaps → Bool → ℕ → Row
+-- number, its key on a sheet, lowest and highest parameter, gaps, whether it can only be asked for, and the factory's
+abbrev pub row_of : ℕ → ℕ → ℕ → List ℕ → Bool → ℕ → Row
 row_of number lowest highest g asked factory =
-    record { number = number; lowest = lowest; highest = highest; gaps = g; asked = asked; factory = factory }
+    record { number = number; key = key_bytes "s" number; lowest = lowest; highest = highest; gaps = g; asked = asked; factory = factory }
 
 abbrev pub row : ℕ → ℕ → ℕ → ℕ → Row
 row number lowest highest factory = row_of number lowest highest no_gaps false factory
@@ -52,8 +50,8 @@ only number parameters =
 abbrev pub setting_number : Row → ℕ
 setting_number r = r.number
 
-abbrev pub is_gap : Gaps → ℕ → Bool
-is_gap g p = eqb p g.0 || (eqb p g.1 || (eqb p g.2 || eqb p g.3))
+abbrev pub is_gap : List ℕ → ℕ → Bool
+is_gap g p = list_any (λ x. eqb x p) g
 
 abbrev pub in_range : Row → ℕ → Bool
 in_range r p = leb r.lowest p && (leb p r.highest && not (is_gap r.gaps p))
@@ -127,8 +125,8 @@ rows300 =
     ∷ low 171 0 1
     ∷ []
 
--- A third series takes its case of `Series`; its table, here and in a file of src/, with `settings_most` if it has more than any; its keys in src/keys.rt; its
--- byte in an image (`form_of`, `series_in`); its line on a sheet (`series_line`); and an arm wherever the code names the series. Lookup, range, key and factory go by
+-- A third series takes its case of `Series`; its table, here and in a file of src/, with `settings_most` if it has more than any; its byte in an
+-- image (`form_of`, `series_in`); its line on a sheet (`series_line`); and an arm wherever the code names the series. Lookup, range, key and factory go by
 -- the rows, whichever series they are of.
 abbrev pub rows_of : Series → List Row
 rows_of Tps100 = rows100
@@ -150,12 +148,12 @@ abbrev pub row_at : Series → ℕ → Row
 row_at k i = get_or (rows_of k) i no_row
 
 -- the place of the setting of that number
-abbrev pub setting_place : Series → ℕ → Found
+abbrev pub setting_place : Series → ℕ → Option ℕ
 setting_place k n = seek setting_number (rows_of k) 0 n
 
-abbrev pub parameter_at : List ℕ → Found → ℕ
-parameter_at settings Nothing = 0
-parameter_at settings (At i) = get_or settings i 0
+abbrev pub parameter_at : List ℕ → Option ℕ → ℕ
+parameter_at settings None = 0
+parameter_at settings (Some i) = get_or settings i 0
 
 -- the parameter of the setting of that number; 0 where the series has none
 abbrev pub parameter_of : Series → List ℕ → ℕ → ℕ

@@ -2,7 +2,7 @@
 ghost use Rattle.std.specs.Prelude.{◌≡◌, get_or};
 ghost use Rattle.instrument.specs.Settings.{rows100, no_row};
 
-use crate::settings::{NO_GAPS, NO_ROW, Row};
+use crate::settings::{NO_ROW, Row};
 
 // How many there are.
 pub const SETTINGS_100: usize = 19;
@@ -12,176 +12,143 @@ pub const END_100: usize = 10;
 
 const S30: Row = Row {
     number: 30,
-    lowest: 0,
+    key: *b"s30=\0\0\0\0",
     highest: 1,
-    gaps: NO_GAPS,
-    asked: false,
-    factory: 0,
+    ..NO_ROW
 };
 
 const S32: Row = Row {
     number: 32,
-    lowest: 0,
+    key: *b"s32=\0\0\0\0",
     highest: 3,
-    gaps: NO_GAPS,
-    asked: false,
-    factory: 0,
+    ..NO_ROW
 };
 
 const S34: Row = Row {
     number: 34,
-    lowest: 0,
+    key: *b"s34=\0\0\0\0",
     highest: 1,
-    gaps: NO_GAPS,
-    asked: false,
-    factory: 0,
+    ..NO_ROW
 };
 
 const S40: Row = Row {
     number: 40,
-    lowest: 0,
+    key: *b"s40=\0\0\0\0",
     highest: 2,
-    gaps: NO_GAPS,
-    asked: false,
-    factory: 0,
+    ..NO_ROW
 };
 
 const S41: Row = Row {
     number: 41,
-    lowest: 0,
+    key: *b"s41=\0\0\0\0",
     highest: 1,
-    gaps: NO_GAPS,
-    asked: false,
-    factory: 0,
+    ..NO_ROW
 };
 
 const S44: Row = Row {
     number: 44,
-    lowest: 0,
+    key: *b"s44=\0\0\0\0",
     highest: 2,
-    gaps: NO_GAPS,
-    asked: false,
-    factory: 0,
+    ..NO_ROW
 };
 
 const S49: Row = Row {
     number: 49,
-    lowest: 0,
+    key: *b"s49=\0\0\0\0",
     highest: 1,
-    gaps: NO_GAPS,
-    asked: false,
-    factory: 0,
+    ..NO_ROW
 };
 
 const S50: Row = Row {
     number: 50,
-    lowest: 0,
+    key: *b"s50=\0\0\0\0",
     highest: 2,
-    gaps: NO_GAPS,
-    asked: false,
-    factory: 0,
+    ..NO_ROW
 };
 
 const S70: Row = Row {
     number: 70,
-    lowest: 0,
+    key: *b"s70=\0\0\0\0",
     highest: 5,
-    gaps: NO_GAPS,
-    asked: false,
     factory: 5,
+    ..NO_ROW
 };
 
 const S71: Row = Row {
     number: 71,
-    lowest: 0,
+    key: *b"s71=\0\0\0\0",
     highest: 2,
-    gaps: NO_GAPS,
-    asked: false,
-    factory: 0,
+    ..NO_ROW
 };
 
 const S73: Row = Row {
     number: 73,
-    lowest: 0,
+    key: *b"s73=\0\0\0\0",
     highest: 1,
-    gaps: NO_GAPS,
-    asked: false,
     factory: 1,
+    ..NO_ROW
 };
 
 const S76: Row = Row {
     number: 76,
-    lowest: 0,
+    key: *b"s76=\0\0\0\0",
     highest: 1,
-    gaps: NO_GAPS,
-    asked: false,
-    factory: 0,
+    ..NO_ROW
 };
 
 const S80: Row = Row {
     number: 80,
-    lowest: 0,
+    key: *b"s80=\0\0\0\0",
     highest: 1,
-    gaps: NO_GAPS,
-    asked: false,
-    factory: 0,
+    ..NO_ROW
 };
 
 const S81: Row = Row {
     number: 81,
-    lowest: 0,
+    key: *b"s81=\0\0\0\0",
     highest: 2,
-    gaps: NO_GAPS,
-    asked: false,
-    factory: 0,
+    ..NO_ROW
 };
 
 const S95: Row = Row {
     number: 95,
-    lowest: 0,
+    key: *b"s95=\0\0\0\0",
     highest: 1,
-    gaps: NO_GAPS,
-    asked: false,
-    factory: 0,
+    ..NO_ROW
 };
 
 const S102: Row = Row {
     number: 102,
-    lowest: 0,
+    key: *b"s102=\0\0\0",
     highest: 1,
-    gaps: NO_GAPS,
-    asked: false,
-    factory: 0,
+    ..NO_ROW
 };
 
 const S103: Row = Row {
     number: 103,
-    lowest: 0,
+    key: *b"s103=\0\0\0",
     highest: 1,
-    gaps: NO_GAPS,
-    asked: false,
     factory: 1,
+    ..NO_ROW
 };
 
 const S135: Row = Row {
     number: 135,
-    lowest: 0,
+    key: *b"s135=\0\0\0",
     highest: 1,
-    gaps: NO_GAPS,
-    asked: false,
-    factory: 0,
+    ..NO_ROW
 };
 
 const S136: Row = Row {
     number: 136,
-    lowest: 0,
+    key: *b"s136=\0\0\0",
     highest: 1,
-    gaps: NO_GAPS,
-    asked: false,
-    factory: 0,
+    ..NO_ROW
 };
 
 // Gives the row at a place of TPS100. The rows go by name, since an array of them would be laid down whole for each that is taken out of it.
+#[tactic(auto, unfolding(crate::specs::Settings::rows100, figures::specs::Decimal::digits_nBy, figures::specs::Decimal::digits_of))]
+#[inline(always)]
 pub(crate) fn row_100(place: usize) -> Row
     ensures { result ≡ get_or rows100 place no_row }
 {

@@ -2,7 +2,7 @@
 ghost use Rattle.std.specs.Prelude.{◌≡◌, get_or};
 ghost use Rattle.instrument.specs.Settings.{rows300, no_row};
 
-use crate::settings::{Gaps, NO_GAPS, NO_ROW, Row};
+use crate::settings::{NO_ROW, Row};
 
 // Where 73 stands among them, which says how a reply ends, and 137, which says how wide its words are; what uses a place proves it.
 pub const END_300: usize = 9;
@@ -10,279 +10,231 @@ pub const END_300: usize = 9;
 pub const WIDE_300: usize = 25;
 
 // The modes of 161 are 0, 1, 5, 6, 7, 9 and 10.
-const MODES: Gaps = Gaps(2, 3, 4, 8);
+const MODES: [u8; 4] = [2, 3, 4, 8];
 
 const T41: Row = Row {
     number: 41,
-    lowest: 0,
+    key: *b"s41=\0\0\0\0",
     highest: 4,
-    gaps: NO_GAPS,
-    asked: false,
-    factory: 0,
+    ..NO_ROW
 };
 
 const T42: Row = Row {
     number: 42,
-    lowest: 0,
+    key: *b"s42=\0\0\0\0",
     highest: 1,
-    gaps: NO_GAPS,
-    asked: false,
-    factory: 0,
+    ..NO_ROW
 };
 
 const T43: Row = Row {
     number: 43,
-    lowest: 0,
+    key: *b"s43=\0\0\0\0",
     highest: 6,
-    gaps: NO_GAPS,
-    asked: false,
-    factory: 0,
+    ..NO_ROW
 };
 
 const T50: Row = Row {
     number: 50,
-    lowest: 0,
+    key: *b"s50=\0\0\0\0",
     highest: 4,
-    gaps: NO_GAPS,
-    asked: false,
-    factory: 0,
+    ..NO_ROW
 };
 
 const T51: Row = Row {
     number: 51,
-    lowest: 0,
+    key: *b"s51=\0\0\0\0",
     highest: 4,
-    gaps: NO_GAPS,
-    asked: false,
-    factory: 0,
+    ..NO_ROW
 };
 
 const T55: Row = Row {
     number: 55,
+    key: *b"s55=\0\0\0\0",
     lowest: 1,
     highest: 10,
-    gaps: NO_GAPS,
-    asked: false,
     factory: 1,
+    ..NO_ROW
 };
 
 const T56: Row = Row {
     number: 56,
+    key: *b"s56=\0\0\0\0",
     lowest: 1,
     highest: 10,
-    gaps: NO_GAPS,
-    asked: false,
     factory: 1,
+    ..NO_ROW
 };
 
 const T70: Row = Row {
     number: 70,
-    lowest: 0,
+    key: *b"s70=\0\0\0\0",
     highest: 6,
-    gaps: NO_GAPS,
-    asked: false,
-    factory: 0,
+    ..NO_ROW
 };
 
 const T71: Row = Row {
     number: 71,
-    lowest: 0,
+    key: *b"s71=\0\0\0\0",
     highest: 2,
-    gaps: NO_GAPS,
-    asked: false,
-    factory: 0,
+    ..NO_ROW
 };
 
 const T73: Row = Row {
     number: 73,
-    lowest: 0,
+    key: *b"s73=\0\0\0\0",
     highest: 1,
-    gaps: NO_GAPS,
-    asked: false,
-    factory: 0,
+    ..NO_ROW
 };
 
 const T75: Row = Row {
     number: 75,
-    lowest: 0,
+    key: *b"s75=\0\0\0\0",
     highest: 1,
-    gaps: NO_GAPS,
-    asked: false,
-    factory: 0,
+    ..NO_ROW
 };
 
 const T76: Row = Row {
     number: 76,
-    lowest: 0,
+    key: *b"s76=\0\0\0\0",
     highest: 1,
-    gaps: NO_GAPS,
-    asked: false,
-    factory: 0,
+    ..NO_ROW
 };
 
 const T78: Row = Row {
     number: 78,
-    lowest: 0,
+    key: *b"s78=\0\0\0\0",
     highest: 50,
-    gaps: NO_GAPS,
-    asked: false,
-    factory: 0,
+    ..NO_ROW
 };
 
 const T90: Row = Row {
     number: 90,
-    lowest: 0,
+    key: *b"s90=\0\0\0\0",
     highest: 10,
-    gaps: NO_GAPS,
     asked: true,
-    factory: 0,
+    ..NO_ROW
 };
 
 const T91: Row = Row {
     number: 91,
-    lowest: 0,
+    key: *b"s91=\0\0\0\0",
     highest: 100,
-    gaps: NO_GAPS,
     asked: true,
-    factory: 0,
+    ..NO_ROW
 };
 
 const T95: Row = Row {
     number: 95,
-    lowest: 0,
+    key: *b"s95=\0\0\0\0",
     highest: 1,
-    gaps: NO_GAPS,
-    asked: false,
-    factory: 0,
+    ..NO_ROW
 };
 
 const T102: Row = Row {
     number: 102,
-    lowest: 0,
+    key: *b"s102=\0\0\0",
     highest: 1,
-    gaps: NO_GAPS,
-    asked: false,
-    factory: 0,
+    ..NO_ROW
 };
 
 const T103: Row = Row {
     number: 103,
-    lowest: 0,
+    key: *b"s103=\0\0\0",
     highest: 1,
-    gaps: NO_GAPS,
-    asked: false,
-    factory: 0,
+    ..NO_ROW
 };
 
 const T104: Row = Row {
     number: 104,
-    lowest: 0,
+    key: *b"s104=\0\0\0",
     highest: 100,
-    gaps: NO_GAPS,
-    asked: false,
-    factory: 0,
+    ..NO_ROW
 };
 
 const T105: Row = Row {
     number: 105,
-    lowest: 0,
+    key: *b"s105=\0\0\0",
     highest: 100,
-    gaps: NO_GAPS,
-    asked: false,
-    factory: 0,
+    ..NO_ROW
 };
 
 const T106: Row = Row {
     number: 106,
-    lowest: 0,
+    key: *b"s106=\0\0\0",
     highest: 1,
-    gaps: NO_GAPS,
-    asked: false,
-    factory: 0,
+    ..NO_ROW
 };
 
 const T120: Row = Row {
     number: 120,
-    lowest: 0,
+    key: *b"s120=\0\0\0",
     highest: 1,
-    gaps: NO_GAPS,
-    asked: false,
-    factory: 0,
+    ..NO_ROW
 };
 
 const T122: Row = Row {
     number: 122,
-    lowest: 0,
+    key: *b"s122=\0\0\0",
     highest: 1,
-    gaps: NO_GAPS,
     asked: true,
-    factory: 0,
+    ..NO_ROW
 };
 
 const T135: Row = Row {
     number: 135,
-    lowest: 0,
+    key: *b"s135=\0\0\0",
     highest: 8,
-    gaps: NO_GAPS,
-    asked: false,
-    factory: 0,
+    ..NO_ROW
 };
 
 const T136: Row = Row {
     number: 136,
-    lowest: 0,
+    key: *b"s136=\0\0\0",
     highest: 127,
-    gaps: NO_GAPS,
-    asked: false,
-    factory: 0,
+    ..NO_ROW
 };
 
 const T137: Row = Row {
     number: 137,
-    lowest: 0,
+    key: *b"s137=\0\0\0",
     highest: 1,
-    gaps: NO_GAPS,
-    asked: false,
-    factory: 0,
+    ..NO_ROW
 };
 
 const T160: Row = Row {
     number: 160,
-    lowest: 0,
+    key: *b"s160=\0\0\0",
     highest: 1,
-    gaps: NO_GAPS,
     asked: true,
-    factory: 0,
+    ..NO_ROW
 };
 
 const T161: Row = Row {
     number: 161,
-    lowest: 0,
+    key: *b"s161=\0\0\0",
     highest: 10,
     gaps: MODES,
-    asked: false,
-    factory: 0,
+    ..NO_ROW
 };
 
 const T170: Row = Row {
     number: 170,
-    lowest: 0,
+    key: *b"s170=\0\0\0",
     highest: 1,
-    gaps: NO_GAPS,
     asked: true,
-    factory: 0,
+    ..NO_ROW
 };
 
 const T171: Row = Row {
     number: 171,
-    lowest: 0,
+    key: *b"s171=\0\0\0",
     highest: 1,
-    gaps: NO_GAPS,
-    asked: false,
-    factory: 0,
+    ..NO_ROW
 };
 
 // Gives the row at a place of TPS300.
+#[tactic(auto, unfolding(crate::specs::Settings::rows300, figures::specs::Decimal::digits_nBy, figures::specs::Decimal::digits_of))]
+#[inline(always)]
 pub(crate) fn row_300(place: usize) -> Row
     ensures { result ≡ get_or rows300 place no_row }
 {

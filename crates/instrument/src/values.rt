@@ -3,11 +3,10 @@ ghost use Rattle.std.specs.Prelude.{◌≡◌, ◌+◌, ◌%◌};
 ghost use Rattle.instrument.specs.Values.{stored_at, value_place, put_judged, put_kept, value_word, parts_right, get_word, widened, is_put};
 
 use crate::keys::KEY;
-use crate::settings::Found;
-use units::counts::{Valued, angle_at};
+use units::counts::angle_at;
 use units::information::sign_byte;
 use units::kinds::Family;
-use words::reading::{Fault, Judged, read_word};
+use words::reading::{Fault, Wrong, read_word};
 
 pub const VALUES: usize = 11;
 
@@ -20,30 +19,16 @@ pub struct Stored {
     pub key: [u8; KEY],
 }
 
-// A value's eight characters.
-#[derive(Clone, Copy)]
-pub struct Eight(
-    pub u8,
-    pub u8,
-    pub u8,
-    pub u8,
-    pub u8,
-    pub u8,
-    pub u8,
-    pub u8,
-);
-
-// What is stored: nothing ever, or unit, sign (0 or 1) and characters.
-#[derive(Clone, Copy)]
-pub enum Kept {
-    Never,
-    Put(u8, u8, Eight),
+// What a PUT leaves: unit, sign (0 or 1) and eight characters.
+#[derive(Clone, Copy, PartialEq, Eq)]
+pub struct Put {
+    pub unit: u8,
+    pub minus: u8,
+    pub eight: [u8; 8],
 }
 
-#[derive(Clone, Copy)]
-pub struct Value {
-    pub kept: Kept,
-}
+// What is stored; None where nothing was ever put.
+pub type Kept = Option<Put>;
 
 // Text, angles of unit 2-4, lengths of unit 0 or 1.
 const V11: Stored = Stored {
@@ -124,6 +109,7 @@ const V88: Stored = Stored {
 };
 
 // Gives the row at a place; past the last it is a row of noughts.
+#[tactic(auto, unfolding(crate::specs::Values::stored, figures::specs::Decimal::digits_nBy, figures::specs::Decimal::digits_of))]
 pub fn stored_at(place: usize) -> Stored
     ensures { result ≡ stored_at place }
 {
@@ -149,66 +135,58 @@ pub fn stored_at(place: usize) -> Stored
 }
 
 // Finds the place of the stored value of that index.
-pub fn value_place(index: u16) -> Found
+#[tactic(auto, using(crate::proofs::Kept::value_here, crate::proofs::Kept::value_further, crate::proofs::Kept::value_none))]
+pub fn value_place(index: u16) -> Option<usize>
     ensures { result ≡ value_place index }
 {
-    let mut i = 0;
-    while i < VALUES {
-        let row = stored_at(i);
-        if row.index == index {
-            return Found::At(i);
+    for i in 0..VALUES {
+        if stored_at(i).index == index {
+            return Some(i);
         }
-        i += 1;
     }
-    Found::Nothing
+    None
 }
 
 // Tells whether a value was put.
 pub fn is_put(kept: Kept) -> bool
     ensures { result ≡ is_put kept }
 {
-    match kept {
-        Kept::Never => false,
-        _ => true,
-    }
+    kept.is_some()
 }
 
 // Judges the word that is to be put there: dots at 3-5, a unit of the place, and otherwise the block rules.
-pub fn put_judged(place: usize, word: [u8; 16]) -> Judged
+pub fn put_judged(place: usize, word: [u8; 16]) -> Result<(), Wrong>
     ensures { result ≡ put_judged place word }
 {
     let row = stored_at(place);
-    let info = Fault::Information;
     if word[2] != b'.' {
-        return Judged::Wrong(info, 2);
+        return Err(Wrong::new(Fault::Information, 2));
     }
     if word[3] != b'.' {
-        return Judged::Wrong(info, 3);
+        return Err(Wrong::new(Fault::Information, 3));
     }
     if word[4] != b'.' {
-        return Judged::Wrong(info, 4);
+        return Err(Wrong::new(Fault::Information, 4));
     }
-    if word[5] < row.first {
-        return Judged::Wrong(info, 5);
+    if word[5] < row.first || row.last < word[5] {
+        return Err(Wrong::new(Fault::Information, 5));
     }
-    if row.last < word[5] {
-        return Judged::Wrong(info, 5);
-    }
-    let one = read_word(&word, Family::Station, false);
-    one.answer
+    read_word(&word, Family::Station, false)?;
+    Ok(())
 }
 
-// Gives what the word leaves when it is put.
+// Gives what the word leaves when it is put; a Kept as in a state, though never None.
 pub fn put_kept(word: [u8; 16]) -> Kept
     ensures { result ≡ put_kept word }
 {
-    let eight = Eight(
+    let eight = [
         word[7], word[8], word[9], word[10], word[11], word[12], word[13], word[14],
-    );
-    if word[6] == b'+' {
-        return Kept::Put(word[5], 0, eight);
-    }
-    Kept::Put(word[5], 1, eight)
+    ];
+    Some(Put {
+        unit: word[5],
+        minus: u8::from(word[6] != b'+'),
+        eight,
+    })
 }
 
 fn figure(n: u16) -> u8
@@ -218,15 +196,28 @@ fn figure(n: u16) -> u8
 }
 
 // Makes the word of a value that was put, with that byte at position 5.
-fn value_word(mark: u8, place: usize, unit: u8, minus: u8, d: Eight) -> [u8; 16]
-    ensures { result ≡ value_word mark place unit minus d }
+fn value_word(mark: u8, place: usize, put: Put) -> [u8; 16]
+    ensures { result ≡ value_word mark place put.unit put.minus put.eight }
 {
-    let row = stored_at(place);
-    let tens = figure(row.index / 10);
-    let ones = figure(row.index);
-    let sign = sign_byte(minus);
+    let index = stored_at(place).index;
+    let d = put.eight;
     [
-        tens, ones, b'.', b'.', mark, unit, sign, d.0, d.1, d.2, d.3, d.4, d.5, d.6, d.7, b' ',
+        figure(index / 10),
+        figure(index),
+        b'.',
+        b'.',
+        mark,
+        put.unit,
+        sign_byte(put.minus),
+        d[0],
+        d[1],
+        d[2],
+        d[3],
+        d[4],
+        d[5],
+        d[6],
+        d[7],
+        b' ',
     ]
 }
 
@@ -235,61 +226,38 @@ fn value_word(mark: u8, place: usize, unit: u8, minus: u8, d: Eight) -> [u8; 16]
 pub fn parts_right(place: usize, parts: &[u8]) -> bool
     ensures { result ≡ parts_right place parts.now }
 {
-    if parts.len() != 10 {
-        return false;
-    }
-    if VALUES <= place {
-        return false;
-    }
-    let unit = parts[0];
-    let minus = parts[1];
-    if 1 < minus {
+    if parts.len() != 10 || VALUES <= place {
         return false;
     }
     let row = stored_at(place);
-    if unit < row.first {
-        return false;
-    }
-    if row.last < unit {
+    let unit = parts[0];
+    let minus = parts[1];
+    if 1 < minus || unit < row.first || row.last < unit {
         return false;
     }
     if unit == b'.' {
-        if minus != 0 {
-            return false;
-        }
-        return figures::all_within(&parts[2..10], 33, 126);
-    }
-    if !figures::all_within(&parts[2..10], b'0', b'9') {
-        return false;
+        return minus == 0 && figures::all_within(&parts[2..10], 33, 126);
     }
     // a length: any eight digits count
     if unit < b'2' {
-        return true;
+        return figures::all_within(&parts[2..10], b'0', b'9');
     }
-    let figures::Said::Number(n) = figures::number(&parts[2..10]) else {
-        return false;
-    };
-    let value = angle_at(unit, minus, n);
-    match value {
-        Valued::Not => false,
-        _ => true,
-    }
+    figures::number(&parts[2..10]).is_some_and(|n| angle_at(unit, minus, n).is_some())
 }
 
 // Makes the word that GET answers; it is blanks where nothing was ever put.
 pub fn get_word(place: usize, kept: Kept) -> [u8; 16]
     ensures { result ≡ get_word place kept }
 {
-    match kept {
-        Kept::Never => [b' '; 16],
-        Kept::Put(unit, minus, d) => {
-            let row = stored_at(place);
-            if row.first == b'.' {
-                return value_word(b'.', place, unit, minus, d);
-            }
-            value_word(b'1', place, unit, minus, d)
-        }
-    }
+    let Some(put) = kept else {
+        return [b' '; 16];
+    };
+    let mark = if stored_at(place).first == b'.' {
+        b'.'
+    } else {
+        b'1'
+    };
+    value_word(mark, place, put)
 }
 
 // Makes the word with eight zeros before its eight characters.

@@ -1,18 +1,18 @@
 -- What SET, PUT, UNDO and KEEP lay down is the image of the state that they leave: the item, one entry and the count, and nothing else.
-use Prim.Native.Nat.{ℕ, suc, ◌+◌, ◌-◌, ◌<◌}
+use Prim.Native.Nat.{ℕ, suc, ◌+◌, ◌-◌, ◌<◌, ◌≤◌}
 use mathlib.Core.Path.{◌≡◌, sym, ap, ◌∙◌, subst}
 use mathlib.Core.Bool.{true, not, ◌&&◌, false≢true}
 use mathlib.Core.List.{List}
 use native.Mathlib.Omega.{arith}
-use borrow.Author.Tests.{eqb-false, ltb-true, ne_eqb}
+use borrow.Author.Tests.{ltb-true, ne_eqb}
 use lib.Dec.{eqb, ltb}
 use lib.ListN.{set}
-use Rattle.figures.proofs.Tests.{both, by_test, clash}
+use Rattle.std.specs.Prelude.{Some}
+use Rattle.figures.proofs.Tests.{both}
 use Rattle.instrument.specs.Settings.{settings_n, row_at, is_asked}
-use Rattle.instrument.specs.Values.{values_n, is_put}
+use Rattle.instrument.specs.Values.{Kept, values_n, is_put}
 use Rattle.instrument.specs.declared.settings.Series.{Series}
-use Rattle.instrument.specs.declared.values.Kept.{Kept}
-use Rattle.state.specs.Entries.{entries_n, value_of, value_held, blank_entry, is_never, contents_of, contents_back, may_go_back, is_state, right_back}
+use Rattle.state.specs.Entries.{entries_n, value_held, blank_entry, is_never, contents_of, contents_back, may_go_back, is_state, right_back}
 use Rattle.state.specs.Image.{image_of, state_in}
 use Rattle.state.specs.Keeping.{Imaged, parameter_laid, value_laid, entry_laid, count_laid, cleared}
 use Rattle.state.specs.declared.entries.Item.{Item}
@@ -24,10 +24,17 @@ use Rattle.state.proofs.Steps.{state_parts, back_may}
 use Rattle.state.proofs.Images.{Shaped, shaped, image_of_lem}
 use Rattle.state.proofs.Places.{with_contents, with_undo, parameter_laid_lem, value_laid_lem, entry_laid_lem, count_laid_lem, all_cleared}
 use Rattle.state.proofs.Places.{parameter_shaped, value_shaped, entry_shaped, series_read}
-use Rattle.lines.specs.Verdicts.{undo_verdict}
-use Rattle.lines.specs.declared.verdicts.Verdict.TheVariants.{Accepted}
+use Rattle.lines.specs.Verdicts.{accepted}
 use Rattle.lines.specs.Orders.{set_to, put_to, entry_for, changed_by, newest, taken_back, undo_of, keep_of}
 use Rattle.lines.specs.Keeping.{back_laid}
+use Rattle.words.specs.Reading.{pos}
+use Rattle.instrument.specs.Settings.{setting_place}
+use Rattle.instrument.proofs.Ranges.{range_byte}
+use Rattle.lines.specs.Verdicts.{set_verdict, put_verdict, place_named}
+use Rattle.lines.specs.Orders.{changes}
+use Rattle.lines.proofs.Deeds.{May}
+use Rattle.lines.proofs.Lookups.{setting_in, place_in}
+use Rattle.lines.proofs.Runs.{set_may, put_runs}
 
 -- an entry and the count, over an image with one item altered
 listed : (s : State) → Shaped s → (n m : ℕ) (e : Entry) → n < entries_n
@@ -46,10 +53,10 @@ module _ (s : State) (h : Shaped s) where
 
   stored_laid : (i : ℕ) (w : Kept) (n m : ℕ) (e : Entry) → i < values_n → n < entries_n
       → laid_by n m e (value_laid s.series i w (image_of s))
-      ≡ image_of (with_undo (with_contents s s.settings (set s.values i (value_of w))) (set s.undo n e) m)
+      ≡ image_of (with_undo (with_contents s s.settings (set s.values i w)) (set s.undo n e) m)
   stored_laid i w n m e hi hn =
       ap (laid_by n m e) (value_laid_lem s h i w hi)
-      ∙ listed (with_contents s s.settings (set s.values i (value_of w))) (value_shaped s h i (value_of w)) n m e hn
+      ∙ listed (with_contents s s.settings (set s.values i w)) (value_shaped s h i w) n m e hn
 
   -- an item that has its former content again
   back_laid_lem : (t : Item) (f : Former) (n m : ℕ) (e : Entry) → may_go_back (contents_of s) t f ≡ true → n < entries_n
@@ -62,12 +69,8 @@ module _ (s : State) (h : Shaped s) where
       setting_laid i f.parameter n m e (ltb-true i _ (both there plain (both (there && plain) (is_never f.kept) may).0).0) hn
   back_laid_lem (Stored i) f n m e may hn =
       let there = ltb i values_n in
-      let put = is_put (value_held s.values i).kept in
+      let put = is_put (value_held s.values i) in
       stored_laid i f.kept n m e (ltb-true i _ (both there put (both (there && put) (eqb f.parameter 0) may).0).0) hn
-
--- an accepted UNDO has an entry
-pub undo_some : (s : State) → undo_verdict s.count ≡ Accepted → 0 < s.count
-undo_some s e = by_test (eqb s.count 0) (λ z. absurd (clash (cc (rw z at e)))) (λ n. omega (arith, eqb-false s.count 0 n))
 
 -- on the image that is lent
 
@@ -116,3 +119,15 @@ module _ {k : Series} {l : List ℕ} (im : Imaged k l) where
 
   pub keep_laid : cleared k l ≡ image_of (keep_of from)
   keep_laid = (λ j. cleared (of j) (lent j)) ∙ all_cleared from is_state_lem
+
+  -- what the code that does an accepted SET or PUT may rely on
+
+  pub set_taken : (n p i : ℕ) → setting_place k n ≡ Some i → set_verdict from n p ≡ accepted → (i < settings_n k) × (from.count < entries_n) × (p ≤ 255)
+  set_taken n p i e v =
+      let at : setting_place from.series n ≡ Some i = ap (λ (t : Series). setting_place t n) (series_read im) ∙ e in
+      let may : May from (changes (set_to i p)) = rw at at (set_may from n p v) in
+      (setting_in k n i e, may.0, range_byte from.series i p may.1.2)
+
+  pub put_taken : (word : List ℕ) (i : ℕ) → place_named (pos 1 word) (pos 2 word) ≡ Some i → put_verdict from.count word ≡ accepted
+      → (i < values_n) × (from.count < entries_n)
+  put_taken word i e v = (place_in (pos 1 word) (pos 2 word) i e, (put_runs from word v).free)

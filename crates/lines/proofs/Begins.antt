@@ -7,8 +7,8 @@ use native.Mathlib.Omega.{arith}
 use borrow.Author.Tests.{ne_eqb}
 use lib.ListN.{get_or, set}
 use lib.Seq.{get_or-set_other}
-use Rattle.state.specs.Entries.{entries_n, value_of, value_held, blank_entry, Contents, contents_of, contents_back, may_go_back, is_state}
-use Rattle.instrument.specs.declared.values.Kept.TheVariants.{Never}
+use Rattle.std.specs.Prelude.{None}
+use Rattle.state.specs.Entries.{entries_n, value_held, blank_entry, Contents, contents_of, contents_back, may_go_back, is_state}
 use Rattle.state.specs.declared.entries.Item.{Item}
 use Rattle.state.specs.declared.entries.Item.TheVariants.{Free, Setting, Stored}
 use Rattle.state.specs.declared.entries.Former.{Former}
@@ -49,8 +49,8 @@ marks_tracks a s e ms some may is t = by e.item e.former may (sym is ∙ content
         let again = set_back c.settings i f.parameter 0 in
         (some, (λ j. record { series = c.series; settings = sym again j; values = c.values }) ∙ ap (λ (b : Contents). stores b d) q, t)
     by (Stored i) f may q =
-        let d = put_to i (value_held c.values i).kept in
-        let again = set_back c.values i (value_of f.kept) (value_of Never) in
+        let d = put_to i (value_held c.values i) in
+        let again = set_back c.values i f.kept None in
         (some, (λ j. record { series = c.series; settings = c.settings; values = sym again j }) ∙ ap (λ (b : Contents). stores b d) q, t)
 
 entries_track : (n : ℕ) (s : State) → s.count ≡ n → is_state s ≡ true → Tracks (all_back n (contents_of s) s.undo) s (marks_back n (contents_of s) s.undo)

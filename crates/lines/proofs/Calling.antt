@@ -1,34 +1,37 @@
 -- Laws of a call: what a line comes to in a room that it fits or doesn't, by its verdict, and on a lent image.
-use Prim.Native.Nat.{ℕ, ◌-◌, ◌<◌, ◌≤◌}
+use Prim.Native.Nat.{ℕ, ◌<◌, ◌≤◌}
 use mathlib.Core.Path.{◌≡◌, refl, sym, ap, subst, ◌∙◌}
 use mathlib.Core.Bool.{Bool, true, false, cond, ◌&&◌}
 use mathlib.Core.List.{List, [], ◌∷◌, ◌++◌}
 use native.Mathlib.Omega.{arith}
-use borrow.Author.Tests.{le-leb, lt-leb, le-ltb, lt-ltb}
+use borrow.Author.Tests.{leb-true, le-leb, lt-leb}
 use lib.Dec.{eqb, leb}
-use lib.ListN.{length, take}
-use lib.Seq.{length-take-le}
+use lib.ListN.{length}
 use Rattle.figures.specs.Bytes.{laid}
-use Rattle.state.specs.Image.{image_of, state_in, is_image}
+use Rattle.state.specs.Image.{image_of}
 use Rattle.state.specs.declared.entries.State.{State}
-use Rattle.commands.specs.Shapes.{from_end, end_of, text_of, is_plain, is_ended, order_of}
+use Rattle.commands.specs.Shapes.{from_end, end_of, text_of, is_ended, order_of}
 use Rattle.lines.specs.Verdicts.{is_accepted, order_verdict, line_verdict}
-use Rattle.lines.specs.Orders.{taken_back, newest, set_to, put_to, Deed, asks, changes, undoes, keeps, deed_of, line_deed, done_of}
+use Rattle.lines.specs.Orders.{taken_back, newest, set_to, put_to, Deed, asks, changes, undoes, keeps, line_deed, done_of}
 use Rattle.lines.specs.Replies.{reply_end, warning, body_of}
-use Rattle.lines.specs.Machine.{Outcome, outcome, run, step, told, Calls}
-use Rattle.lines.specs.Keeping.{Answered, Ends}
+use Rattle.lines.specs.Machine.{Outcome, outcome, run, step, told}
+use Rattle.lines.specs.Keeping.{Answered, Ends, Accepts, order_if, judged}
+use Rattle.lines.proofs.Runs.{may_run}
+use Rattle.figures.proofs.Tests.{clash}
 use Rattle.commands.specs.declared.shapes.Order.{Order}
-use Rattle.lines.specs.declared.verdicts.Verdict.{Verdict}
-use Rattle.lines.specs.declared.verdicts.Verdict.TheVariants.{Accepted, Unended, Long, Room, NoState}
+use Rattle.lines.specs.Verdicts.{Verdict}
+use Rattle.lines.specs.Verdicts.{accepted}
+use Rattle.lines.specs.declared.verdicts.Refused.{Refused}
+use Rattle.lines.specs.declared.verdicts.Refused.TheVariants.{Room}
 use Rattle.lines.specs.declared.machine.Told.{Told}
-use Rattle.commands.proofs.Shape.{from_start}
-use Rattle.lines.proofs.Sorts.{accepted_is}
 use Rattle.lines.proofs.Replying.{laid_none}
+use Rattle.std.specs.Prelude.{Result, Ok, Err}
+use Rattle.commands.specs.declared.shapes.NoOrder.{NoOrder}
 
 -- the room
 
 module _ (s : State) (v : Verdict) (reply : List ℕ) (next : State) (room : List ℕ) (r : Told) where
-  pub answers_short : length room < length reply → r ≡ told Room 0 → Answered s (outcome v reply next) room r room
+  pub answers_short : length room < length reply → r ≡ told (Err Room) 0 → Answered s (outcome v reply next) room r room
   answers_short h e = rw (lt-leb (length reply) (length room) h) (e, sym (laid_none room))
 
   pub answers_fits : (room' : List ℕ) (n : ℕ) → n ≡ length reply → n ≤ length room → r ≡ told v n → room' ≡ laid reply room
@@ -37,7 +40,7 @@ module _ (s : State) (v : Verdict) (reply : List ℕ) (next : State) (room : Lis
 
   -- and the image: as it was, or that of the next state
 
-  pub ends_short : (image : List ℕ) → image ≡ image_of s → length room < length reply → r ≡ told Room 0 → Ends s (outcome v reply next) room r image room
+  pub ends_short : (image : List ℕ) → image ≡ image_of s → length room < length reply → r ≡ told (Err Room) 0 → Ends s (outcome v reply next) room r image room
   ends_short image i h e = (answers_short h e, rw (lt-leb (length reply) (length room) h) i)
 
   pub ends_fits : (image' room' : List ℕ) (n : ℕ) → image' ≡ image_of next → n ≡ length reply → n ≤ length room → r ≡ told v n → room' ≡ laid reply room
@@ -49,7 +52,7 @@ pub ends_refused : (s : State) (v : Verdict) (reply image room : List ℕ) (r : 
     → Answered s (outcome v reply s) room r room' → Ends s (outcome v reply s) room r image room'
 ends_refused s v reply image room r room' i h = (h, i ∙ ap image_of (sym (by (leb (length reply) (length room)))))
   where
-    by : (b : Bool) → (cond b (outcome v reply s) (outcome Room [] s)).next ≡ s
+    by : (b : Bool) → (cond b (outcome v reply s) (outcome (Err Room) [] s)).next ≡ s
     by true = refl
     by false = refl
 
@@ -75,72 +78,40 @@ end_in (x ∷ y ∷ l) = omega (arith, two (eqb (from_end 1 (x ∷ y ∷ l)) 13)
     two false true = omega arith
     two false false = omega arith
 
+-- a line that is judged: what it orders, or why it is refused
+
+order_so : (v : Verdict) (o : Result Order NoOrder) (p : Order) → Ok p ≡ order_if v o → (v ≡ accepted) × (Ok p ≡ o)
+order_so (Ok u) (Ok o) p e = let z : p ≡ o = cc in (refl, ap Ok z)
+order_so (Ok u) (Err none) p e = absurd (clash (cc))
+order_so (Err r) o p e = absurd (clash (cc))
+
+-- what has no order isn't accepted
+refused_so : (s : State) (t : List ℕ) (v : Verdict) (o : Result Order NoOrder) (r : Refused) → (v ≡ accepted → order_verdict s t o ≡ accepted)
+    → Err r ≡ order_if v o → v ≡ Err r
+refused_so s t (Ok u) (Ok o) r f e = absurd (clash (cc))
+refused_so s t (Ok u) (Err none) r f e = let z = f refl in absurd (clash (cc))
+refused_so s t (Err q) o r f e = cc
+
+pub judged_accepts : (s : State) (line : List ℕ) (o : Order) → Ok o ≡ judged s line → (line_verdict s line ≡ accepted) × Accepts s (text_of line) o
+judged_accepts s line o e =
+    let t = text_of line in
+    let so = order_so (line_verdict s line) (order_of t) o e in
+    let may = may_run (is_ended line) (leb (length t) 100) (order_verdict s t (order_of t)) so.0 in
+    (so.0, (so.1, (ap (order_verdict s t) so.1 ∙ may.1, leb-true (length t) 100 may.0)))
+
+pub judged_refuses : (s : State) (line : List ℕ) (r : Refused) → Err r ≡ judged s line → line_verdict s line ≡ Err r
+judged_refuses s line r e =
+    let t = text_of line in
+    refused_so s t (line_verdict s line) (order_of t) r (λ v. (may_run (is_ended line) (leb (length t) 100) (order_verdict s t (order_of t)) v).1) e
+
+-- a line that is refused, and one that is accepted
 module _ (s : State) (line : List ℕ) where
-  run_unended : is_ended line ≡ false → run s line ≡ outcome Unended (warning ++ reply_end s) s
-  run_unended e = rw e
+  pub run_refused : (r : Refused) → line_verdict s line ≡ Err r → run s line ≡ outcome (Err r) (warning ++ reply_end s) s
+  run_refused r e = rw e
 
-  run_long : is_ended line ≡ true → 100 < length (text_of line) → run s line ≡ outcome Long (warning ++ reply_end s) s
-  run_long e h = rw (e, lt-leb (length (text_of line)) 100 h)
-
-  run_judged : is_ended line ≡ true → length (text_of line) ≤ 100 → (v : Verdict) → v ≡ order_verdict s (text_of line) (order_of (text_of line))
-      → is_accepted v ≡ false → run s line ≡ outcome v (warning ++ reply_end s) s
-  run_judged e h v q n = rw (e, le-leb (length (text_of line)) 100 h, ← q, n)
-
-  run_accepted : is_ended line ≡ true → length (text_of line) ≤ 100 → order_verdict s (text_of line) (order_of (text_of line)) ≡ Accepted
-      → run s line ≡ outcome Accepted (body_of s (text_of line) (order_of (text_of line)) ++ reply_end s) (done_of s (line_deed s.series line))
-  run_accepted e h q = rw (e, le-leb (length (text_of line)) 100 h, q)
-
-  -- the same as the code finds it: the text before the end, and whether that is plain
-  abbrev pub part : ℕ → List ℕ
-  part e = take ((length line - e) - 0) line
-
-  module _ (e : ℕ) (ends : e ≡ end_of line) where
-    text_is : part e ≡ text_of line
-    text_is = from_start (length line - e) line ∙ ap (λ (k : ℕ). take (length line - k) line) ends
-
-    text_length : length (text_of line) ≡ length line - e
-    text_length = length-take-le (length line - end_of line) line (omega arith) ∙ omega arith
-
-    pub found_none : e ≡ 0 → run s line ≡ outcome Unended (warning ++ reply_end s) s
-    found_none z = run_unended (ap (λ (b : Bool). b && is_plain (text_of line)) (le-ltb 0 (end_of line) (omega arith)))
-
-    module _ (some : e ≡ 0 → ⊥) (plain : Bool) (is : plain ≡ is_plain (part e)) where
-      ended : is_ended line ≡ plain
-      ended = ap (λ (b : Bool). b && is_plain (text_of line)) (lt-ltb 0 (end_of line) (omega arith)) ∙ sym (is ∙ ap is_plain text_is)
-
-      pub found_broken : plain ≡ false → run s line ≡ outcome Unended (warning ++ reply_end s) s
-      found_broken z = run_unended (ended ∙ z)
-
-      pub found_long : plain ≡ true → 100 < length line - e → run s line ≡ outcome Long (warning ++ reply_end s) s
-      found_long y h = run_long (ended ∙ y) (omega (arith, text_length))
-
-  -- a line that is ended, plain and short enough, as the code finds it: the length of its end, its order and its verdict
-  pub record Judged (e : ℕ) (o : Order) (v : Verdict) : Type 0 where
-    pub ends : e ≡ end_of line
-    pub some : e ≡ 0 → ⊥
-    pub plain : is_plain (part e) ≡ true
-    pub few : length line - e ≤ 100
-    pub order : o ≡ order_of (part e)
-    pub verdict : v ≡ order_verdict s (part e) o
-
-  module _ (e : ℕ) (o : Order) (v : Verdict) (j : Judged e o v) where
-    is_ended_lem : is_ended line ≡ true
-    is_ended_lem = ended e j.ends j.some true (sym j.plain)
-
-    is_short : length (text_of line) ≤ 100
-    is_short = omega (arith, text_length e j.ends, j.few)
-
-    judged : v ≡ order_verdict s (text_of line) (order_of (text_of line))
-    judged = j.verdict ∙ rw (j.order, text_is e j.ends)
-
-    pub found_refused : is_accepted v ≡ false → run s line ≡ outcome v (warning ++ reply_end s) s
-    found_refused n = run_judged is_ended_lem is_short v judged n
-
-    pub found_accepts : is_accepted v ≡ true → (order_verdict s (part e) o ≡ Accepted) × (length (part e) ≤ 100)
-    found_accepts a = (sym j.verdict ∙ accepted_is v a, omega (arith, ap length (text_is e j.ends), is_short))
-
-    pub found_accepted : is_accepted v ≡ true → run s line ≡ outcome Accepted (body_of s (part e) o ++ reply_end s) (done_of s (deed_of s.series (part e) o))
-    found_accepted a = run_accepted is_ended_lem is_short (sym judged ∙ accepted_is v a) ∙ rw (j.order, text_is e j.ends)
+  pub run_accepted : line_verdict s line ≡ accepted
+      → run s line ≡ outcome accepted (body_of s (text_of line) (order_of (text_of line)) ++ reply_end s) (done_of s (line_deed s.series line))
+  run_accepted e = rw e
 
 -- a line leaves the series as it is
 
@@ -155,7 +126,7 @@ done_series s (changes (put_to i k)) = refl
 done_series s undoes = either_series s (taken_back s (newest s)) s (eqb s.count 0) refl refl
 done_series s keeps = refl
 
-next_series : (s : State) (o : Outcome) (b : Bool) → o.next.series ≡ s.series → (cond b o (outcome Room [] s)).next.series ≡ s.series
+next_series : (s : State) (o : Outcome) (b : Bool) → o.next.series ≡ s.series → (cond b o (outcome (Err Room) [] s)).next.series ≡ s.series
 next_series s o true e = e
 next_series s o false e = refl
 
@@ -164,12 +135,3 @@ step_series s line room =
     let deed = line_deed s.series line in
     next_series s (run s line) (leb (length (run s line).reply) room)
     (either_series (done_of s deed) s s (is_accepted (line_verdict s line)) (done_series s deed) refl)
-
--- the image
-
-pub call_none : (image line room : List ℕ) → is_image image ≡ false → Calls image line room (told NoState 0) image room
-call_none image line room n = rw n (refl, (refl, refl))
-
-pub call_some : (image line room : List ℕ) (r : Told) (image' room' : List ℕ) → is_image image ≡ true
-    → Ends (state_in image) (run (state_in image) line) room r image' room' → Calls image line room r image' room'
-call_some image line room r image' room' is h = rw is (h.0.0, (h.1, h.0.1))

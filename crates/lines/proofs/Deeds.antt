@@ -11,14 +11,13 @@ use borrow.Author.Tests.{eqb-true, eq-eqb, ne_eqb, lt-ltb}
 use lib.Dec.{eqb}
 use lib.ListN.{length, get_or, set, drop, replicate, length-set}
 use lib.Seq.{get_or-set_same, set-set, set-get_or, drop-cons}
+use Rattle.std.specs.Prelude.{None}
 use Rattle.figures.proofs.Tests.{both}
 use Rattle.instrument.specs.Settings.{row_at, held_rows, is_asked, in_range, in_ranges, settings_n}
-use Rattle.instrument.specs.Values.{is_put, kept_right, values_n}
+use Rattle.instrument.specs.Values.{Kept, is_put, kept_right, values_n}
 use Rattle.instrument.specs.declared.settings.Series.{Series}
-use Rattle.instrument.specs.declared.values.Kept.TheVariants.{Never}
-use Rattle.instrument.specs.declared.values.Value.{Value}
 use Rattle.instrument.proofs.Ranges.{place_row, ranges_long, held_rows_long, settings_few}
-use Rattle.state.specs.Entries.{entries_n, value_of, blank_entry, is_blank, all_blank, Contents, contents_of, values_right, contents_right}
+use Rattle.state.specs.Entries.{entries_n, blank_entry, is_blank, all_blank, Contents, contents_of, values_right, contents_right}
 use Rattle.state.specs.Entries.{contents_back, may_go_back, is_state}
 use Rattle.state.specs.declared.entries.Entry.{Entry}
 use Rattle.state.specs.declared.entries.State.{State}
@@ -63,25 +62,24 @@ change_right c (set_to i p) r m =
     all_of (ranges_set (held_rows k) c.settings i p r.ranges inside ∙ rw (place_row k i) m.2)
     (all_of (eq-eqb (length c.values) values_n r.values_long) r.values_right_lem)
 change_right c (put_to i w) r m =
-    let v = value_of w in
     all_of r.ranges
-    (all_of (eq-eqb (length (set c.values i v)) values_n (length-set c.values i v ∙ r.values_long))
-    (values_set 0 c.values i v r.values_right_lem (omega (arith, r.values_long)) ∙ rw zero-add m.2))
+    (all_of (eq-eqb (length (set c.values i w)) values_n (length-set c.values i w ∙ r.values_long))
+    (values_set 0 c.values i w r.values_right_lem (omega (arith, r.values_long)) ∙ rw zero-add m.2))
 
 -- its entry may be taken back, and that gives what stood
 
 change_may : (c : Contents) (d : Change) → RightParts c → ChangeRight c.series d → may_go_back (stores c d) (entry_for c d).item (entry_for c d).former ≡ true
 change_may c (set_to i p) r m = all_of (all_of (lt-ltb i (settings_n c.series) m.0) (rw m.1)) refl
 change_may c (put_to i w) r m =
-    let held = get_or-set_same c.values i (value_of w) (value_of Never) (omega (arith, r.values_long)) in
-    all_of (all_of (lt-ltb i values_n m.0) (ap (λ (v : Value). is_put v.kept) held ∙ m.1)) refl
+    let held = get_or-set_same c.values i w None (omega (arith, r.values_long)) in
+    all_of (all_of (lt-ltb i values_n m.0) (ap (λ (v : Kept). is_put v) held ∙ m.1)) refl
 
 pub set_back : {A : Type 0} (l : List A) (i : ℕ) (a d : A) → set (set l i a) i (get_or l i d) ≡ l
 set_back l i a d = set-set l i a (get_or l i d) ∙ set-get_or l i d
 
 contents_back_lem : (c : Contents) (d : Change) → contents_back (stores c d) (entry_for c d) ≡ c
 contents_back_lem c (set_to i p) = λ j. record { series = c.series; settings = set_back c.settings i p 0 j; values = c.values }
-contents_back_lem c (put_to i w) = λ j. record { series = c.series; settings = c.settings; values = set_back c.values i (value_of w) (value_of Never) j }
+contents_back_lem c (put_to i w) = λ j. record { series = c.series; settings = c.settings; values = set_back c.values i w None j }
 
 changed_state : (s : State) (d : Change) → is_state s ≡ true → May s (changes d) → is_state (changed_by s d) ≡ true
 changed_state s d is m =

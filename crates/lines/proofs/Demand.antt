@@ -17,11 +17,13 @@ use Rattle.lines.specs.Machine.{outcome, run, step}
 use Rattle.lines.specs.Sessions.{session, Call, stepped, after}
 use Rattle.lines.specs.Demand.{Mark, all_back, start_of, follows, begins, standing, play_all, stands}
 use Rattle.commands.specs.declared.shapes.Order.TheVariants.{Undo}
-use Rattle.lines.specs.declared.verdicts.Verdict.TheVariants.{Accepted, NoEntry, Room}
+use Rattle.lines.specs.Verdicts.{accepted}
+use Rattle.lines.specs.declared.verdicts.Refused.TheVariants.{NoEntry, Room}
 use Rattle.commands.proofs.Shape.{order_undo}
 use Rattle.lines.proofs.Sessions.{alike_calls}
 use Rattle.lines.proofs.Tracks.{Tracks, contents, undo_stands, Follows, tracks}
 use Rattle.lines.proofs.Begins.{state_tracks}
+use Rattle.std.specs.Prelude.{Err, Ok}
 
 -- from any state what stands at it is followed
 pub start_follows : (s : State) → is_state s ≡ true → (cs : List Call) → Follows (start_of s) (session follows (begins s) cs).left
@@ -45,27 +47,27 @@ pub played_factory : (k : Series) (cs : List Call) → contents_of (after (facto
 unfolding all_back
 played_factory k = played (factory_state k) (factory_is_state k)
 
-undo_verdict_lem : (s : State) (line : List ℕ) → is_ended line ≡ true → order_of (text_of line) ≡ Undo → line_verdict s line ≡ undo_verdict s.count
+undo_verdict_lem : (s : State) (line : List ℕ) → is_ended line ≡ true → order_of (text_of line) ≡ Ok Undo → line_verdict s line ≡ undo_verdict s.count
 undo_verdict_lem s line ended undo =
     rw (ended, le-leb (length (text_of line)) 100 (omega (arith, order_undo (text_of line) undo))) (ap (order_verdict s (text_of line)) undo)
 
 -- an UNDO whose reply fits, wherever what stands is followed
-module _ (line : List ℕ) (ended : is_ended line ≡ true) (undo : order_of (text_of line) ≡ Undo) (c : Contents) (s : State) (ms : List Mark) (t : Tracks c s ms)
+module _ (line : List ℕ) (ended : is_ended line ≡ true) (undo : order_of (text_of line) ≡ Ok Undo) (c : Contents) (s : State) (ms : List Mark) (t : Tracks c s ms)
     (room : ℕ) (fits : length (run s line).reply ≤ room) where
-  undo_told : (step s line room).verdict ≡ cond (stands ms) Accepted NoEntry
+  undo_told : (step s line room).verdict ≡ cond (stands ms) accepted (Err NoEntry)
   undo_told =
-      ap (λ (b : Bool). (cond b (run s line) (outcome Room [] s)).verdict) (le-leb (length (run s line).reply) room fits)
+      ap (λ (b : Bool). (cond b (run s line) (outcome (Err Room) [] s)).verdict) (le-leb (length (run s line).reply) room fits)
       ∙ undo_verdict_lem s line ended undo ∙ undo_stands c s ms t
 
   pub undo_by : is_accepted (step s line room).verdict ≡ stands ms
   undo_by = ap is_accepted undo_told ∙ by (stands ms)
     where
-      by : (b : Bool) → is_accepted (cond b Accepted NoEntry) ≡ b
+      by : (b : Bool) → is_accepted (cond b accepted (Err NoEntry)) ≡ b
       by true = refl
       by false = refl
 
 -- it is refused exactly when no unstruck SET or PUT stands after the last accepted KEEP
-module _ (s : State) (is : is_state s ≡ true) (cs : List Call) (line : List ℕ) (room : ℕ) (ended : is_ended line ≡ true) (undo : order_of (text_of line) ≡ Undo)
+module _ (s : State) (is : is_state s ≡ true) (cs : List Call) (line : List ℕ) (room : ℕ) (ended : is_ended line ≡ true) (undo : order_of (text_of line) ≡ Ok Undo)
     (fits : length (run (after s cs) line).reply ≤ room) where
   pub undo_accepted : is_accepted (step (after s cs) line room).verdict ≡ stands (standing s cs)
   undo_accepted = undo_by line ended undo (start_of s) (after s cs) (standing s cs) (start_tracks s is cs) room fits

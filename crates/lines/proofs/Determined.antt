@@ -6,7 +6,7 @@ use Rattle.figures.specs.Promises.{Determined}
 use Rattle.figures.proofs.Determined.{by_equation, by_three}
 use Rattle.lines.specs.Verdicts.{verdict_number, verdict_which, verdict_byte}
 use Rattle.lines.specs.Machine.{call, Calls}
-use Rattle.lines.specs.declared.verdicts.Verdict.{Verdict}
+use Rattle.lines.specs.Verdicts.{Verdict}
 use Rattle.lines.specs.declared.machine.Told.{Told}
 
 pub verdict_number_determined : Determined Verdict ℕ (λ i r. r ≡ verdict_number i)

@@ -7,6 +7,7 @@ use native.Mathlib.Omega.{arith}
 use borrow.Author.Tests.{leb-true}
 use lib.Dec.{leb}
 use lib.ListN.{length, take}
+use Rattle.std.specs.Prelude.{Ok}
 use Rattle.figures.proofs.Tests.{by_test}
 use Rattle.figures.proofs.Bytes.{laid_start}
 use Rattle.state.specs.Entries.{contents_of, is_state}
@@ -57,7 +58,7 @@ module _ (s : State) (is : is_state s ≡ true) (cs : List Lent) where
   hosted_played = ap contents_of hosted_state ∙ demand.played s is (map in_room cs)
 
   -- an UNDO whose reply fits the lent room
-  pub hosted_undo : (line room : List ℕ) → is_ended line ≡ true → order_of (text_of line) ≡ Undo
+  pub hosted_undo : (line room : List ℕ) → is_ended line ≡ true → order_of (text_of line) ≡ Ok Undo
       → length (run (state_in (image_after (image_of s) cs)) line).reply ≤ length room
       → is_accepted (call (image_after (image_of s) cs) line room).answer.verdict ≡ stands (standing s (map in_room cs))
   hosted_undo line room ended undo fits =

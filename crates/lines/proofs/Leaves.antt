@@ -12,8 +12,9 @@ use Rattle.commands.specs.declared.shapes.Order.TheVariants.{Conf, Get}
 use Rattle.lines.specs.Verdicts.{is_accepted}
 use Rattle.lines.specs.Orders.{asks, deed_of, line_deed, done_of}
 use Rattle.lines.specs.Machine.{Outcome, step, told, Called, played, call}
-use Rattle.lines.specs.declared.verdicts.Verdict.TheVariants.{NoState}
+use Rattle.lines.specs.declared.verdicts.Refused.TheVariants.{NoState}
 use Rattle.lines.proofs.Runs.{Comes, stays, runs, comes}
+use Rattle.std.specs.Prelude.{Err, Ok}
 
 left_so : (s : State) (line : List ℕ) (o : Outcome) → Comes s line o → (is_accepted o.verdict ≡ true → line_deed s.series line ≡ asks) → o.next ≡ s
 left_so s line o (stays n e) f = e
@@ -21,7 +22,7 @@ left_so s line o (runs a m e) f = e ∙ ap (done_of s) (f a)
 
 module _ (image line room : List ℕ) where
   abbrev pub called_if : Bool → Called
-  called_if is = cond is (played (step (state_in image) line (length room)) room) (record { answer = told NoState 0; image = image; room = room })
+  called_if is = cond is (played (step (state_in image) line (length room)) room) (record { answer = told (Err NoState) 0; image = image; room = room })
 
   leaves : (is_accepted (call image line room).answer.verdict ≡ true → line_deed (state_in image).series line ≡ asks) → (call image line room).image ≡ image
   leaves f = by (is_image image) refl f
@@ -41,8 +42,8 @@ module _ (image line room : List ℕ) where
   pub asking_leaves : line_deed (state_in image).series line ≡ asks → (call image line room).image ≡ image
   asking_leaves e = leaves (λ _. e)
 
-  pub conf_leaves : (n : ℕ) → order_of (text_of line) ≡ Conf n → (call image line room).image ≡ image
+  pub conf_leaves : (n : ℕ) → order_of (text_of line) ≡ Ok (Conf n) → (call image line room).image ≡ image
   conf_leaves n e = asking_leaves (ap (deed_of (state_in image).series (text_of line)) e)
 
-  pub get_leaves : order_of (text_of line) ≡ Get → (call image line room).image ≡ image
+  pub get_leaves : order_of (text_of line) ≡ Ok Get → (call image line room).image ≡ image
   get_leaves e = asking_leaves (ap (deed_of (state_in image).series (text_of line)) e)

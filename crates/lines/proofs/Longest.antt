@@ -20,7 +20,7 @@ use Rattle.lines.specs.Replies.{ends_lf, answers_wide, reply_end, warning, body_
 use Rattle.lines.specs.Machine.{run, step}
 use Rattle.lines.proofs.Replying.{body_most, body_most_lem, body_short}
 use Rattle.lines.proofs.Sorts.{accepted_is}
-use Rattle.lines.proofs.Runs.{judged}
+use Rattle.lines.proofs.Runs.{may_run}
 
 ended_most : (s : State) (body : List ℕ) (b : Bool) (n : ℕ) → 5 ≤ n → (b ≡ true → length body ≤ n) → length (cond b body warning ++ reply_end s) ≤ n + 2
 ended_most s body true n few h = omega (arith, h refl, length-append body (reply_end s), end_long (ends_lf s))
@@ -37,7 +37,7 @@ reply_by s line =
     let v = line_verdict s line in
     ended_most s (body_of s t (order_of t)) (is_accepted v) (body_most (answers_wide s)) (most_some (answers_wide s))
     (λ e.
-    let j = judged (is_ended line) (leb (length t) 100) (order_verdict s t (order_of t)) (accepted_is v e) in
+    let j = may_run (is_ended line) (leb (length t) 100) (order_verdict s t (order_of t)) (accepted_is v e) in
     body_short s t (order_of t) refl j.1 (leb-true (length t) 100 j.0))
 
 pub reply_most_lem : (s : State) (line : List ℕ) → length (run s line).reply ≤ reply_most

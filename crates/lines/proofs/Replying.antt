@@ -6,37 +6,35 @@ use mathlib.Core.List.{List, [], ◌∷◌, ◌++◌, append_assoc, append-nil}
 use native.Mathlib.Nat.{zero-mul, suc-mul, add_comm}
 use native.Mathlib.Omega.{arith}
 use borrow.Rule.Slice.PartMut.{put_mid, mid_of}
-use lib.ListN.{length, get_or, set, take, drop, length-append, length-drop}
-use lib.Seq.{take-nil, drop-drop, get_or-drop}
+use lib.ListN.{length, get_or, take, drop, length-append, length-drop, get_or-append}
+use lib.Seq.{take-nil, drop_at}
 use Rattle.figures.specs.Bytes.{laid}
 use Rattle.figures.specs.Decimal.{digits_of}
-use Rattle.figures.proofs.Bytes.{laid_fits, laid_on, length_on}
+use Rattle.figures.proofs.Bytes.{laid_fits, laid_on}
 use Rattle.figures.proofs.Decimal.{digits_on, digits_length}
 use Rattle.words.specs.Reading.{word_size}
 use Rattle.instrument.specs.Settings.{setting_place}
-use Rattle.instrument.specs.Values.{is_put, get_word, word_in}
+use Rattle.instrument.specs.Values.{Kept, is_put, get_word, word_in}
 use Rattle.instrument.specs.declared.settings.Series.{Series}
-use Rattle.instrument.specs.declared.settings.Found.{Found}
-use Rattle.instrument.specs.declared.settings.Found.TheVariants.{Nothing, At}
-use Rattle.instrument.specs.declared.values.Kept.{Kept}
-use Rattle.instrument.specs.declared.values.Kept.TheVariants.{Never, Put}
-use Rattle.instrument.specs.declared.values.Value.{Value}
 use Rattle.state.specs.Entries.{value_held}
 use Rattle.state.specs.declared.entries.State.{State}
 use Rattle.commands.specs.Shapes.{groups_right, groups_in, order_of}
 use Rattle.lines.specs.Verdicts.{conf_by, conf_verdict, place_named, get_by, order_verdict}
-use Rattle.lines.specs.Replies.{ends_lf, answers_wide, reply_end, conf_body, body_of}
+use Rattle.lines.specs.Replies.{answers_wide, word_at, conf_body, body_of}
 use Rattle.lines.specs.Keeping.{groups_verdict, groups_words, groups_body, GetFits, get_n}
-use Rattle.figures.specs.Text.{end_bytes, star_bytes}
+use Rattle.figures.specs.Text.{star_bytes}
 use Rattle.figures.proofs.Tests.{clash}
 use Rattle.commands.specs.declared.shapes.Order.{Order}
 use Rattle.commands.specs.declared.shapes.Order.TheVariants as order
-use Rattle.lines.specs.declared.verdicts.Verdict.{Verdict}
-use Rattle.lines.specs.declared.verdicts.Verdict.TheVariants.{Accepted, NeverPut}
-use Rattle.commands.proofs.Shape.{groups_length, order_get, to_end}
-use Rattle.lines.proofs.Lookups.{groups_verdict_lem, groups_words_lem}
+use Rattle.commands.specs.declared.shapes.NoOrder.{NoOrder}
+use Rattle.lines.specs.Verdicts.{Verdict}
+use Rattle.lines.specs.Verdicts.{accepted}
+use Rattle.lines.specs.declared.verdicts.Refused.TheVariants.{NeverPut}
+use Rattle.commands.proofs.Shape.{order_get, to_end}
+use Rattle.lines.proofs.Lookups.{get_more, groups_verdict_lem, groups_words_lem}
+use Rattle.std.specs.Prelude.{Result, Ok, Err, Option, Some, None}
 
-pub not_both : (f : Found) (i : ℕ) → f ≡ At i → f ≡ Nothing → ⊥
+pub not_both : (f : Option ℕ) (i : ℕ) → f ≡ Some i → f ≡ None → ⊥
 not_both f i p q = let z : ◌≡◌ {A = ℕ} 0 1 = cc in omega arith
 
 -- a text and its end
@@ -50,144 +48,117 @@ pub laid_then : (w e room₀ room last : List ℕ) (a : ℕ) → a ≡ length w 
 laid_then w e room₀ room last a ea h er el =
     laid_on w e room₀ room last a ea h (er ∙ laid_fits w room₀ (omega arith)) el ∙ sym (laid_fits (w ++ e) room₀ (omega (arith, length-append w e)))
 
--- an end, byte by byte
-
-pub end_some : (lf : Bool) → 1 ≤ length (end_bytes lf)
-end_some true = omega arith
-end_some false = omega arith
-
-pub cr_laid : (room : List ℕ) → 1 ≤ length room → set room 0 13 ≡ laid (end_bytes false) room
-cr_laid [] h = absurd (omega arith)
-cr_laid (a ∷ room) h = sym (laid_fits (end_bytes false) (a ∷ room) h)
-
-pub crlf_laid : (room : List ℕ) → 2 ≤ length room → set (set room 0 13) 1 10 ≡ laid (end_bytes true) room
-crlf_laid [] h = absurd (omega arith)
-crlf_laid (a ∷ []) h = absurd (omega arith)
-crlf_laid (a ∷ (b ∷ room)) h = sym (laid_fits (end_bytes true) (a ∷ (b ∷ room)) h)
-
 -- GET: its words
 
 word_long : (wide : Bool) (i : ℕ) (k : Kept) → length (word_in wide (get_word i k)) ≡ word_size wide
-word_long true i Never = refl
-word_long true i (Put u m d) = refl
-word_long false i Never = refl
-word_long false i (Put u m d) = refl
+word_long true i None = refl
+word_long true i (Some p) = refl
+word_long false i None = refl
+word_long false i (Some p) = refl
 
 -- an index that isn't refused names a value that was put
-abbrev pub NamesPut : List Value → Found → Type 0
-NamesPut values f = (i : ℕ) × ((f ≡ At i) × (is_put (value_held values i).kept ≡ true))
+abbrev pub NamesPut : List Kept → Option ℕ → Type 0
+NamesPut values f = (i : ℕ) × ((f ≡ Some i) × (is_put (value_held values i) ≡ true))
 
-pub names_put : (values : List Value) (f : Found) (next : Verdict) → get_by values f next ≡ Accepted → (next ≡ Accepted) × NamesPut values f
-names_put values Nothing next e = absurd (clash (cc))
-names_put values (At i) next e = let p = put (is_put (value_held values i).kept) e in (p.0, (i, (refl, p.1)))
+pub names_put : (values : List Kept) (f : Option ℕ) (next : Verdict) → get_by values f next ≡ accepted → (next ≡ accepted) × NamesPut values f
+names_put values None next e = absurd (clash (cc))
+names_put values (Some i) next e = let p = put (is_put (value_held values i)) e in (p.0, (i, (refl, p.1)))
   where
-    put : (b : Bool) → cond b next NeverPut ≡ Accepted → (next ≡ Accepted) × (b ≡ true)
+    put : (b : Bool) → cond b next (Err NeverPut) ≡ accepted → (next ≡ accepted) × (b ≡ true)
     put true e = (e, refl)
     put false e = absurd (clash (cc))
 
-first_right : (values : List Value) (n : ℕ) (g : List ℕ) → groups_verdict values (suc n) g ≡ Accepted
-    → (groups_verdict values n (drop 5 g) ≡ Accepted) × NamesPut values (place_named (get_or g 3 0) (get_or g 4 0))
+first_right : (values : List Kept) (n : ℕ) (g : List ℕ) → groups_verdict values (suc n) g ≡ accepted
+    → (groups_verdict values n (drop 5 g) ≡ accepted) × NamesPut values (place_named (get_or g 3 0) (get_or g 4 0))
 unfolding groups_verdict
 first_right values n g e = names_put values (place_named (get_or g 3 0) (get_or g 4 0)) (groups_verdict values n (drop 5 g)) e
 
-pub words_long : (wide : Bool) (values : List Value) (n : ℕ) (g : List ℕ) → groups_verdict values n g ≡ Accepted
+pub words_long : (wide : Bool) (values : List Kept) (n : ℕ) (g : List ℕ) → groups_verdict values n g ≡ accepted
     → length (groups_words wide values n g) ≡ n * word_size wide
 unfolding groups_words
 words_long wide values zero g e = sym (zero-mul (word_size wide))
 words_long wide values (suc n) g e =
     let r = first_right values n g e in
     let i = r.1.0 in
-    let w = word_in wide (get_word i (value_held values i).kept) in
+    let w = word_in wide (get_word i (value_held values i)) in
     rw r.1.1.0
     (length-append w (groups_words wide values n (drop 5 g))
-    ∙ rw (word_long wide i (value_held values i).kept, words_long wide values n (drop 5 g) r.0, suc-mul n (word_size wide), add_comm (n * word_size wide) (word_size wide)))
+    ∙ rw (word_long wide i (value_held values i), words_long wide values n (drop 5 g) r.0, suc-mul n (word_size wide), add_comm (n * word_size wide) (word_size wide)))
 
-words_more : (wide : Bool) (values : List Value) (m n : ℕ) (g : List ℕ) (i : ℕ) → m ≡ suc n → place_named (get_or g 3 0) (get_or g 4 0) ≡ At i
-    → groups_words wide values m g ≡ word_in wide (get_word i (value_held values i).kept) ++ groups_words wide values n (drop 5 g)
+words_more : (wide : Bool) (values : List Kept) (g x t : List ℕ) → g ≡ x ++ t → length x ≡ 5
+    → groups_words wide values (groups_in g) g ≡ word_at wide values (place_named (get_or x 3 0) (get_or x 4 0)) ++ groups_words wide values (groups_in t) t
 unfolding groups_words
-words_more wide values m n g i z e = rw (z, e)
+words_more wide values g x t cut five =
+    let q : length (x ++ t) / 5 ≡ suc (length t / 5) = omega (arith, length-append x t) in
+    rw (cut, q, get_or-append x t 0 3 (omega (arith, five)), get_or-append x t 0 4 (omega (arith, five)), drop_at x t 5 five)
 
--- some words of GET are laid down, and those of the groups from i on are left
-pub record Got (wide : Bool) (values : List Value) (g room₀ room : List ℕ) (i at : ℕ) : Type 0 where
+-- some words of GET are laid down, and those of some groups are left
+pub record Got (wide : Bool) (values : List Kept) (g room₀ room left : List ℕ) (at : ℕ) : Type 0 where
   pub done : List ℕ
-  pub left : ℕ
-  pub long : length g ≡ i + 5 * left
-  pub accepted : groups_verdict values left (drop i g) ≡ Accepted
-  pub whole : groups_words wide values (groups_in g) g ≡ done ++ groups_words wide values left (drop i g)
+  pub all_put : groups_verdict values (groups_in left) left ≡ accepted
+  pub whole : groups_words wide values (groups_in g) g ≡ done ++ groups_words wide values (groups_in left) left
   pub here : at ≡ length done
   pub stands : room ≡ done ++ drop (length done) room₀
 
-module _ (wide : Bool) (values : List Value) (g room₀ : List ℕ) (fit : GetFits values g (groups_words wide values (groups_in g) g) room₀) where
-  pub got_none : Got wide values g room₀ room₀ 0 0
-  got_none = record {
-    done = [];
-    left = groups_in g;
-    long = omega (arith, groups_length (groups_in g) g fit.groups);
-    accepted = fit.accepted;
-    whole = refl;
-    here = refl;
-    stands = refl;
-  }
+module _ (wide : Bool) (values : List Kept) (g room₀ : List ℕ) (fit : GetFits values g (groups_words wide values (groups_in g) g) room₀) where
+  pub got_none : Got wide values g room₀ room₀ g 0
+  got_none = record { done = []; all_put = fit.all_put; whole = refl; here = refl; stands = refl }
 
-  module _ (room : List ℕ) (i at : ℕ) (h : Got wide values g room₀ room i at) where
-    got_fits : (at + h.left * word_size wide ≤ length room₀) × (length room ≡ length room₀)
-    got_fits =
-        let all = ap length h.whole ∙ length-append h.done (groups_words wide values h.left (drop i g)) in
-        let rest = words_long wide values h.left (drop i g) h.accepted in
-        let into : at + h.left * word_size wide ≤ length room₀ = omega (arith, fit.fits, h.here) in
-        (into, length_on h.done room₀ room (omega (arith, h.here)) h.stands)
+  module _ (room left : List ℕ) (at : ℕ) (h : Got wide values g room₀ room left at) where
+    abbrev rest : List ℕ
+    rest = groups_words wide values (groups_in left) left
 
-    pub got_length : length room ≡ length room₀
-    got_length = got_fits.1
+    got_fits : length h.done + length rest ≤ length room₀
+    got_fits = omega (arith, fit.fits, ap length h.whole, length-append h.done rest)
 
-    pub got_room : i < length g → at + word_size wide ≤ length room₀
-    got_room e =
-        let z : h.left ≡ suc (h.left - 1) = omega (arith, h.long) in
-        let more : h.left * word_size wide ≡ (h.left - 1) * word_size wide + word_size wide = ap (λ (n : ℕ). n * word_size wide) z ∙ suc-mul (h.left - 1) (word_size wide) in
-        omega (arith, got_fits.0, more)
-
-    pub got_all : length g ≤ i → room ≡ laid (groups_words wide values (groups_in g) g) room₀
+    -- none is left
+    pub got_all : length left < 5 → let w = groups_words wide values (groups_in g) g in (at ≡ length w) × (room ≡ laid w room₀)
     unfolding groups_words
-    got_all e =
-        let z : h.left ≡ 0 = omega (arith, h.long) in
-        let none : groups_words wide values h.left (drop i g) ≡ [] = rw z in
+    got_all short =
+        let z : length left / 5 ≡ 0 = omega arith in
+        let none : rest ≡ [] = rw z in
         let is : groups_words wide values (groups_in g) g ≡ h.done = h.whole ∙ rw (none, append-nil) in
-        rw is (h.stands ∙ sym (laid_fits h.done room₀ (omega (arith, got_fits.0, h.here))))
+        rw is (h.here, h.stands ∙ sym (laid_fits h.done room₀ (omega (arith, got_fits))))
 
-    -- the next group names a value
-    pub got_named : i < length g → (i + 5 ≤ length g) × ((p : ℕ) × (place_named (get_or g (i + 3) 0) (get_or g (i + 4) 0) ≡ At p))
-    got_named e =
-        let z : h.left ≡ suc (h.left - 1) = omega (arith, h.long) in
-        let r = (first_right values (h.left - 1) (drop i g) (rw z at h.accepted)).1 in
-        (omega (arith, h.long), (r.0, rw (← get_or-drop i g 3 0, ← get_or-drop i g 4 0) r.1.0))
+    -- the next group names a value, and its word fits
+    module _ (x t : List ℕ) (cut : left ≡ x ++ t) (five : length x ≡ 5) where
+      abbrev named : Option ℕ
+      named = place_named (get_or x 3 0) (get_or x 4 0)
 
-    pub got_more : (p n : ℕ) (last : List ℕ) → i < length g → place_named (get_or g (i + 3) 0) (get_or g (i + 4) 0) ≡ At p → n ≡ word_size wide
-        → last ≡ laid (word_in wide (get_word p (value_held values p).kept)) (mid_of at (length room - at) room)
-        → Got wide values g room₀ (put_mid at (length room - at) room last) (i + 5) (at + n)
-    got_more p n last e q en el =
-        let left = h.left - 1 in
-        let w = word_in wide (get_word p (value_held values p).kept) in
-        let lw = word_long wide p (value_held values p).kept in
-        let z : h.left ≡ suc left = omega (arith, h.long) in
-        let next = words_more wide values h.left left (drop i g) p z (rw (get_or-drop i g 3 0, get_or-drop i g 4 0) q) in
-        record {
-          done = h.done ++ w;
-          left = left;
-          long = omega (arith, h.long);
-          accepted = rw (drop-drop 5 i g) at (first_right values left (drop i g) (rw z at h.accepted)).0;
-          whole = h.whole ∙ rw (next, drop-drop 5 i g, append_assoc);
-          here = omega (arith, h.here, length-append h.done w, lw);
-          stands = laid_on h.done w room₀ room last at h.here (omega (arith, got_room e, h.here, lw)) h.stands el;
+      got_right : (groups_verdict values (groups_in t) t ≡ accepted) × NamesPut values named
+      got_right = names_put values named (groups_verdict values (groups_in t) t) (sym (get_more values left x t cut five) ∙ h.all_put)
+
+      pub got_named : named ≡ None → ⊥
+      got_named e = not_both named got_right.1.0 got_right.1.1.0 e
+
+      module _ (p : ℕ) (is : named ≡ Some p) where
+        abbrev pub word : List ℕ
+        word = word_in wide (get_word p (value_held values p))
+
+        next : rest ≡ word ++ groups_words wide values (groups_in t) t
+        next = words_more wide values left x t cut five ∙ rw is
+
+        pub got_room : at + length word ≤ length room₀
+        got_room = omega (arith, got_fits, h.here, ap length next, length-append word (groups_words wide values (groups_in t) t))
+
+        pub got_more : (n : ℕ) (last : List ℕ) → n ≡ length word → last ≡ laid word (mid_of at (length room - at) room)
+            → Got wide values g room₀ (put_mid at (length room - at) room last) t (at + n)
+        got_more n last en el = record {
+          done = h.done ++ word;
+          all_put = got_right.0;
+          whole = h.whole ∙ rw (next, append_assoc);
+          here = omega (arith, h.here, length-append h.done word);
+          stands = laid_on h.done word room₀ room last at h.here (omega (arith, got_room, h.here)) h.stands el;
         }
 
 -- CONF: a place that is found, and its nine characters
 
-pub conf_named : (k : Series) (n : ℕ) → conf_verdict k n ≡ Accepted → (i : ℕ) × (setting_place k n ≡ At i)
+pub conf_named : (k : Series) (n : ℕ) → conf_verdict k n ≡ accepted → (i : ℕ) × (setting_place k n ≡ Some i)
 conf_named k n e = by (setting_place k n) e
   where
-    by : (f : Found) → conf_by f ≡ Accepted → (i : ℕ) × (f ≡ At i)
-    by Nothing e = let z : ◌≡◌ {A = ℕ} 0 1 = cc in absurd (omega arith)
-    by (At i) e = (i, refl)
+    by : (f : Option ℕ) → conf_by f ≡ accepted → (i : ℕ) × (f ≡ Some i)
+    by None e = let z : ◌≡◌ {A = ℕ} 0 1 = cc in absurd (omega arith)
+    by (Some i) e = (i, refl)
 
 abbrev pub slashes : List ℕ
 slashes = 47 ∷ 47 ∷ 47 ∷ 47 ∷ 47 ∷ []
@@ -203,7 +174,7 @@ conf_laid n p l₁ l₂ e₁ e₂ =
     let stands : l₁ ++ slashes ≡ done ++ drop (length done) nine = rw (e₁, five, append_assoc) in
     digits_on done nine (l₁ ++ slashes) l₂ 5 4 p (sym five) (omega arith) stands e₂ ∙ rw (all, append-nil, append_assoc)
 
-pub conf_long : (k : Series) (settings : List ℕ) (n : ℕ) → conf_verdict k n ≡ Accepted → length (conf_body k settings n) ≡ 9
+pub conf_long : (k : Series) (settings : List ℕ) (n : ℕ) → conf_verdict k n ≡ accepted → length (conf_body k settings n) ≡ 9
 conf_long k settings n e =
     let f = conf_named k n e in
     let p = get_or settings f.0 0 in
@@ -211,23 +182,23 @@ conf_long k settings n e =
 
 -- the reply of an order
 
-pub conf_body_long : (s : State) (t : List ℕ) (o : Order) (n : ℕ) → o ≡ order.Conf n → order_verdict s t o ≡ Accepted → length (body_of s t o) ≡ 9
+pub conf_body_long : (s : State) (t : List ℕ) (o : Order) (n : ℕ) → o ≡ order.Conf n → order_verdict s t (Ok o) ≡ accepted → length (body_of s t (Ok o)) ≡ 9
 conf_body_long s t o n e v = rw e (conf_long s.series s.settings n (rw e at v))
 
-module _ (s : State) (t : List ℕ) (o : Order) (e : o ≡ order.Get) (is : o ≡ order_of t) (v : order_verdict s t o ≡ Accepted) where
+module _ (s : State) (t : List ℕ) (o : Order) (e : o ≡ order.Get) (is : Ok o ≡ order_of t) (v : order_verdict s t (Ok o) ≡ accepted) where
   pub get_length : 5 ≤ length t
-  get_length = (order_get t (sym is ∙ e)).0
+  get_length = (order_get t (sym is ∙ ap Ok e)).0
 
   get_groups : groups_right (groups_in (drop 5 t)) (drop 5 t) ≡ true
-  get_groups = (order_get t (sym is ∙ e)).1
+  get_groups = (order_get t (sym is ∙ ap Ok e)).1
 
-  get_judged : groups_verdict s.values (groups_in (drop 5 t)) (drop 5 t) ≡ Accepted
+  get_judged : groups_verdict s.values (groups_in (drop 5 t)) (drop 5 t) ≡ accepted
   get_judged = groups_verdict_lem s.values (groups_in (drop 5 t)) (drop 5 t) get_groups ∙ (rw e at v)
 
-  pub get_body : body_of s t o ≡ groups_body (answers_wide s) s.values (groups_in (drop 5 t)) (drop 5 t)
+  pub get_body : body_of s t (Ok o) ≡ groups_body (answers_wide s) s.values (groups_in (drop 5 t)) (drop 5 t)
   get_body = rw (e, groups_words_lem s.values (answers_wide s) (groups_in (drop 5 t)) (drop 5 t) get_groups)
 
-  pub get_body_long : length (body_of s t o) ≡ get_n (answers_wide s) ((length t - 5) / 5)
+  pub get_body_long : length (body_of s t (Ok o)) ≡ get_n (answers_wide s) ((length t - 5) / 5)
   get_body_long =
       let g = drop 5 t in
       let n : groups_in g ≡ (length t - 5) / 5 = ap (λ (k : ℕ). k / 5) (length-drop 5 t) in
@@ -235,21 +206,12 @@ module _ (s : State) (t : List ℕ) (o : Order) (e : o ≡ order.Get) (is : o �
       ∙ length-append (star_bytes (answers_wide s)) (groups_words (answers_wide s) s.values (groups_in g) g)
       ∙ rw (words_long (answers_wide s) s.values (groups_in g) g get_judged, n)
 
-  pub get_fits : (room : List ℕ) → length (body_of s t o) + length (reply_end s) ≤ length room →
+  pub get_fits : (room : List ℕ) → length (body_of s t (Ok o)) ≤ length room →
       let g = take (length t - 5) (drop 5 t) in
       GetFits s.values g (groups_body (answers_wide s) s.values (groups_in g) g) room
   get_fits room f =
       rw (to_end 5 t)
-      record { groups = get_groups; accepted = get_judged; fits = omega (arith, ap length get_body) }
-
--- a text is the reply, and a flag says how it ends
-pub reply_fits : (s : State) (t : List ℕ) (o : Order) (w : List ℕ) (lf : Bool) (n : ℕ) → w ≡ body_of s t o → lf ≡ ends_lf s
-    → length (body_of s t o) + length (reply_end s) ≤ n → length w + length (end_bytes lf) ≤ n
-reply_fits s t o w lf n ew el h = rw (ew, el) h
-
-pub reply_laid : (s : State) (t : List ℕ) (o : Order) (w : List ℕ) (lf : Bool) (room last : List ℕ) → w ≡ body_of s t o → lf ≡ ends_lf s
-    → last ≡ laid (w ++ end_bytes lf) room → last ≡ laid (body_of s t o ++ reply_end s) room
-reply_laid s t o w lf room last ew el h = h ∙ rw (ew, el)
+      record { all_put = get_judged; fits = omega (arith, ap length get_body) }
 
 -- the words of a line of at most a hundred characters: nineteen
 
@@ -269,16 +231,15 @@ some_few true n h = omega arith
 some_few false n h = omega arith
 
 -- so such a line has a short reply
-pub body_short : (s : State) (t : List ℕ) (o : Order) → o ≡ order_of t → order_verdict s t o ≡ Accepted → length t ≤ 100
+pub body_short : (s : State) (t : List ℕ) (o : Result Order NoOrder) → o ≡ order_of t → order_verdict s t o ≡ accepted → length t ≤ 100
     → length (body_of s t o) ≤ body_most (answers_wide s)
-body_short s t order.WrongShape is v h = some_few (answers_wide s) 0 (omega arith)
-body_short s t (order.Set n p) is v h = some_few (answers_wide s) 1 (omega arith)
-body_short s t (order.Conf n) is v h = some_few (answers_wide s) _ (omega (arith, conf_body_long s t (order.Conf n) n refl v))
-body_short s t order.Put is v h = some_few (answers_wide s) 1 (omega arith)
-body_short s t order.Get is v h =
+body_short s t (Err none) is v h = some_few (answers_wide s) 0 (omega arith)
+body_short s t (Ok (order.Set n p)) is v h = some_few (answers_wide s) 1 (omega arith)
+body_short s t (Ok (order.Conf n)) is v h = some_few (answers_wide s) _ (omega (arith, conf_body_long s t (order.Conf n) n refl v))
+body_short s t (Ok order.Put) is v h = some_few (answers_wide s) 1 (omega arith)
+body_short s t (Ok order.Get) is v h =
     let long = get_body_long s t order.Get refl is v in
     let few = words_few (answers_wide s) ((length t - 5) / 5) (omega arith) in
     omega (arith, long, few)
-body_short s t order.Undo is v h = some_few (answers_wide s) 1 (omega arith)
-body_short s t order.Keep is v h = some_few (answers_wide s) 1 (omega arith)
-body_short s t order.NoKeyword is v h = some_few (answers_wide s) 0 (omega arith)
+body_short s t (Ok order.Undo) is v h = some_few (answers_wide s) 1 (omega arith)
+body_short s t (Ok order.Keep) is v h = some_few (answers_wide s) 1 (omega arith)

@@ -11,14 +11,9 @@ use Rattle.figures.specs.Bytes.{within}
 use Rattle.figures.proofs.Bytes.{within_bounds, bounds_within}
 use Rattle.figures.proofs.Tests.{both, by_test}
 use Rattle.units.specs.Kinds.{index_of}
-use Rattle.words.specs.Reading.{fault_number, pos}
-use Rattle.words.specs.declared.reading.Judged.{Judged}
-use Rattle.words.specs.declared.reading.Judged.TheVariants.{Right, Wrong}
+use Rattle.words.specs.Reading.{Judged, fault_number, pos}
 use Rattle.instrument.specs.Settings.{row_at, setting_place, is_asked, in_range}
-use Rattle.instrument.specs.Values.{value_place, put_judged, is_put}
-use Rattle.instrument.specs.declared.settings.Found.{Found}
-use Rattle.instrument.specs.declared.settings.Found.TheVariants.{Nothing, At}
-use Rattle.instrument.specs.declared.values.Value.{Value}
+use Rattle.instrument.specs.Values.{Kept, value_place, put_judged, is_put}
 use Rattle.instrument.proofs.Which.{put_which, put_within}
 use Rattle.state.specs.Entries.{entries_n, value_held}
 use Rattle.state.specs.Image.{state_in, is_image}
@@ -29,13 +24,16 @@ use Rattle.lines.specs.Verdicts.{verdict_number, verdict_which, verdict_byte, fu
 use Rattle.lines.specs.Verdicts.{word_verdict, put_by, put_verdict, get_by, get_verdict, order_verdict, line_verdict}
 use Rattle.lines.specs.Machine.{outcome, run, step, told, played, call}
 use Rattle.commands.specs.declared.shapes.Order.{Order}
-use Rattle.lines.specs.declared.verdicts.Verdict.{Verdict}
-use Rattle.lines.specs.declared.verdicts.Verdict.TheVariants.{Accepted, Unended, Long, ReadOnly, Parameter}
-use Rattle.lines.specs.declared.verdicts.Verdict.TheVariants.{NeverPut, Full, NoEntry, Room, NoState}
+use Rattle.commands.specs.declared.shapes.NoOrder.{NoOrder}
+use Rattle.lines.specs.Verdicts.{Verdict}
+use Rattle.lines.specs.Verdicts.{accepted}
+use Rattle.lines.specs.declared.verdicts.Refused.TheVariants.{Unended, Long, ReadOnly, Parameter}
+use Rattle.lines.specs.declared.verdicts.Refused.TheVariants.{NeverPut, Full, NoEntry, Room, NoState}
 use Rattle.commands.proofs.Shape.{order_by}
 use Rattle.lines.proofs.Leaves.{called_if}
 use Rattle.lines.proofs.Lookups.{value_found, named}
 use Rattle.lines.proofs.Replying.{laid_none}
+use Rattle.std.specs.Prelude.{Result, Ok, Err, Option, Some, None}
 
 -- a fault of 6 to 10 at a byte of the word after `PUT/`, or neither
 abbrev pub tells : Verdict → Bool
@@ -55,54 +53,54 @@ cond_tells true v w p q = p
 cond_tells false v w p q = q
 
 full_tells : (count : ℕ) → Tells (full_verdict count)
-full_tells count = cond_tells (leb entries_n count) Full Accepted refl refl
+full_tells count = cond_tells (leb entries_n count) (Err Full) accepted refl refl
 
-set_tells : (s : State) (p : ℕ) (f : Found) → Tells (set_by s p f)
-set_tells s p Nothing = refl
-set_tells s p (At i) =
+set_tells : (s : State) (p : ℕ) (f : Option ℕ) → Tells (set_by s p f)
+set_tells s p None = refl
+set_tells s p (Some i) =
     let row = row_at s.series i in
-    cond_tells (is_asked row) ReadOnly _ refl (cond_tells (in_range row p) (full_verdict s.count) Parameter (full_tells s.count) refl)
+    cond_tells (is_asked row) (Err ReadOnly) _ refl (cond_tells (in_range row p) (full_verdict s.count) (Err Parameter) (full_tells s.count) refl)
 
-conf_tells : (f : Found) → Tells (conf_by f)
-conf_tells Nothing = refl
-conf_tells (At i) = refl
+conf_tells : (f : Option ℕ) → Tells (conf_by f)
+conf_tells None = refl
+conf_tells (Some i) = refl
 
 -- a word of 16 bytes that names a stored value
 put_tells : (count : ℕ) (word : List ℕ) → length word ≡ 16 → Tells (put_verdict count word)
 put_tells count word long = go (place_named (pos 1 word) (pos 2 word)) refl
   where
-    by : (i : ℕ) (j : Judged) → place_named (pos 1 word) (pos 2 word) ≡ At i → put_judged i word ≡ j → Tells (word_verdict count j)
-    by i Right f e = full_tells count
-    by i (Wrong x at) f e =
+    by : (i : ℕ) (j : Judged) → place_named (pos 1 word) (pos 2 word) ≡ Some i → put_judged i word ≡ j → Tells (word_verdict count j)
+    by i (Ok u) f e = full_tells count
+    by i (Err w) f e =
         let digits = named (pos 1 word) (pos 2 word) i f in
         let found = value_found (index_of (pos 1 word) (pos 2 word)) i digits.2 in
-        let which = put_which i word x at found.0 (omega arith) found.1 (rw (digits.0, digits.1)) e in
-        rw (bounds_within 6 10 (fault_number x) which.0 which.1, bounds_within 4 19 (4 + at) (omega arith) (omega (arith, put_within i word x at e)))
+        let which = put_which i word w.fault w.at found.0 (omega arith) found.1 (rw (digits.0, digits.1)) e in
+        rw (bounds_within 6 10 (fault_number w.fault) which.0 which.1, bounds_within 4 19 (4 + w.at) (omega arith) (omega (arith, put_within i word w.fault w.at e)))
 
-    go : (f : Found) → place_named (pos 1 word) (pos 2 word) ≡ f → Tells (put_by count word f)
-    go Nothing e = refl
-    go (At i) e = by i (put_judged i word) e refl
+    go : (f : Option ℕ) → place_named (pos 1 word) (pos 2 word) ≡ f → Tells (put_by count word f)
+    go None e = refl
+    go (Some i) e = by i (put_judged i word) e refl
 
-get_tells : (values : List Value) (indexes : List ℕ) → Tells (get_verdict values indexes)
+get_tells : (values : List Kept) (indexes : List ℕ) → Tells (get_verdict values indexes)
 get_tells values [] = refl
 get_tells values (n ∷ ns) = by (value_place n) (get_tells values ns)
   where
-    by : (f : Found) → Tells (get_verdict values ns) → Tells (get_by values f (get_verdict values ns))
-    by Nothing later = refl
-    by (At i) later = cond_tells (is_put (value_held values i).kept) _ NeverPut later refl
+    by : (f : Option ℕ) → Tells (get_verdict values ns) → Tells (get_by values f (get_verdict values ns))
+    by None later = refl
+    by (Some i) later = cond_tells (is_put (value_held values i)) _ (Err NeverPut) later refl
 
 line_told : (s : State) (line : List ℕ) → Tells (line_verdict s line)
 line_told s line =
     let t = text_of line in
     let order : Tells (order_verdict s t (order_of t)) =
-    order_by (λ (o : Order). Tells (order_verdict s t o)) t refl refl
+    order_by (λ (o : Result Order NoOrder). Tells (order_verdict s t o)) t refl refl
     (λ _ n p. set_tells s p (setting_place s.series n))
     (λ n. conf_tells (setting_place s.series n))
     (λ _ long. put_tells s.count (drop 4 t) (omega (arith, length-drop 4 t)))
     (λ _ _. get_tells s.values (indexes_of t))
-    (λ _. cond_tells (eqb s.count 0) NoEntry Accepted refl refl)
+    (λ _. cond_tells (eqb s.count 0) (Err NoEntry) accepted refl refl)
     (λ _. refl) in
-    cond_tells (is_ended line) _ Unended (cond_tells (leb (length t) 100) _ Long order refl) refl
+    cond_tells (is_ended line) _ (Err Unended) (cond_tells (leb (length t) 100) _ (Err Long) order refl) refl
 
 pub line_tells : (s : State) (line : List ℕ) → tells (line_verdict s line) ≡ true
 line_tells s line = (both (tells (line_verdict s line)) (not (unanswered (line_verdict s line))) (line_told s line)).0
@@ -115,7 +113,7 @@ line_answered s line =
 pub step_tells : (s : State) (line : List ℕ) (room : ℕ) → tells (step s line room).verdict ≡ true
 step_tells s line room = by (leb (length (run s line).reply) room)
   where
-    by : (b : Bool) → tells (cond b (run s line) (outcome Room [] s)).verdict ≡ true
+    by : (b : Bool) → tells (cond b (run s line) (outcome (Err Room) [] s)).verdict ≡ true
     by true = line_tells s line
     by false = refl
 
@@ -123,7 +121,7 @@ pub call_tells : (image line room : List ℕ) → tells (call image line room).a
 call_tells image line room = by (is_image image)
   where
     by : (b : Bool)
-        → tells (cond b (played (step (state_in image) line (length room)) room) (record { answer = told NoState 0; image = image; room = room })).answer.verdict ≡ true
+        → tells (cond b (played (step (state_in image) line (length room)) room) (record { answer = told (Err NoState) 0; image = image; room = room })).answer.verdict ≡ true
     by true = step_tells (state_in image) line (length room)
     by false = refl
 
@@ -165,7 +163,7 @@ call_unanswered image line room none = by (is_image image) refl none
     s : State
     s = state_in image
 
-    fits : (is : is_image image ≡ true) (b : Bool) → let c = played (cond b (run s line) (outcome Room [] s)) room in unanswered c.answer.verdict ≡ true
+    fits : (is : is_image image ≡ true) (b : Bool) → let c = played (cond b (run s line) (outcome (Err Room) [] s)) room in unanswered c.answer.verdict ≡ true
         → (c.answer.count ≡ 0) × ((c.image ≡ image) × (c.room ≡ room))
     fits is true e = absurd (false≢true (sym (line_answered s line) ∙ e))
     fits is false e = (refl, (sym (image_of_lem image is).1, laid_none room))

@@ -12,11 +12,13 @@ use Rattle.lines.specs.Orders.{stores, undo_of, Deed, asks, changes, undoes, kee
 use Rattle.lines.specs.Machine.{Outcome, step}
 use Rattle.lines.specs.Sessions.{session, Call}
 use Rattle.lines.specs.Demand.{Mark, changed, kept, strike, mark, marked, play_all, stands, Followed, follows}
-use Rattle.lines.specs.declared.verdicts.Verdict.TheVariants.{Accepted, NoEntry}
+use Rattle.lines.specs.Verdicts.{accepted}
+use Rattle.lines.specs.declared.verdicts.Refused.TheVariants.{NoEntry}
 use Rattle.lines.proofs.Deeds.{May, undo_changed}
 use Rattle.lines.proofs.Runs.{Comes, stays, runs, comes}
 use Rattle.lines.proofs.States.{step_state}
 use Rattle.lines.proofs.Sessions.{lasts}
+use Rattle.std.specs.Prelude.{Err}
 
 abbrev pub Tracks : Contents → State → List Mark → Type 0
 Tracks c s [] = (s.count ≡ 0) × (contents_of s ≡ c)
@@ -31,7 +33,7 @@ module _ (c : Contents) where
   contents s (kept ∷ ms) t = t.1
 
   -- an UNDO takes an entry back where a change stands to be struck
-  pub undo_stands : (s : State) (ms : List Mark) → Tracks c s ms → undo_verdict s.count ≡ cond (stands ms) Accepted NoEntry
+  pub undo_stands : (s : State) (ms : List Mark) → Tracks c s ms → undo_verdict s.count ≡ cond (stands ms) accepted (Err NoEntry)
   undo_stands s [] t = rw (eq-eqb s.count 0 t.0)
   undo_stands s (changed d ∷ ms) t = rw (ne_eqb s.count 0 (λ e. omega (arith, t.0)))
   undo_stands s (kept ∷ ms) t = rw (eq-eqb s.count 0 t.0)

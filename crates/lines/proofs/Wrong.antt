@@ -8,6 +8,7 @@ use native.Mathlib.Omega.{arith}
 use borrow.Author.Tests.{eqb-false, ne_eqb}
 use lib.Dec.{eqb}
 use lib.ListN.{length}
+use Rattle.std.specs.Prelude.{Ok}
 use Rattle.figures.specs.Text.{codes}
 use Rattle.figures.specs.Bytes.{every, starts_with, run_of}
 use Rattle.figures.specs.Decimal.{number_from}
@@ -61,7 +62,7 @@ left_by m s cs = (session (counts m) (record { calls = 0; state = s; standing = 
 pub record PlaysFrom (s : State) (m : Machine) : Type 0 where
   pub contents : (cs : List Call) → contents_of (left_by m s cs).state ≡ play_all (start_of s) (left_by m s cs).standing
   pub undo : (cs : List Call) (line : List ℕ) (room : ℕ) → let f = left_by m s cs in
-      is_ended line ≡ true → order_of (text_of line) ≡ Undo → length (run f.state line).reply ≤ room
+      is_ended line ≡ true → order_of (text_of line) ≡ Ok Undo → length (run f.state line).reply ≤ room
       → is_accepted (m f.calls f.state line room).verdict ≡ stands f.standing
 
 -- from every state of a series

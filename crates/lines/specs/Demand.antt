@@ -32,7 +32,7 @@ mark ms keeps = kept ∷ ms
 abbrev pub mark_of : Contents → Item → List Mark → List Mark
 mark_of c Free ms = ms
 mark_of c (Setting i) ms = changed (set_to i (get_or c.settings i 0)) ∷ ms
-mark_of c (Stored i) ms = changed (put_to i (value_held c.values i).kept) ∷ ms
+mark_of c (Stored i) ms = changed (put_to i (value_held c.values i)) ∷ ms
 
 -- of the first n entries
 unfoldable pub marks_back : ℕ → Contents → List Entry → List Mark

@@ -1,14 +1,13 @@
 -- One call of the line machine: number, reply and next state for a state, a line and a room; and the same on a lent image.
-use Rattle.std.specs.Prelude.{ℕ, ◌≡◌, cond, List, [], leb, length}
+use Rattle.std.specs.Prelude.{ℕ, ◌≡◌, cond, List, [], leb, length, Err}
 use Rattle.figures.specs.Bytes.{laid}
 use Rattle.state.specs.Image.{image_of, state_in, is_image}
 use Rattle.state.specs.declared.entries.State.{State}
 use Rattle.commands.specs.Shapes.{text_of, order_of}
-use Rattle.lines.specs.Verdicts.{is_accepted, line_verdict}
+use Rattle.lines.specs.Verdicts.{Verdict, is_accepted, line_verdict}
 use Rattle.lines.specs.Orders.{line_deed, done_of}
 use Rattle.lines.specs.Replies.{reply_of}
-use Rattle.lines.specs.declared.verdicts.Verdict.{Verdict}
-use Rattle.lines.specs.declared.verdicts.Verdict.TheVariants.{Room, NoState}
+use Rattle.lines.specs.declared.verdicts.Refused.TheVariants.{Room, NoState}
 use Rattle.lines.specs.declared.machine.Told.{Told}
 
 pub record Outcome : Type 0 where
@@ -27,7 +26,7 @@ run s line =
 
 -- 30: "reply or sheet, `@W127` included, longer than the room: nothing written or changed"
 abbrev pub reply_in_room : State → ℕ → Outcome → Outcome
-reply_in_room s room o = cond (leb (length o.reply) room) o (outcome Room [] s)
+reply_in_room s room o = cond (leb (length o.reply) room) o (outcome (Err Room) [] s)
 
 abbrev pub step : State → List ℕ → ℕ → Outcome
 step s line room = reply_in_room s room (run s line)
@@ -48,7 +47,7 @@ played o room = record { answer = told o.verdict (length o.reply); image = image
 -- 31: "lent state bytes aren't a state: nothing written or changed"
 abbrev pub call : List ℕ → List ℕ → List ℕ → Called
 call image line room =
-    cond (is_image image) (played (step (state_in image) line (length room)) room) (record { answer = told NoState 0; image = image; room = room })
+    cond (is_image image) (played (step (state_in image) line (length room)) room) (record { answer = told (Err NoState) 0; image = image; room = room })
 
 abbrev pub Calls : List ℕ → List ℕ → List ℕ → Told → List ℕ → List ℕ → Type 0
 Calls image line room r image' room' =

@@ -1,15 +1,11 @@
 -- What an accepted line does: it asks, it changes one thing, it undoes or it keeps. "An accepted SET or PUT adds one, even if nothing altered. UNDO
 -- takes the newest back, restoring "never put" too. KEEP empties the list".
-use Rattle.std.specs.Prelude.{ℕ, ◌+◌, ◌-◌, cond, List, eqb, get_or, set, drop}
+use Rattle.std.specs.Prelude.{ℕ, ◌+◌, ◌-◌, cond, List, eqb, get_or, set, drop, Option, Some, None, Result, Ok, Err}
 use Rattle.words.specs.Reading.{pos}
 use Rattle.instrument.specs.Settings.{setting_place}
-use Rattle.instrument.specs.Values.{put_kept}
-use Rattle.state.specs.Entries.{value_of, value_held, entry_of, blank_entry, no_entries, Contents, contents_of, contents_back}
+use Rattle.instrument.specs.Values.{Kept, put_kept}
+use Rattle.state.specs.Entries.{value_held, entry_of, blank_entry, no_entries, Contents, contents_of, contents_back}
 use Rattle.instrument.specs.declared.settings.Series.{Series}
-use Rattle.instrument.specs.declared.settings.Found.{Found}
-use Rattle.instrument.specs.declared.settings.Found.TheVariants.{Nothing, At}
-use Rattle.instrument.specs.declared.values.Kept.{Kept}
-use Rattle.instrument.specs.declared.values.Kept.TheVariants.{Never}
 use Rattle.state.specs.declared.entries.Item.TheVariants.{Setting, Stored}
 use Rattle.state.specs.declared.entries.Entry.{Entry}
 use Rattle.state.specs.declared.entries.State.{State}
@@ -17,6 +13,7 @@ use Rattle.commands.specs.Shapes.{text_of, order_of}
 use Rattle.lines.specs.Verdicts.{place_named}
 use Rattle.commands.specs.declared.shapes.Order.{Order}
 use Rattle.commands.specs.declared.shapes.Order.TheVariants as order
+use Rattle.commands.specs.declared.shapes.NoOrder.{NoOrder}
 
 -- a state of some contents
 abbrev pub state_with : Contents → List Entry → ℕ → State
@@ -30,12 +27,12 @@ pub data Change : Type 0 where
 -- "playing a line only stores what it names"
 abbrev pub stores : Contents → Change → Contents
 stores c (set_to i p) = record { series = c.series; settings = set c.settings i p; values = c.values }
-stores c (put_to i k) = record { series = c.series; settings = c.settings; values = set c.values i (value_of k) }
+stores c (put_to i k) = record { series = c.series; settings = c.settings; values = set c.values i k }
 
 -- the entry that a change adds: the item, and what stood there
 abbrev pub entry_for : Contents → Change → Entry
-entry_for c (set_to i p) = entry_of (Setting i) (get_or c.settings i 0) Never
-entry_for c (put_to i k) = entry_of (Stored i) 0 (value_held c.values i).kept
+entry_for c (set_to i p) = entry_of (Setting i) (get_or c.settings i 0) None
+entry_for c (put_to i k) = entry_of (Stored i) 0 (value_held c.values i)
 
 -- an entry more
 abbrev pub pushed : State → Entry → List Entry
@@ -66,9 +63,9 @@ pub data Deed : Type 0 where
   keeps : Deed
 
 -- by the place that a line names; one that names none isn't accepted, and asks
-abbrev pub change_at : (ℕ → Change) → Found → Deed
-change_at change Nothing = asks
-change_at change (At i) = changes (change i)
+abbrev pub change_at : (ℕ → Change) → Option ℕ → Deed
+change_at change None = asks
+change_at change (Some i) = changes (change i)
 
 abbrev pub set_deed : Series → ℕ → ℕ → Deed
 set_deed k n p = change_at (λ i. set_to i p) (setting_place k n)
@@ -76,15 +73,14 @@ set_deed k n p = change_at (λ i. set_to i p) (setting_place k n)
 abbrev pub put_deed : List ℕ → Deed
 put_deed word = change_at (λ i. put_to i (put_kept word)) (place_named (pos 1 word) (pos 2 word))
 
-abbrev pub deed_of : Series → List ℕ → Order → Deed
-deed_of k t order.WrongShape = asks
-deed_of k t (order.Set n p) = set_deed k n p
-deed_of k t (order.Conf n) = asks
-deed_of k t order.Put = put_deed (drop 4 t)
-deed_of k t order.Get = asks
-deed_of k t order.Undo = undoes
-deed_of k t order.Keep = keeps
-deed_of k t order.NoKeyword = asks
+abbrev pub deed_of : Series → List ℕ → Result Order NoOrder → Deed
+deed_of k t (Err none) = asks
+deed_of k t (Ok (order.Set n p)) = set_deed k n p
+deed_of k t (Ok (order.Conf n)) = asks
+deed_of k t (Ok order.Put) = put_deed (drop 4 t)
+deed_of k t (Ok order.Get) = asks
+deed_of k t (Ok order.Undo) = undoes
+deed_of k t (Ok order.Keep) = keeps
 
 abbrev pub line_deed : Series → List ℕ → Deed
 line_deed k line = deed_of k (text_of line) (order_of (text_of line))

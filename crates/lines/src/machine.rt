@@ -1,16 +1,18 @@
 // One call: a line run on a state that is lent as an image, and its reply laid down.
-ghost use Rattle.std.specs.Prelude.{◌≡◌, false, ◌++◌, length};
+ghost use Rattle.std.specs.Prelude.{◌≡◌, ◌++◌, length, Ok, Err};
 ghost use Rattle.state.specs.Image.{state_in};
 ghost use Rattle.state.specs.Keeping.{Imaged};
-ghost use Rattle.lines.specs.Verdicts.{is_accepted};
+ghost use Rattle.commands.specs.Shapes.{text_of, order_of};
 ghost use Rattle.lines.specs.Orders.{deed_of, done_of};
 ghost use Rattle.lines.specs.Replies.{warning, reply_end, body_of};
-ghost use Rattle.lines.specs.Machine.{outcome, run, told, Calls};
-ghost use Rattle.lines.specs.Keeping.{Answered, Ends, Accepts};
+ghost use Rattle.lines.specs.Machine.{outcome, run, Calls};
+ghost use Rattle.lines.specs.Verdicts.{accepted, order_verdict};
+ghost use Rattle.lines.specs.Keeping.{Answered, Ends, Accepts, order_if, judged};
 
+use crate::images::Image;
 use crate::orders::alter;
 use crate::replies::{body_length, ends_lf, put_reply, put_wrong};
-use crate::verdicts::{Verdict, is_accepted, order_verdict};
+use crate::verdicts::{Refused, Verdict, order_verdict};
 use commands::shapes::{Order, end_of, is_plain, order_of};
 use instrument::settings::Series;
 use state::image::series_in;
@@ -23,47 +25,82 @@ pub struct Told {
     pub count: usize,
 }
 
-fn tell(verdict: Verdict, count: usize) -> Told
-    ensures { result ≡ told verdict count }
+fn end_length(image: Image) -> usize
+    ensures { result ≡ length (reply_end (state_in image.entry.bytes.now)) }
 {
-    Told {
-        verdict: verdict,
-        count: count,
-    }
-}
-
-fn end_length(series: Series, image: &[u8]) -> usize
-    requires { Imaged series image.now }
-    ensures { result ≡ length (reply_end (state_in image.now)) }
-{
-    if ends_lf(series, image) { 2 } else { 1 }
+    if ends_lf(image) { 2 } else { 1 }
 }
 
 // Refuses a line: it is answered `@W127` where that fits.
-fn refuse(series: Series, image: &[u8], verdict: Verdict, room: &mut [u8]) -> Told
-    requires { Imaged series image.now × (is_accepted verdict ≡ false) }
-    ensures { Answered (state_in image.now) (outcome verdict (warning ++ reply_end (state_in image.now)) (state_in image.now)) room.old result room.new }
+fn refuse(image: Image, refused: Refused, room: &mut [u8]) -> Told
+    ensures { Answered (state_in image.entry.bytes.now) (outcome (Err refused) (warning ++ reply_end (state_in image.entry.bytes.now)) (state_in image.entry.bytes.now)) room.old result room.new }
 {
-    let n = 5 + end_length(series, image);
-    if room.len() < n {
-        return tell(Verdict::Room, 0);
+    let count = 5 + end_length(image);
+    if room.len() < count {
+        return Told {
+            verdict: Err(Refused::Room),
+            count: 0,
+        };
     }
-    put_wrong(series, image, room);
-    tell(verdict, n)
+    put_wrong(image, room);
+    Told {
+        verdict: Err(refused),
+        count,
+    }
 }
 
 // Accepts a line: where its reply fits, that is laid down and the line is run.
 fn accept(series: Series, image: &mut [u8], text: &[u8], order: Order, room: &mut [u8]) -> Told
     requires { Imaged series image.old × Accepts (state_in image.old) text.now order }
-    ensures { Ends (state_in image.old) (outcome Verdict.Accepted (body_of (state_in image.old) text.now order ++ reply_end (state_in image.old)) (done_of (state_in image.old) (deed_of series text.now order))) room.old result image.new room.new }
+    ensures { Ends (state_in image.old) (outcome accepted (body_of (state_in image.old) text.now (Ok order) ++ reply_end (state_in image.old)) (done_of (state_in image.old) (deed_of series text.now (Ok order)))) room.old result image.new room.new }
 {
-    let n = body_length(series, image, text, order) + end_length(series, image);
-    if room.len() < n {
-        return tell(Verdict::Room, 0);
+    let lent = Image {
+        series,
+        bytes: image,
+    };
+    let count = body_length(lent, text, order) + end_length(lent);
+    if room.len() < count {
+        return Told {
+            verdict: Err(Refused::Room),
+            count: 0,
+        };
     }
-    put_reply(series, image, text, order, room);
+    put_reply(lent, text, order, room);
     alter(series, text, order, image);
-    tell(Verdict::Accepted, n)
+    Told {
+        verdict: Ok(()),
+        count,
+    }
+}
+
+// Takes a line's text, which is all but its end.
+fn text_of(line: &[u8]) -> &[u8]
+    ensures { result.now ≡ text_of line.now }
+{
+    &line[..line.len() - end_of(line)]
+}
+
+// Judges a line's text: what it orders, or why it is refused.
+fn ordered(image: Image, text: &[u8]) -> Result<Order, Refused>
+    ensures { result ≡ order_if (order_verdict (state_in image.entry.bytes.now) text.now (order_of text.now)) (order_of text.now) }
+{
+    let order = order_of(text)?;
+    order_verdict(image, text, order)?;
+    Ok(order)
+}
+
+// Judges a line.
+fn judged(image: Image, line: &[u8]) -> Result<Order, Refused>
+    ensures { result ≡ judged (state_in image.entry.bytes.now) line.now }
+{
+    let text = text_of(line);
+    if text.len() == line.len() || !is_plain(text) {
+        return Err(Refused::Unended);
+    }
+    if 100 < text.len() {
+        return Err(Refused::Long);
+    }
+    ordered(image, text)
 }
 
 // Runs one line on an image.
@@ -71,24 +108,14 @@ fn run_line(series: Series, image: &mut [u8], line: &[u8], room: &mut [u8]) -> T
     requires { Imaged series image.old }
     ensures { Ends (state_in image.old) (run (state_in image.old) line.now) room.old result image.new room.new }
 {
-    let end = end_of(line);
-    if end == 0 {
-        return refuse(series, image, Verdict::Unended, room);
+    let lent = Image {
+        series,
+        bytes: image,
+    };
+    match judged(lent, line) {
+        Ok(order) => accept(series, image, text_of(line), order, room),
+        Err(refused) => refuse(lent, refused, room),
     }
-    let n = line.len() - end;
-    let text = &line[0..n];
-    if !is_plain(text) {
-        return refuse(series, image, Verdict::Unended, room);
-    }
-    if 100 < n {
-        return refuse(series, image, Verdict::Long, room);
-    }
-    let order = order_of(text);
-    let verdict = order_verdict(series, image, text, order);
-    if !is_accepted(verdict) {
-        return refuse(series, image, verdict, room);
-    }
-    accept(series, image, text, order, room)
 }
 
 // Runs one line on a lent image. 31 and 30 leave everything as it was; any other refusal writes its reply and leaves the image.
@@ -96,7 +123,10 @@ pub fn line(image: &mut [u8], text: &[u8], room: &mut [u8]) -> Told
     ensures { Calls image.old text.now room.old result image.new room.new }
 {
     if !is_image(image) {
-        return tell(Verdict::NoState, 0);
+        return Told {
+            verdict: Err(Refused::NoState),
+            count: 0,
+        };
     }
     run_line(series_in(image), image, text, room)
 }

@@ -13,7 +13,8 @@ use Rattle.state.specs.declared.entries.State.{State}
 use Rattle.commands.specs.Shapes.{from_end, end_of, text_of, is_plain, is_ended}
 use Rattle.lines.specs.Replies.{warning, reply_end}
 use Rattle.lines.specs.Machine.{Outcome, outcome, run, reply_in_room, told, Called, played, call}
-use Rattle.lines.specs.declared.verdicts.Verdict.TheVariants.{Unended, Long, NoState}
+use Rattle.lines.specs.declared.verdicts.Refused.TheVariants.{Unended, Long, NoState}
+use Rattle.std.specs.Prelude.{Err}
 
 -- two texts that are judged alike: the same, or both over 100 characters and both plain or neither
 pub data JudgedAlike (k l : List ℕ) : Type 0 where
@@ -40,7 +41,7 @@ module _ (l : List ℕ) where
   ended_is : is_ended ended ≡ is_plain l
   ended_is = rw (text_is, end_one)
 
-  run_over : (s : State) (plain : Bool) → is_plain l ≡ plain → 100 < length l → run s ended ≡ outcome (cond plain Long Unended) (warning ++ reply_end s) s
+  run_over : (s : State) (plain : Bool) → is_plain l ≡ plain → 100 < length l → run s ended ≡ outcome (cond plain (Err Long) (Err Unended)) (warning ++ reply_end s) s
   run_over s true e h = rw (ended_is ∙ e, text_is, lt-leb (length l) 100 h)
   run_over s false e h = rw (ended_is ∙ e)
 
@@ -51,5 +52,5 @@ run_alike k l (over hk hl e) s = run_over k s (is_plain k) refl hk ∙ sym (run_
 pub call_alike : (image k l room : List ℕ) → JudgedAlike k l → call image (k ++ (13 ∷ [])) room ≡ call image (l ++ (13 ∷ [])) room
 call_alike image k l room a =
     let s = state_in image in
-    let none : Called = record { answer = told NoState 0; image = image; room = room } in
+    let none : Called = record { answer = told (Err NoState) 0; image = image; room = room } in
     ap (λ (o : Outcome). cond (is_image image) (played (reply_in_room s (length room) o) room) none) (run_alike k l a s)

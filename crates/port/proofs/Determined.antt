@@ -6,7 +6,7 @@ use Prim.Native.Nat.{ℕ}
 use Rattle.figures.specs.Promises.{Determined}
 use Rattle.figures.specs.Rooms.{Puts}
 use Rattle.figures.proofs.Determined.{by_equation, by_three, put_determined}
-use Rattle.lines.specs.declared.verdicts.Verdict.{Verdict}
+use Rattle.lines.specs.Verdicts.{Verdict}
 use Rattle.port.specs.Port.{quiet_port, heard, Turns, line_kept}
 use Rattle.port.specs.Why.{why_of}
 use Rattle.port.specs.declared.Port.{Port}

@@ -1,10 +1,11 @@
 -- What is said of a refused line fits 231 bytes: 54 of its number and the refusal's, 53 of which rule and byte, 101 of the line, 21 of the caret, and two LF.
 use Prim.Native.Nat.{ℕ, ◌≤◌, ◌<◌}
-use mathlib.Core.Path.{◌≡◌, ap, subst}
+use mathlib.Core.Path.{◌≡◌, refl, ap, subst}
 use mathlib.Core.Bool.{Bool, true, false, cond}
 use mathlib.Core.List.{List, [], ◌++◌, map}
 use native.Mathlib.Omega.{arith}
 use lib.ListN.{length, length-append, length-map, length-replicate}
+use Rattle.std.specs.Prelude.{Ok, Err, is_ok}
 use Rattle.figures.specs.Text.{codes}
 use Rattle.figures.specs.Pointing.{shown}
 use Rattle.figures.proofs.Decimal.{digits_length}
@@ -12,10 +13,14 @@ use Rattle.figures.proofs.Places.{digits_most}
 use Rattle.words.specs.Reading.{fault_number}
 use Rattle.words.specs.declared.reading.Fault.{Fault}
 use Rattle.lines.specs.Verdicts.{verdict_number, verdict_byte, of_word, is_accepted}
-use Rattle.lines.specs.declared.verdicts.Verdict.{Verdict}
+use Rattle.lines.specs.Verdicts.{Verdict}
 use Rattle.lines.proofs.Sorts.{of_word_lem}
 use Rattle.lines.proofs.Telling.{tells, tells_small}
 use Rattle.port.specs.Why.{number_text, rule_text, under_text, why_text, why_of}
+
+pub ok_accepted : (v : Verdict) → is_ok v ≡ is_accepted v
+ok_accepted (Ok u) = refl
+ok_accepted (Err r) = refl
 
 -- what 26 puts is so long at most, if it is where its byte is told
 of_most : (most : ℕ) (of : Fault → ℕ → List ℕ) (v : Verdict) → ((x : Fault) → length (of x (verdict_byte v)) ≤ most) → length (of_word of [] v) ≤ most

@@ -5,7 +5,7 @@ use Rattle.figures.specs.Text.{codes, cr, lf}
 use Rattle.lines.specs.Machine.{told, Called, call, Calls}
 use Rattle.lines.specs.Sessions.{Exchange, session, called}
 use Rattle.lines.specs.declared.machine.Told.{Told}
-use Rattle.lines.specs.declared.verdicts.Verdict.TheVariants.{Accepted}
+use Rattle.lines.specs.Verdicts.{accepted}
 use Rattle.port.specs.declared.Port.{Port}
 use Rattle.port.specs.declared.Turn.{Turn}
 
@@ -42,7 +42,7 @@ pub record Heard : Type 0 where
   pub room : List ℕ
 
 abbrev pub waits : Port → List ℕ → List ℕ → Heard
-waits p image room = record { turn = record { port = p; told = told Accepted 0 }; image = image; room = room }
+waits p image room = record { turn = record { port = p; told = told accepted 0 }; image = image; room = room }
 
 abbrev pub runs : Called → Heard
 runs c = record { turn = record { port = quiet_port true; told = c.answer }; image = c.image; room = c.room }

@@ -6,7 +6,7 @@ use Rattle.figures.specs.Decimal.{decimal_of}
 use Rattle.figures.specs.Pointing.{shown, caret_text}
 use Rattle.words.specs.Reading.{fault_number}
 use Rattle.lines.specs.Verdicts.{verdict_number, of_word, is_accepted}
-use Rattle.lines.specs.declared.verdicts.Verdict.{Verdict}
+use Rattle.lines.specs.Verdicts.{Verdict}
 
 -- `line=4 refused=26`
 abbrev pub number_text : ℕ → Verdict → List ℕ

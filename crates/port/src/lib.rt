@@ -3,12 +3,10 @@
 
 pub mod why;
 
-ghost use Rattle.std.specs.Prelude.{◌≡◌, false, min};
-ghost use Rattle.lines.specs.Machine.{told};
-ghost use Rattle.port.specs.Port.{kept_most, quiet_port, kept_by, Answers, Turns};
+ghost use Rattle.std.specs.Prelude.{◌≡◌, false};
+ghost use Rattle.port.specs.Port.{quiet_port, kept_by, line_kept, Answers, Turns};
 
 use lines::machine::{Told, line};
-use lines::verdicts::Verdict;
 
 // The most that is kept of a line: enough for it to be judged as the whole line is.
 pub const MOST: usize = 101;
@@ -43,84 +41,61 @@ pub fn quiet() -> Port
 fn keep(port: Port, b: u8) -> Port
     ensures { result ≡ kept_by port b }
 {
-    let mut bytes = port.bytes;
-    let n = port.n;
-    if n < MOST {
-        bytes[n] = b;
-        return Port {
-            bytes: bytes,
-            n: n + 1,
-            after: false,
-        };
-    }
-    if b == 13 || b == 10 {
-        bytes[MOST - 1] = b;
-    }
-    Port {
-        bytes: bytes,
-        n: n,
+    let mut next = Port {
         after: false,
+        ..port
+    };
+    if port.n < MOST {
+        next.bytes[port.n] = b;
+        next.n += 1;
+    } else if b == b'\r' || b == b'\n' {
+        next.bytes[MOST - 1] = b;
     }
+    next
 }
 
-// Tells how many bytes of the line are kept.
-pub(crate) fn held(port: Port) -> usize
-    ensures { result ≡ min port.n kept_most }
+// Lends the bytes of the line that are kept.
+#[tactic(auto, using(crate::proofs::Hearing::held_take))]
+pub(crate) fn held(port: &Port) -> &[u8]
+    ensures { result.now ≡ line_kept port.now }
 {
-    if port.n < MOST { port.n } else { MOST }
+    &port.bytes[..port.n.min(MOST)]
 }
 
 // Runs what came in, with its CR.
-fn answer(image: &mut [u8], port: Port, room: &mut [u8]) -> Told
-    ensures { Answers image.old port room.old result image.new room.new }
+fn answer(image: &mut [u8], port: &Port, room: &mut [u8]) -> Told
+    ensures { Answers image.old port.now room.old result image.new room.new }
 {
-    let mut text = [0; 102];
-    let bytes = port.bytes;
-    let n = held(port);
-    figures::lay(&bytes[0..n], &mut text);
-    text[n] = 13;
-    line(image, &text[0..n + 1], room)
-}
-
-// Gives what is told of a byte that ends no line.
-fn nothing() -> Told
-    ensures { result ≡ told Verdict.Accepted 0 }
-{
-    let verdict = Verdict::Accepted;
-    Told {
-        verdict: verdict,
-        count: 0,
-    }
+    let mut text = [0; MOST + 1];
+    let kept = held(port);
+    figures::lay(kept, &mut text);
+    text[kept.len()] = b'\r';
+    line(image, &text[..kept.len() + 1], room)
 }
 
 // Takes one byte at the port, with the state lent as an image and room for a reply.
 pub fn hear(image: &mut [u8], port: Port, b: u8, room: &mut [u8]) -> Turn
     ensures { Turns image.old port b room.old result image.new room.new }
 {
-    if b == 13 {
-        let told = answer(image, port, room);
-        let mut next = quiet();
-        next.after = true;
-        return Turn {
-            port: next,
-            told: told,
+    if b == b'\r' {
+        let told = answer(image, &port, room);
+        let port = Port {
+            after: true,
+            ..quiet()
         };
+        return Turn { port, told };
     }
-    if b == 10 {
-        if port.after {
-            let mut next = port;
-            next.after = false;
-            let told = nothing();
-            return Turn {
-                port: next,
-                told: told,
-            };
+    let port = if b == b'\n' && port.after {
+        Port {
+            after: false,
+            ..port
         }
-    }
-    let next = keep(port, b);
-    let told = nothing();
-    Turn {
-        port: next,
-        told: told,
-    }
+    } else {
+        keep(port, b)
+    };
+    let told = Told {
+        verdict: Ok(()),
+        count: 0,
+    };
+    Turn { port, told }
 }

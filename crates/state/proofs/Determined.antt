@@ -10,8 +10,7 @@ use Rattle.state.specs.Entries.{blank_entry, factory_state}
 use Rattle.state.specs.Image.{values_at, image_n, series_in, is_image, encoded_in}
 use Rattle.state.specs.Keeping.{count_in, stored_in, entry_at, state_of, parameter_laid, value_laid, entry_laid, count_laid, cleared, contents_laid}
 use Rattle.instrument.specs.declared.settings.Series.{Series}
-use Rattle.instrument.specs.declared.values.Kept.{Kept}
-use Rattle.instrument.specs.declared.values.Value.{Value}
+use Rattle.instrument.specs.Values.{Kept}
 use Rattle.state.specs.declared.entries.Entry.{Entry}
 use Rattle.state.specs.declared.entries.State.{State}
 
@@ -64,7 +63,7 @@ pub clear_determined : Determined (Series × List ℕ) (List ℕ) (λ i image. i
 clear_determined = by_equation (Series × List ℕ) (List ℕ) (λ i. cleared i.0 i.1)
 
 abbrev Contents : Type 0
-Contents = Series × List ℕ × List Value × List ℕ
+Contents = Series × List ℕ × List Kept × List ℕ
 
 pub put_contents_determined : Determined Contents (List ℕ) (λ i image. image ≡ contents_laid i.0 i.1 i.2 i.3)
 put_contents_determined = by_equation Contents (List ℕ) (λ i. contents_laid i.0 i.1 i.2 i.3)

@@ -5,6 +5,7 @@ use mathlib.Core.Bool.{Bool, true, false, ◌&&◌, false≢true, and-true, and-
 use mathlib.Core.List.{List, [], ◌∷◌}
 use native.Mathlib.Omega.{arith}
 use borrow.Author.Tests.{eq-eqb, eqb-true, eqb-false, ne_eqb, lt-leb, lt-ltb, ltb-true}
+use borrow.Rule.Slice.PartMut.{mid_of}
 use lib.Dec.{eqb, ltb}
 use lib.ListN.{length, get_or, set, take, drop, replicate, length-drop, length-replicate}
 use lib.Seq.{drop-cons, drop-drop, get_or-drop, take_all}
@@ -13,12 +14,13 @@ use Rattle.figures.proofs.Bytes.{same_refl}
 use Rattle.figures.proofs.Tests.{both, by_test, and_on, and_off}
 use Rattle.instrument.specs.Values.{values_n, is_put, kept_right, parts_in, parts_n, parts_right, eight_of, eight_bytes}
 use Rattle.instrument.specs.declared.settings.Series.{Series}
-use Rattle.instrument.specs.declared.values.Kept.TheVariants.{Never}
-use Rattle.state.specs.Entries.{is_never, settable}
+use Rattle.std.specs.Prelude.{None}
+use Rattle.state.specs.Entries.{entries_n, is_never, settable}
+use Rattle.state.specs.declared.entries.Item.{Item}
 use Rattle.state.specs.Image.{value_n, entry_n, kept_bytes, kept_in, entry_in}
 use Rattle.state.specs.Keeping.{back_right, puts_back, value_lies, values_lie, entry_lies, row_from, entries_lie, all_zeros}
-use Rattle.state.proofs.Rows.{tab, spelt}
-use Rattle.state.proofs.Images.{kept_back}
+use Rattle.state.proofs.Rows.{tab, spelt, row_long}
+use Rattle.state.proofs.Images.{kept_long}
 
 -- noughts
 
@@ -43,7 +45,7 @@ zeros_first l h = ap all_zeros (drop-cons l 0 0 h)
 
 -- a value
 
-never_bytes : kept_bytes Never ≡ replicate value_n 0
+never_bytes : kept_bytes None ≡ replicate value_n 0
 unfolding kept_bytes
 never_bytes = refl
 
@@ -117,8 +119,8 @@ module _ (k : Series) (l : List ℕ) (long : length l ≡ entry_n) where
   kept_are : kept ≡ drop 3 l
   kept_are = take_all value_n (drop 3 l) (omega (arith, length-drop 3 l))
 
-  kept_long : length kept ≡ value_n
-  kept_long = ap length kept_are ∙ length-drop 3 l ∙ omega arith
+  kept_n : length kept ≡ value_n
+  kept_n = ap length kept_are ∙ length-drop 3 l ∙ omega arith
 
   split : l ≡ get_or l 0 0 ∷ get_or l 1 0 ∷ get_or l 2 0 ∷ kept
   split =
@@ -133,9 +135,9 @@ module _ (k : Series) (l : List ℕ) (long : length l ≡ entry_n) where
   unfolding starts_with
   rest_same a b c ea eb ec =
       let w = kept_bytes (kept_in kept) in
-      let lw : length w ≡ value_n = (kept_back (kept_in kept)).0 in
+      let lw : length w ≡ value_n = kept_long (kept_in kept) in
       ap (λ (t : List ℕ). same_bytes t (a ∷ b ∷ c ∷ w)) split
-      ∙ rw (ea, eb, ec, kept_long, lw, eq-eqb (get_or l 0 0) (get_or l 0 0) refl, eq-eqb (get_or l 1 0) (get_or l 1 0) refl, eq-eqb (get_or l 2 0) (get_or l 2 0) refl)
+      ∙ rw (ea, eb, ec, kept_n, lw, eq-eqb (get_or l 0 0) (get_or l 0 0) refl, eq-eqb (get_or l 1 0) (get_or l 1 0) refl, eq-eqb (get_or l 2 0) (get_or l 2 0) refl)
 
   pub entry_set : get_or l 0 0 ≡ 1 → entry_lies k l ≡ settable k (get_or l 1 0) (get_or l 2 0) && all_zeros kept
   entry_set e =
@@ -143,7 +145,7 @@ module _ (k : Series) (l : List ℕ) (long : length l ≡ entry_n) where
       let never = is_never (kept_in kept) in
       let same = same_bytes kept (kept_bytes (kept_in kept)) in
       rw (eq-eqb (get_or l 0 0) 1 e, rest_same 1 (get_or l 1 0) (get_or l 2 0) (sym e) refl refl)
-      (and_comm same (may && never) ∙ and_assoc may never same ∙ rw (and_comm never same, never_held kept kept_long))
+      (and_comm same (may && never) ∙ and_assoc may never same ∙ rw (and_comm never same, never_held kept kept_n))
 
   pub entry_put : get_or l 0 0 ≡ 2 → entry_lies k l ≡ ltb (get_or l 1 0) values_n && (eqb (get_or l 2 0) 0 && value_lies (get_or l 1 0) kept)
   entry_put e =
@@ -199,3 +201,65 @@ entries_turn k (suc n) puts l h = let q : suc n - 1 ≡ n = omega arith in rw q
 pub entries_none : (k : Series) (n : ℕ) (puts : List Bool) (l : List ℕ) → n ≤ 0 → entries_lie k n puts l ≡ true
 unfolding entries_lie
 entries_none k n puts l h = let q : n ≡ 0 = omega arith in rw q
+
+-- a turn of the loop that takes entries back: the newest of n lies in the part of the list that is lent
+
+module _ (k : Series) (n : ℕ) (puts : List Bool) (l : List ℕ) (long : length l ≡ entries_n * entry_n) (more : 0 < n) (few : n ≤ entries_n) where
+  abbrev newest : List ℕ
+  newest = row_from (n - 1) l
+
+  abbrev lent : List ℕ
+  lent = mid_of ((n - 1) * 14) ((n - 1) * 14 + 14 - (n - 1) * 14) l
+
+  pub lent_long : length lent ≡ entry_n
+  lent_long = row_long 14 ((n - 1) * 14) l (omega arith)
+
+  lent_is : lent ≡ newest
+  lent_is = let w : (n - 1) * 14 + 14 - (n - 1) * 14 ≡ 14 = omega arith in rw w
+
+  whole : length newest ≡ entry_n
+  whole = ap length (sym lent_is) ∙ lent_long
+
+  same : (i : ℕ) → get_or newest i 0 ≡ get_or lent i 0
+  same i = ap (λ (t : List ℕ). get_or t i 0) (sym lent_is)
+
+  abbrev left : List Bool → Bool
+  left p = entries_lie k (n - 1) p l
+
+  -- one that may not stand
+  pub turn_off : entry_lies k lent ≡ false → entries_lie k n puts l ≡ false
+  turn_off off = entries_turn k n puts l more ∙ and_off _ (ap (entry_lies k) (sym lent_is) ∙ off)
+
+  module _ (right : entry_lies k lent ≡ true) where
+    held : entry_lies k newest ≡ true
+    held = ap (entry_lies k) (sym lent_is) ∙ right
+
+    abbrev item : Item
+    item = (entry_in newest).item
+
+    step : entries_lie k n puts l ≡ back_right puts item && left (puts_back puts item (entry_in newest).former.kept)
+    step = entries_turn k n puts l more ∙ and_on held
+
+    -- of a setting
+    pub turn_set : (get_or lent 0 0 ≡ 2 → ⊥) → entries_lie k n puts l ≡ left puts
+    turn_set n2 =
+        let b = back_set k newest whole puts held (λ q. n2 (sym (same 0) ∙ q)) in
+        step ∙ and_on b.0 ∙ ap left b.1
+
+    -- of a value: it is put then, or the entry may not stand
+    module _ (two : get_or lent 0 0 ≡ 2) (place : ℕ) (is : place ≡ get_or lent 1 0) where
+      there : place ≡ get_or newest 1 0
+      there = is ∙ sym (same 1)
+
+      back : (back_right puts item ≡ get_or puts (get_or newest 1 0) false)
+          × (puts_back puts item (entry_in newest).former.kept ≡ set puts (get_or newest 1 0) (eqb (get_or newest 3 0) 1))
+      back = back_put k newest whole puts held (same 0 ∙ two)
+
+      flag : back_right puts item ≡ get_or puts place false
+      flag = back.0 ∙ ap (λ (j : ℕ). get_or puts j false) (sym there)
+
+      pub turn_unput : get_or puts place false ≡ false → entries_lie k n puts l ≡ false
+      turn_unput off = step ∙ and_off _ (flag ∙ off)
+
+      pub turn_put : get_or puts place false ≡ true → entries_lie k n puts l ≡ left (set puts place (eqb (get_or lent 3 0) 1))
+      turn_put on = step ∙ and_on (flag ∙ on) ∙ ap left (back.1 ∙ (λ i. set puts (sym there i) (eqb (same 3 i) 1)))

@@ -1,70 +1,132 @@
 -- Each state's image gives the state back, so each has one image and each image is of one state.
 use Prim.Native.Nat.{ℕ, zero, suc, ◌+◌, ◌-◌, ◌*◌, ◌/◌, ◌%◌, ◌<◌, ◌≤◌}
 use mathlib.Core.Path.{◌≡◌, refl, sym, ap, ◌∙◌}
-use mathlib.Core.Bool.{true, ◌&&◌, false≢true}
+use mathlib.Core.Bool.{true, not, ◌&&◌, false≢true}
 use mathlib.Core.List.{List, [], ◌∷◌, ◌++◌}
-use native.Mathlib.Nat.{sub-zero}
+use mathlib.Core.Logic.{⊎_elim}
+use native.Mathlib.Nat.{sub-zero, eq-or-lt_of_le}
 use native.Mathlib.Omega.{arith}
-use borrow.Author.Tests.{eq-eqb, eqb-true}
-use lib.Dec.{eqb}
-use lib.ListN.{length, get_or, take, drop, replicate, length-append, length-replicate, replicate-append-replicate, take-append-drop}
+use borrow.Author.Tests.{eq-eqb, eqb-true, ltb-true, ltb-false}
+use lib.Dec.{eqb, ltb}
+use lib.ListN.{length, get_or, set, take, drop, replicate, length-append, length-replicate, replicate-append-replicate, take-append-drop}
 use lib.Seq.{take_all, take_at, drop_at, drop-drop, get_or-drop, length-take-le}
 use Rattle.figures.specs.Bytes.{laid, same_bytes}
 use Rattle.figures.proofs.Bytes.{same_refl, same_true, laid_fits, laid_cut}
-use Rattle.figures.proofs.Tests.{both}
-use Rattle.instrument.specs.Settings.{rows100, rows300, settings_n, settings_most, no_row, rows_of, held, padded, held_rows, factory_settings, in_range, in_ranges}
-use Rattle.state.specs.Entries.{factory_state, entries_n, value_of, entry_of, blank_entry, values_right, contents_of, contents_right, is_state}
-use Rattle.instrument.specs.Values.{values_n}
+use Rattle.figures.proofs.Tests.{both, by_test}
+use Rattle.instrument.specs.Settings.{rows100, rows300, settings_n, settings_most, no_row, row_at, is_asked, rows_of, held, padded, held_rows, factory_settings, in_range, in_ranges}
+use Rattle.state.specs.Entries.{factory_state, entries_n, entry_of, blank_entry, values_right, value_held, is_never, Contents, contents_of, contents_right, contents_back, may_go_back, right_back, is_state}
+use Rattle.instrument.specs.Values.{Kept, put_of, values_n, is_put, kept_right}
 use Rattle.state.specs.Image.{form_of, value_n, entry_n, values_at, count_at, entries_at, rest_n, image_n, kept_bytes, entry_bytes, values_bytes, entries_bytes, rest_of, image_of, encoded_in}
 use Rattle.state.specs.Image.{kept_in, entry_in, values_in, entries_in, series_in, state_from, state_as_of, state_as, state_in, is_image}
 use Rattle.instrument.specs.declared.settings.Series.{Series}
 use Rattle.instrument.specs.declared.settings.Series.TheVariants.{Tps100, Tps300}
 use Rattle.instrument.specs.declared.settings.Row.{Row}
-use Rattle.instrument.specs.declared.values.Kept.{Kept}
-use Rattle.instrument.specs.declared.values.Kept.TheVariants.{Never, Put}
-use Rattle.instrument.specs.declared.values.Value.{Value}
+use Rattle.std.specs.Prelude.{Some, None}
 use Rattle.state.specs.declared.entries.Item.{Item}
 use Rattle.state.specs.declared.entries.Item.TheVariants.{Free, Setting, Stored}
 use Rattle.state.specs.declared.entries.Entry.{Entry}
+use Rattle.state.specs.declared.entries.Former.{Former}
 use Rattle.state.specs.declared.entries.State.{State}
+use Rattle.instrument.proofs.Kept.{eight_whole, kept_parts}
 use Rattle.instrument.proofs.Ranges.{settings_100, settings_300, settings_few, held_rows_long, ranges_long, range_high}
-use Rattle.state.proofs.Steps.{state_parts, back_now, none_state}
-use Rattle.state.proofs.Rows.{flat_length, flat_zeros, rows_flat, value_bytes, value_in}
+use Rattle.state.proofs.Steps.{StateParts, state_parts, back_now, back_may, back_newest, blank_at, values_set, none_state}
+use Rattle.state.proofs.Rows.{flat_length, flat_zeros, rows_flat}
 
 -- a row gives back what it was made of
 
-pub kept_back : (k : Kept) → (length (kept_bytes k) ≡ 11) × (kept_in (kept_bytes k) ≡ k)
+-- what is stored may be read again: its characters are eight
+abbrev pub Back : Kept → Type 0
+Back k = kept_in (kept_bytes k) ≡ k
+
+pub kept_long : (k : Kept) → length (kept_bytes k) ≡ 11
 unfolding kept_bytes
-kept_back Never = (refl, refl)
-kept_back (Put u m d) = (refl, refl)
+kept_long None = refl
+kept_long (Some p) = refl
 
-pub value_back : (v : Value) → (length (value_bytes v) ≡ 11) × (value_in (value_bytes v) ≡ v)
-value_back v = ((kept_back v.kept).0, ap value_of (kept_back v.kept).1)
+never_back : Back None
+unfolding kept_bytes
+never_back = refl
 
-pub entry_back : (e : Entry) → (length (entry_bytes e) ≡ 14) × (entry_in (entry_bytes e) ≡ e)
-entry_back e = by e.item e.former.parameter e.former.kept
+pub kept_back : (place : ℕ) (k : Kept) → kept_right place k ≡ true → Back k
+unfolding kept_bytes
+kept_back place None e = refl
+kept_back place (Some p) e = ap (put_of p.unit p.minus) (eight_whole p.eight (kept_parts place p e).long)
+
+pub entry_long : (e : Entry) → length (entry_bytes e) ≡ 14
+entry_long e = by e.item
   where
-    long : (k : Kept) → suc (suc (suc (length (kept_bytes k)))) ≡ 14
-    long k = ap (λ (n : ℕ). suc (suc (suc n))) (kept_back k).0
+    long : suc (suc (suc (length (kept_bytes e.former.kept)))) ≡ 14
+    long = ap (λ (n : ℕ). suc (suc (suc n))) (kept_long e.former.kept)
 
-    back : (k : Kept) → kept_in (take 11 (kept_bytes k)) ≡ k
-    back k = ap kept_in (take_all 11 (kept_bytes k) (omega (arith, (kept_back k).0))) ∙ (kept_back k).1
+    by : (i : Item) → length (entry_bytes (entry_of i e.former.parameter e.former.kept)) ≡ 14
+    by Free = long
+    by (Setting i) = long
+    by (Stored i) = long
 
-    by : (i : Item) (p : ℕ) (k : Kept) → (length (entry_bytes (entry_of i p k)) ≡ 14) × (entry_in (entry_bytes (entry_of i p k)) ≡ entry_of i p k)
-    by Free p k = (long k, ap (entry_of Free p) (back k))
-    by (Setting i) p k = (long k, ap (entry_of (Setting i) p) (back k))
-    by (Stored i) p k = (long k, ap (entry_of (Stored i) p) (back k))
+pub entry_back : (e : Entry) → Back e.former.kept → entry_in (entry_bytes e) ≡ e
+entry_back e h = by e.item
+  where
+    back : kept_in (take 11 (kept_bytes e.former.kept)) ≡ e.former.kept
+    back = ap kept_in (take_all 11 (kept_bytes e.former.kept) (omega (arith, kept_long e.former.kept))) ∙ h
+
+    by : (i : Item) → entry_in (entry_bytes (entry_of i e.former.parameter e.former.kept)) ≡ entry_of i e.former.parameter e.former.kept
+    by Free = ap (entry_of Free e.former.parameter) back
+    by (Setting i) = ap (entry_of (Setting i) e.former.parameter) back
+    by (Stored i) = ap (entry_of (Stored i) e.former.parameter) back
+
+-- each value of a state may be read again, and each entry that stands
+
+values_back_lem : (k : ℕ) (vs : List Kept) → values_right k vs ≡ true → (i : ℕ) → i < length vs → Back (get_or vs i None)
+unfolding values_right
+values_back_lem k [] e i h = absurd (omega arith)
+values_back_lem k (v ∷ vs) e zero h = kept_back k v (both (kept_right k v) (values_right (k + 1) vs) e).0
+values_back_lem k (v ∷ vs) e (suc i) h = values_back_lem (k + 1) vs (both (kept_right k v) (values_right (k + 1) vs) e).1 i (omega arith)
+
+-- the newest of them: of a setting it has no value, and a value that it gives back is right there
+newest_back : (c : Contents) (t : Item) (f : Former) → contents_right c ≡ true → may_go_back c t f ≡ true
+    → contents_right (contents_back c (record { item = t; former = f })) ≡ true → Back f.kept
+newest_back c Free f now may next = absurd (false≢true may)
+newest_back c (Setting i) f now may next =
+    by f.kept (both (ltb i (settings_n c.series) && not (is_asked (row_at c.series i))) (is_never f.kept) may).1
+  where
+    by : (k : Kept) → is_never k ≡ true → Back k
+    by None e = never_back
+    by (Some p) e = absurd (false≢true e)
+newest_back c (Stored i) f now may next =
+    let l = c.values in
+    let put = is_put (value_held l i) in
+    let there = (both (ltb i values_n) put (both (ltb i values_n && put) (eqb f.parameter 0) may).0).0 in
+    let held = (both (in_ranges (held_rows c.series) c.settings) (eqb (length l) values_n && values_right 0 l) now).1 in
+    let (long, right) = both (eqb (length l) values_n) (values_right 0 l) held in
+    let is = values_set 0 l i f.kept right (omega (arith, ltb-true i values_n there, eqb-true (length l) values_n long)) in
+    let m = set l i f.kept in
+    let after = (both (eqb (length m) values_n) (values_right 0 m) (both (in_ranges (held_rows c.series) c.settings) (eqb (length m) values_n && values_right 0 m) next).1).1 in
+    kept_back (0 + i) f.kept (sym is ∙ after)
+
+entries_back_lem : (n : ℕ) (c : Contents) (u : List Entry) → right_back n c u ≡ true → (i : ℕ) → i < n → Back (get_or u i blank_entry).former.kept
+entries_back_lem zero c u e i h = absurd (omega arith)
+entries_back_lem (suc n) c u e i h =
+    let x = get_or u n blank_entry in
+    let next = contents_back c x in
+    let later = back_newest n c u e in
+    let below : i ≤ n = omega arith in
+    ⊎_elim
+    (λ last.
+    let here : Back x.former.kept = newest_back c x.item x.former (back_now (suc n) c u e) (back_may n c u e) (back_now n next u later) in
+    rw (← last) at here)
+    (λ less. entries_back_lem n next u later i less)
+    (eq-or-lt_of_le below)
 
 -- how long the parts are
 
 pub length_held : (k : Series) (settings : List ℕ) → length settings ≡ settings_most → length (held k settings) ≡ settings_n k
 length_held k settings h = length-take-le (settings_n k) settings (omega (arith, settings_few k))
 
-pub length_values : (values : List Value) → length values ≡ values_n → length (values_bytes values) ≡ count_at
-length_values values h = flat_length value_bytes 11 (λ x. (value_back x).0) values ∙ rw h
+pub length_values : (values : List Kept) → length values ≡ values_n → length (values_bytes values) ≡ count_at
+length_values values h = flat_length kept_bytes 11 kept_long values ∙ rw h
 
 pub length_entries : (undo : List Entry) → length undo ≡ entries_n → length (entries_bytes undo) ≡ entries_n * 14
-length_entries undo h = flat_length entry_bytes 14 (λ x. (entry_back x).0) undo ∙ rw h
+length_entries undo h = flat_length entry_bytes 14 entry_long undo ∙ rw h
 
 -- as many settings as there is room for are those of the series
 pub held_laid : (k : Series) (s room g : List ℕ) → length s ≡ settings_most → length room + 1 ≡ values_at k → g ≡ laid s room → g ≡ held k s
@@ -213,9 +275,13 @@ encoded_fits s room long = rw (eq-eqb (length room) (image_n s.series) long)
 
 -- a state is read from its image
 
-pub imaged : (s : State) → Shaped s → (length (image_of s) ≡ image_n s.series) × (state_in (image_of s) ≡ s)
+-- the values and the entries are those that their bytes say
+pub imaged : (s : State) → Shaped s → (values : List Kept) (undo : List Entry)
+    → values_in (values_bytes s.values) ≡ values → entries_in (entries_bytes s.undo) ≡ undo
+    → (length (image_of s) ≡ image_n s.series)
+    × (state_in (image_of s) ≡ record { series = s.series; settings = s.settings; values = values; undo = undo; count = s.count })
 unfolding image_of state_as_of
-imaged s hs =
+imaged s hs values undo rv re =
     let k = s.series in
     let g = held k s.settings in
     let v = values_bytes s.values in
@@ -226,8 +292,6 @@ imaged s hs =
     let lg = length_held k s.settings hs.settings_long in
     let lv = length_values s.values hs.values_long in
     let le = length_entries s.undo hs.undo_long in
-    let rv : values_in v ≡ s.values = rw hs.values_long at (rows_flat value_bytes value_in 11 value_back s.values) in
-    let re : entries_in e ≡ s.undo = rw hs.undo_long at (rows_flat entry_bytes entry_in 14 entry_back s.undo) in
     let hl : h * 256 + l ≡ s.count = omega (arith, hs.few) in
     let at-settings : take (settings_n k) (g ++ r) ≡ g = take_at g r (settings_n k) lg in
     let at_rest : drop (values_at k) (form_of k ∷ (g ++ r)) ≡ r =
@@ -246,11 +310,30 @@ imaged s hs =
           }),
     )
 
+pub image_long_of : (s : State) → Shaped s → length (image_of s) ≡ image_n s.series
+image_long_of s h = (imaged s h (values_in (values_bytes s.values)) (entries_in (entries_bytes s.undo)) refl refl).0
+
 pub image_length : (s : State) → is_state s ≡ true → length (image_of s) ≡ image_n s.series
-image_length s e = (imaged s (shaped s e)).0
+image_length s e = image_long_of s (shaped s e)
 
 pub image_back : (s : State) → is_state s ≡ true → state_in (image_of s) ≡ s
-image_back s e = (imaged s (shaped s e)).1
+image_back s e =
+    let h = shaped s e in
+    let p = state_parts entries_n s e in
+    let ranges = in_ranges (held_rows s.series) s.settings in
+    let long = eqb (length s.values) values_n in
+    let right = (both long (values_right 0 s.values) (both ranges (long && values_right 0 s.values) (back_now s.count (contents_of s) s.undo p.back)).1).1 in
+    let values : values_in (values_bytes s.values) ≡ s.values =
+    rw h.values_long at (rows_flat kept_bytes kept_in 11 kept_long s.values None (values_back_lem 0 s.values right)) in
+    let entries : entries_in (entries_bytes s.undo) ≡ s.undo =
+    rw h.undo_long at (rows_flat entry_bytes entry_in 14 entry_long s.undo blank_entry (λ i lt. entry_back (get_or s.undo i blank_entry) (each p i))) in
+    (imaged s h s.values s.undo values entries).1
+  where
+    each : StateParts entries_n s → (i : ℕ) → Back (get_or s.undo i blank_entry).former.kept
+    each p i =
+        by_test (ltb i s.count)
+        (λ lt. entries_back_lem s.count (contents_of s) s.undo p.back i (ltb-true i s.count lt))
+        (λ past. rw (blank_at s.undo s.count i p.past (ltb-false i s.count past)) never_back)
 
 -- an image says the series
 pub image_series : (s : State) → is_state s ≡ true → series_in (image_of s) ≡ s.series
@@ -282,12 +365,12 @@ factory_right Tps100 = refl
 factory_right Tps300 = refl
 
 pub factory_is_state : (k : Series) → is_state (factory_state k) ≡ true
-factory_is_state k = none_state k (factory_settings k) (replicate values_n (value_of Never)) (factory_right k)
+factory_is_state k = none_state k (factory_settings k) (replicate values_n None) (factory_right k)
 
 -- past the settings the factory's image is blank
 pub factory_image : (k : Series) → image_of (factory_state k) ≡ form_of k ∷ (held k (factory_settings k) ++ replicate rest_n 0)
 unfolding image_of kept_bytes
 factory_image k =
-    let values = flat_zeros value_bytes value_n (value_of Never) refl values_n in
+    let values = flat_zeros kept_bytes value_n None refl values_n in
     let entries = flat_zeros entry_bytes entry_n blank_entry refl entries_n in
     ap (λ (t : List ℕ). form_of k ∷ (held k (factory_settings k) ++ t)) (rw (values, entries) (replicate-append-replicate {A = ℕ} count_at (2 + entries_n * entry_n) 0))

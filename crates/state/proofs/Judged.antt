@@ -15,15 +15,14 @@ use Rattle.figures.specs.Bytes.{every, within, starts_with, same_bytes}
 use Rattle.figures.proofs.Bytes.{within_bounds, every_append, same_refl, same_true}
 use Rattle.figures.proofs.Tests.{both, by_test}
 use Rattle.instrument.specs.Settings.{settings_n, settings_most, rows_of, row_at, padded, held_rows, in_range, in_ranges}
-use Rattle.instrument.specs.Values.{values_n, is_put, kept_right}
+use Rattle.instrument.specs.Values.{Kept, values_n, is_put, kept_right}
 use Rattle.instrument.specs.declared.settings.Series.{Series}
 use Rattle.instrument.specs.declared.settings.Row.{Row}
-use Rattle.instrument.specs.declared.values.Kept.TheVariants.{Never}
-use Rattle.instrument.specs.declared.values.Value.{Value}
+use Rattle.std.specs.Prelude.{None}
 use Rattle.instrument.proofs.Ranges.{place_row, settings_few, held_rows_long, ranges_long}
-use Rattle.state.specs.Entries.{entries_n, value_of, value_held, blank_entry, is_blank, all_blank, Contents, contents_of, values_right, contents_right}
+use Rattle.state.specs.Entries.{entries_n, value_held, blank_entry, is_blank, all_blank, Contents, contents_of, values_right, contents_right}
 use Rattle.state.specs.Entries.{values_back, contents_back, may_go_back, item_right, entry_right, right_back, is_state}
-use Rattle.state.specs.Image.{form_of, values_at, value_n, entry_n, count_at, entries_at, rest_n, image_n, kept_bytes, entry_bytes, flat, values_bytes}
+use Rattle.state.specs.Image.{form_of, values_at, value_n, entry_n, count_at, entries_at, rest_n, image_n, kept_bytes, kept_in, entry_bytes, flat, values_bytes}
 use Rattle.state.specs.Image.{entries_bytes, image_of, entry_in, rows_in, values_in, entries_in_of, entries_in, series_in, count_from}
 use Rattle.state.specs.Image.{state_from, state_as_of, state_as, is_image}
 use Rattle.state.specs.Keeping.{puts_of, back_right, puts_back, values_lie, row_from, entries_lie, all_zeros, rest_right, is_image_by}
@@ -32,8 +31,8 @@ use Rattle.state.specs.declared.entries.Item.TheVariants.{Free, Setting, Stored}
 use Rattle.state.specs.declared.entries.Former.{Former}
 use Rattle.state.specs.declared.entries.State.{State}
 use Rattle.state.proofs.Steps.{ranges_set, values_set, blank_is}
-use Rattle.state.proofs.Rows.{flat_length, drop_row, rows_long, row_at_lem, rows_drop, value_bytes, value_in}
-use Rattle.state.proofs.Images.{value_back, entry_back, held_right, padded_held, padded_right}
+use Rattle.state.proofs.Rows.{flat_length, drop_row, rows_long, row_at_lem, rows_drop}
+use Rattle.state.proofs.Images.{kept_long, entry_long, held_right, padded_held, padded_right}
 
 -- tests in another order
 
@@ -98,21 +97,21 @@ module _ {A : Type 0} (f : A → List ℕ) (g : List ℕ → A) (w : ℕ) where
   same_last n l = ap (λ (m : ℕ). rows_same m l) (sym (add-one n)) ∙ same_split n 1 l ∙ rw and-true
 
 abbrev values_same : ℕ → List ℕ → Bool
-values_same = rows_same value_bytes value_in value_n
+values_same = rows_same kept_bytes kept_in value_n
 
 abbrev entries_same : ℕ → List ℕ → Bool
 entries_same = rows_same entry_bytes entry_in entry_n
 
 -- values
 
-values_by : (i n : ℕ) (l : List ℕ) → values_same n l && values_right i (rows_in value_in value_n n l) ≡ values_lie i n l
+values_by : (i n : ℕ) (l : List ℕ) → values_same n l && values_right i (rows_in kept_in value_n n l) ≡ values_lie i n l
 unfolding rows_same rows_in values_right values_lie
 values_by i zero l = refl
 values_by i (suc n) l =
     let r = take value_n l in
-    let v = value_in r in
+    let v = kept_in r in
     let rest = drop value_n l in
-    paired (same_bytes r (value_bytes v)) (values_same n rest) (kept_right i v.kept) (values_right (i + 1) (rows_in value_in value_n n rest))
+    paired (same_bytes r (kept_bytes v)) (values_same n rest) (kept_right i v) (values_right (i + 1) (rows_in kept_in value_n n rest))
     ∙ rw (values_by (i + 1) n rest)
 
 -- entries past the count: a blank one's bytes are noughts
@@ -154,10 +153,10 @@ map_set f [] i a = refl
 map_set f (x ∷ l) zero a = refl
 map_set f (x ∷ l) (suc i) a = ap (λ (m : List _). f x ∷ m) (map_set f l i a)
 
-pub puts_back_lem : (t : Item) (f : Former) (l : List Value) → puts_of (values_back l t f) ≡ puts_back (puts_of l) t f.kept
+pub puts_back_lem : (t : Item) (f : Former) (l : List Kept) → puts_of (values_back l t f) ≡ puts_back (puts_of l) t f.kept
 puts_back_lem Free f l = refl
 puts_back_lem (Setting i) f l = refl
-puts_back_lem (Stored i) f l = map_set (λ (v : Value). is_put v.kept) l i (value_of f.kept)
+puts_back_lem (Stored i) f l = map_set is_put l i f.kept
 
 pub turn : (c : Contents) (t : Item) (f : Former) → contents_right c ≡ true
     → item_right c.series t f.parameter f.kept && back_right (puts_of c.values) t
@@ -180,7 +179,7 @@ turn c (Setting i) f e =
 turn c (Stored i) f e =
     let k = c.series in
     let l = c.values in
-    let v = value_of f.kept in
+    let v = f.kept in
     let long = eqb (length l) values_n in
     let (ranges, held) = both (in_ranges (held_rows k) c.settings) (long && values_right 0 l) e in
     let (all, right) = both long (values_right 0 l) held in
@@ -189,7 +188,7 @@ turn c (Stored i) f e =
     let is : values_right 0 (set l i v) ≡ kept_right i f.kept =
     values_set 0 l i v right (omega (arith, ltb-true i values_n there, eqb-true (length l) values_n all)) ∙ rw zero-add
     in
-    let put : get_or (puts_of l) i false ≡ is_put (value_held l i).kept = get_or-map (λ (x : Value). is_put x.kept) l i (value_of Never) in
+    let put : get_or (puts_of l) i false ≡ is_put (value_held l i) = get_or-map is_put l i None in
     rw (there, ranges, length-set l i v, all, is, put) (simp sorted))
     (λ past. rw past)
 
@@ -275,9 +274,9 @@ module _ (k : Series) (x : ℕ) (g r : List ℕ) (lg : length g ≡ settings_n k
       let l = get_or r (count_at + 1) 0 in
       let vb = values_bytes (values_in v) in
       let eb = entries_bytes (entries_in e) in
-      let wide : (y : Value) → length (value_bytes y) ≡ value_n = λ y. (value_back y).0 in
+      let wide : (y : Kept) → length (kept_bytes y) ≡ value_n = kept_long in
       let lv : length v ≡ count_at = length-take-le count_at r (omega arith) in
-      let lb : length vb ≡ count_at = flat_length value_bytes value_n wide (values_in v) ∙ rw (rows_long value_in value_n values_n v) in
+      let lb : length vb ≡ count_at = flat_length kept_bytes value_n wide (values_in v) ∙ rw (rows_long kept_in value_n values_n v) in
       let split : r ≡ v ++ (h ∷ l ∷ e) =
       sym (take-append-drop count_at r)
       ∙ ap (λ (t : List ℕ). v ++ t) (drop-cons r count_at 0 (omega arith) ∙ ap (λ (t : List ℕ). h ∷ t) (drop-cons r (count_at + 1) 0 (omega arith)))
@@ -289,7 +288,7 @@ module _ (k : Series) (x : ℕ) (g r : List ℕ) (lg : length g ≡ settings_n k
       in
       (λ i. same_bytes (x ∷ (g ++ split i)) (image i))
       ∙ parts_same x (form_of k) g v vb (h ∷ l ∷ []) e eb (lv ∙ sym lb)
-      ∙ rw (rows_same_lem value_bytes value_in value_n wide values_n v lv, rows_same_lem entry_bytes entry_in entry_n (λ y. (entry_back y).0) entries_n e entries_long)
+      ∙ rw (rows_same_lem kept_bytes kept_in value_n wide values_n v lv, rows_same_lem entry_bytes entry_in entry_n entry_long entries_n e entries_long)
 
   judged : same_bytes (x ∷ (g ++ r)) (image_of read) && is_state read ≡ eqb x (form_of k) && (in_ranges (rows_of k) g && rest_right k r)
   judged =
@@ -305,7 +304,7 @@ module _ (k : Series) (x : ℕ) (g r : List ℕ) (lg : length g ≡ settings_n k
       rw (rw entries_whole at (image_same (leb-true n entries_n few)), few, ← values_by 0 values_n v)
       (gathered (eqb x (form_of k)) (values_same values_n v) (entries_same entries_n e) (all_blank (drop n u) && right_back n c u) (in_ranges (rows_of k) g)
       (values_right 0 (values_in v)) (all_zeros (drop (n * entry_n) e) && entries_lie k n (puts_of (values_in v)) e)
-      (rw (rows_long value_in value_n values_n v, ranges_by k g lg) at all)))
+      (rw (rows_long kept_in value_n values_n v, ranges_by k g lg) at all)))
       (λ many. rw many (simp and-false)))
 
 pub image_by : (l : List ℕ) → is_image l ≡ is_image_by l

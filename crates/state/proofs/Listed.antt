@@ -12,7 +12,7 @@ use lib.ListN.{length, get_or, take, replicate, length-append, length-replicate,
 use lib.Seq.{take-suc, take-length, drop-append_seam, length-take-le}
 use Rattle.figures.proofs.Tests.{both, and_on}
 use Rattle.instrument.specs.declared.settings.Series.{Series}
-use Rattle.instrument.specs.declared.values.Value.{Value}
+use Rattle.instrument.specs.Values.{Kept}
 use Rattle.state.specs.Entries.{entries_n, blank_entry, with_entries, no_entries, Contents, contents_of, contents_right, contents_back, may_go_back}
 use Rattle.state.specs.Entries.{entry_right, right_back, is_state}
 use Rattle.state.specs.Image.{image_of}
@@ -79,7 +79,7 @@ full_long : (done : List Entry) (n : ℕ) → length done ≡ n → n ≤ entrie
 full_long done n long few = rw (length-append, length-replicate) (omega arith)
 
 -- over contents that are right, entries that are make a state where they go back
-pub with_entries_state : (k : Series) (settings : List ℕ) (values : List Value) (entries : List Entry)
+pub with_entries_state : (k : Series) (settings : List ℕ) (values : List Kept) (entries : List Entry)
     → contents_right (record { series = k; settings = settings; values = values }) ≡ true → length entries ≤ entries_n → EachRight k (length entries) entries
     → is_state (with_entries k settings values entries) ≡ goes_back (length entries) (puts_of values) (with_entries k settings values entries).undo
 with_entries_state k settings values entries now few each =
@@ -92,11 +92,11 @@ with_entries_state k settings values entries now few each =
     (right_back_lem n c u now same)
 
 -- laid down one by one: the first i entries, and no count yet
-abbrev pub listed_to : Series → List ℕ → List Value → List Entry → ℕ → State
+abbrev pub listed_to : Series → List ℕ → List Kept → List Entry → ℕ → State
 listed_to k settings values entries i =
     record { series = k; settings = settings; values = values; undo = take i entries ++ replicate (entries_n - i) blank_entry; count = 0 }
 
-module _ (k : Series) (settings : List ℕ) (values : List Value) (h : Shaped (no_entries k settings values)) (entries : List Entry)
+module _ (k : Series) (settings : List ℕ) (values : List Kept) (h : Shaped (no_entries k settings values)) (entries : List Entry)
     (few : length entries ≤ entries_n) where
   pub listed_shaped : (i : ℕ) → i ≤ length entries → Shaped (listed_to k settings values entries i)
   listed_shaped i there =

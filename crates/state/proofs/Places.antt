@@ -5,7 +5,7 @@ use mathlib.Core.Bool.{Bool, true, cond}
 use mathlib.Core.List.{List, [], ◌∷◌, ◌++◌, append_assoc}
 use native.Mathlib.Nat.{min-eq_left}
 use native.Mathlib.Omega.{arith}
-use borrow.Author.Tests.{eqb-true, eq-eqb, lt-ltb, le-leb}
+use borrow.Author.Tests.{eqb-true, eq-eqb, ne_eqb, lt-ltb, le-leb}
 use lib.Dec.{eqb}
 use lib.ListN.{length, get_or, set, take, drop, replicate, length-drop, length-set, length-replicate, length-append, replicate-append-replicate}
 use lib.ListN.{take-append-drop, get_or-append}
@@ -14,21 +14,20 @@ use Rattle.figures.proofs.Tests.{both}
 use Rattle.instrument.specs.Settings.{settings_n, settings_most, held, padded}
 use Rattle.instrument.specs.Values.{values_n}
 use Rattle.instrument.specs.declared.settings.Series.{Series}
-use Rattle.instrument.specs.declared.values.Kept.{Kept}
-use Rattle.instrument.specs.declared.values.Kept.TheVariants.{Never}
-use Rattle.instrument.specs.declared.values.Value.{Value}
+use Rattle.std.specs.Prelude.{None}
+use Rattle.instrument.specs.Values.{Kept}
 use Rattle.instrument.proofs.Ranges.{settings_few}
-use Rattle.state.specs.Entries.{entries_n, value_of, value_held, blank_entry, no_entries, is_blank, all_blank, is_state}
+use Rattle.state.specs.Entries.{entries_n, value_held, blank_entry, no_entries, is_blank, all_blank, is_state}
 use Rattle.state.specs.Image.{form_of, value_n, entry_n, values_at, count_at, entries_at, rest_n, image_n, kept_bytes, entry_bytes, count_bytes, values_bytes, entries_bytes, rest_of, image_of}
-use Rattle.state.specs.Image.{entry_in, values_in, entries_in, series_in, state_as_of, state_as, state_in}
+use Rattle.state.specs.Image.{kept_in, entry_in, values_in, entries_in, series_in, state_as_of, state_as, state_in}
 use Rattle.state.specs.Keeping.{Imaged, count_in, stored_in, entry_at, values_read, entries_read, state_of}
 use Rattle.state.specs.Keeping.{laid_at, parameter_laid, value_laid, entry_laid, count_laid, cleared, contents_laid}
 use Rattle.state.specs.declared.entries.Entry.{Entry}
 use Rattle.state.specs.declared.entries.State.{State}
 use Rattle.state.proofs.Steps.{state_parts, blank_is}
-use Rattle.state.proofs.Rows.{rows_first, rows_long, row_part, value_bytes, value_in}
+use Rattle.state.proofs.Rows.{rows_none, rows_first, rows_long, row_part}
 use Rattle.state.proofs.Rows.{laid_after, laid_before, laid_all, byte_laid, row_laid, flat_append, flat_length, flat_zeros}
-use Rattle.state.proofs.Images.{Shaped, shaped, imaged, image_of_lem, padded_is, length_held, length_values, kept_back, value_back, entry_back}
+use Rattle.state.proofs.Images.{Shaped, shaped, imaged, image_long_of, image_of_lem, padded_is, length_held, length_values, kept_long, entry_long}
 
 blanks_are : (u : List Entry) → all_blank u ≡ true → u ≡ replicate (length u) blank_entry
 unfolding all_blank
@@ -47,6 +46,9 @@ entries_read_lem : (n : ℕ) (e : List ℕ) → length e ≡ entries_n * entry_n
 entries_read_lem n e long few blank =
     let all = blank_past (entries_in e) n (rows_long entry_in entry_n entries_n e) blank in
     rw (eq-eqb (length e) (entries_n * entry_n) long, min-eq_left few, ← rows_first entry_in entry_n n entries_n e few) (sym all)
+
+pub entries_none : (n : ℕ) (e : List ℕ) → (length e ≡ entries_n * entry_n → ⊥) → replicate entries_n blank_entry ≡ entries_read n e
+entries_none n e short = rw (ne_eqb (length e) (entries_n * entry_n) short, rows_none entry_in entry_n e)
 
 -- what is read from an image of the series k
 
@@ -75,13 +77,13 @@ module _ {k : Series} {l : List ℕ} (im : Imaged k l) where
       ap (λ (t : List ℕ). get_or t i 0) (padded_is k g long) ∙ get_or-append g (replicate (settings_most - n) 0) 0 i (omega arith) in
       sym (get_or-drop 1 l i 0) ∙ sym (get_or-take n (drop 1 l) i 0 h) ∙ sym held ∙ ap (λ (s : State). get_or s.settings i 0) as_said
 
-  pub stored_read : (i : ℕ) → i < values_n → stored_in k i l ≡ (value_held (state_in l).values i).kept
+  pub stored_read : (i : ℕ) → i < values_n → stored_in k i l ≡ value_held (state_in l).values i
   unfolding state_as_of
   stored_read i h =
       let at = values_at k in
-      let row = row_part value_in value_n i values_n at l (value_of Never) h (omega (arith, image_long)) in
+      let row = row_part kept_in value_n i values_n at l None h (omega (arith, image_long)) in
       rw (lt-ltb i values_n h, le-leb (at + i * value_n + value_n) (length l) (omega (arith, image_long)))
-      (sym (ap (λ (v : Value). v.kept) row) ∙ ap (λ (s : State). (value_held s.values i).kept) as_said)
+      (sym row ∙ ap (λ (s : State). value_held s.values i) as_said)
 
   pub entry_read : (n : ℕ) → n < entries_n → entry_at k n l ≡ get_or (state_in l).undo n blank_entry
   unfolding state_as_of
@@ -127,7 +129,7 @@ listed s = entries_bytes s.undo
 
 -- a state with other contents, and with another list
 
-abbrev pub with_contents : State → List ℕ → List Value → State
+abbrev pub with_contents : State → List ℕ → List Kept → State
 with_contents s settings values = record { series = s.series; settings = settings; values = values; undo = s.undo; count = s.count }
 
 abbrev pub with_undo : State → List Entry → ℕ → State
@@ -150,7 +152,7 @@ chosen y e = rw e
 module _ (s : State) (h : Shaped s) where
   -- it stays in shape
 
-  pub contents_shaped : (settings : List ℕ) (values : List Value) → length settings ≡ settings_most → padded (held s.series settings) ≡ settings
+  pub contents_shaped : (settings : List ℕ) (values : List Kept) → length settings ≡ settings_most → padded (held s.series settings) ≡ settings
       → length values ≡ values_n → Shaped (with_contents s settings values)
   contents_shaped settings values ls back lv =
       record { settings_long = ls; settings_held = back; values_long = lv; undo_long = h.undo_long; few = h.few }
@@ -164,7 +166,7 @@ module _ (s : State) (h : Shaped s) where
       contents_shaped (set s.settings i p) s.values (length-set s.settings i p ∙ h.settings_long)
       (stored_held s.series s.settings i p h.settings_long h.settings_held lt) h.values_long
 
-  pub value_shaped : (i : ℕ) (v : Value) → Shaped (with_contents s s.settings (set s.values i v))
+  pub value_shaped : (i : ℕ) (v : Kept) → Shaped (with_contents s s.settings (set s.values i v))
   value_shaped i v = contents_shaped s.settings (set s.values i v) h.settings_long h.settings_held (length-set s.values i v ∙ h.values_long)
 
   pub entry_shaped : (n : ℕ) (e : Entry) → Shaped (with_undo s (set s.undo n e) s.count)
@@ -207,20 +209,20 @@ module _ (s : State) (h : Shaped s) where
       ∙ laid_after 1 i (p ∷ []) (form_of k ∷ []) (g ++ r) refl
       ∙ ap (λ (t : List ℕ). form_of k ∷ t) (laid_before i (p ∷ []) g r (omega (arith, held_long)) ∙ ap (λ (t : List ℕ). t ++ r) here)
 
-  pub value_laid_lem : (i : ℕ) (w : Kept) → i < values_n → value_laid s.series i w (image_of s) ≡ image_of (with_contents s s.settings (set s.values i (value_of w)))
+  pub value_laid_lem : (i : ℕ) (w : Kept) → i < values_n → value_laid s.series i w (image_of s) ≡ image_of (with_contents s s.settings (set s.values i w))
   unfolding image_of
   value_laid_lem i w lt =
       let r = count_bytes s.count ++ listed s in
-      let row = row_laid value_bytes value_n (λ v. (value_back v).0) s.values i (value_of w) (omega (arith, h.values_long)) in
+      let row = row_laid kept_bytes value_n kept_long s.values i w (omega (arith, h.values_long)) in
       chosen (image_of s) (lt-ltb i values_n lt)
       ∙ past_front (i * value_n) (kept_bytes w) (stored s ++ r)
       ∙ ap (λ (t : List ℕ). front s ++ t)
-      (laid_before (i * value_n) (kept_bytes w) (stored s) r (omega (arith, (kept_back w).0, stored_long)) ∙ ap (λ (t : List ℕ). t ++ r) row)
+      (laid_before (i * value_n) (kept_bytes w) (stored s) r (omega (arith, kept_long w, stored_long)) ∙ ap (λ (t : List ℕ). t ++ r) row)
 
   pub entry_laid_lem : (n : ℕ) (e : Entry) → n < entries_n → entry_laid s.series n e (image_of s) ≡ image_of (with_undo s (set s.undo n e) s.count)
   unfolding image_of
   entry_laid_lem n e lt =
-      let row = row_laid entry_bytes entry_n (λ x. (entry_back x).0) s.undo n e (omega (arith, h.undo_long)) in
+      let row = row_laid entry_bytes entry_n entry_long s.undo n e (omega (arith, h.undo_long)) in
       chosen (image_of s) (lt-ltb n entries_n lt)
       ∙ past_count (n * entry_n) (entry_bytes e)
       ∙ ap (λ (t : List ℕ). front s ++ (stored s ++ (count_bytes s.count ++ t))) row
@@ -231,7 +233,7 @@ module _ (s : State) (h : Shaped s) where
       past_values 0 (count_bytes n) (count_bytes s.count ++ listed s)
       ∙ ap (λ (t : List ℕ). front s ++ (stored s ++ t)) (laid_before 0 (count_bytes n) (count_bytes s.count) (listed s) (omega arith))
 
-  pub contents_laid_lem : (settings : List ℕ) (values : List Value) → length settings ≡ settings_most → length values ≡ values_n
+  pub contents_laid_lem : (settings : List ℕ) (values : List Kept) → length settings ≡ settings_most → length values ≡ values_n
       → contents_laid s.series settings values (image_of s) ≡ image_of (with_contents s settings values)
   unfolding image_of
   contents_laid_lem settings values ls lv =
@@ -265,7 +267,7 @@ entries_cleared u n long few blank =
     let m : n + (entries_n - n) ≡ entries_n = omega arith in
     let split = blank_past u n long blank in
     let ld : length done ≡ n * entry_n =
-    flat_length entry_bytes entry_n (λ x. (entry_back x).0) (take n u) ∙ rw (length-take-le n u (omega arith)) in
+    flat_length entry_bytes entry_n entry_long (take n u) ∙ rw (length-take-le n u (omega arith)) in
     let lz : length zeros ≡ n * entry_n = length-replicate (n * entry_n) 0 in
     ap (laid_at 0 zeros) (ap entries_bytes split ∙ flat_append entry_bytes (take n u) past)
     ∙ laid_before 0 zeros done (entries_bytes past) (omega arith)
@@ -283,7 +285,7 @@ list_cleared s h few past =
     let at = values_at k + entries_at in
     let zeros : List ℕ = replicate (n * entry_n) 0 in
     let blanks = replicate entries_n blank_entry in
-    let back = (imaged s h).1 in
+    let back = (imaged s h (values_in (stored s)) (entries_in (listed s)) refl refl).1 in
     let said : count_in k (image_of s) ≡ n =
     ap (λ (t : Series). count_in t (image_of s)) (sym (ap (λ (t : State). t.series) back)) ∙ ap (λ (t : State). t.count) back in
     let here : at ≡ at + 0 = omega arith in
@@ -291,7 +293,7 @@ list_cleared s h few past =
     ap (λ (j : ℕ). laid_at j zeros (image_of s)) here
     ∙ past_count s h 0 zeros
     ∙ ap (λ (t : List ℕ). front s ++ (stored s ++ (count_bytes n ++ t))) (entries_cleared s.undo n h.undo_long few past) in
-    chosen (image_of s) (le-leb (at + count_in k (image_of s) * entry_n) (length (image_of s)) (omega (arith, (imaged s h).0)))
+    chosen (image_of s) (le-leb (at + count_in k (image_of s) * entry_n) (length (image_of s)) (omega (arith, image_long_of s h)))
     ∙ ap (λ (j : ℕ). count_laid k 0 (laid_at at (replicate (j * entry_n) 0) (image_of s))) said
     ∙ ap (count_laid k 0) blank
     ∙ count_laid_lem (with_undo s blanks n) (entries_shaped s h blanks n (length-replicate {A = Entry} entries_n blank_entry) h.few) 0
@@ -300,7 +302,7 @@ pub all_cleared : (s : State) → is_state s ≡ true → cleared s.series (imag
 all_cleared s e = let p = state_parts entries_n s e in list_cleared s (shaped s e) p.few p.past
 
 -- an image whose contents are laid down anew and whose list is cleared after that
-pub contents_cleared : {k : Series} {l : List ℕ} → Imaged k l → (settings : List ℕ) (values : List Value) → length settings ≡ settings_most
+pub contents_cleared : {k : Series} {l : List ℕ} → Imaged k l → (settings : List ℕ) (values : List Kept) → length settings ≡ settings_most
     → padded (held k settings) ≡ settings → length values ≡ values_n
     → cleared k (contents_laid k settings values l) ≡ image_of (no_entries k settings values)
 contents_cleared {k} {l} im settings values ls back lv =

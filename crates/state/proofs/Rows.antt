@@ -15,10 +15,8 @@ use lib.Seq.{set_at, set_split, append_snoc, length-take-le}
 use Rattle.figures.specs.Bytes.{laid}
 use Rattle.figures.proofs.Bytes.{laid_cut}
 use Rattle.figures.proofs.Tests.{by_test}
-use Rattle.state.specs.Entries.{value_of}
-use Rattle.state.specs.Image.{flat, rows_in, kept_bytes, kept_in}
+use Rattle.state.specs.Image.{flat, rows_in}
 use Rattle.state.specs.Keeping.{laid_at}
-use Rattle.instrument.specs.declared.values.Value.{Value}
 
 -- a list is its elements
 
@@ -54,10 +52,6 @@ laid_fit a w l h = rw (le-leb (a + length w) (length l) h)
 
 pub laid_not : (a : ℕ) (w l : List ℕ) → length l < a + length w → laid_at a w l ≡ l
 laid_not a w l h = rw (lt-leb (a + length w) (length l) h)
-
--- put into the part from a on
-pub mid_laid : (a k : ℕ) (l w : List ℕ) → length w ≡ k → a + k ≤ length l → put_mid a k l w ≡ laid_at a w l
-mid_laid a k l w hw h = rw (hw, le-leb (a + k) (length l) h, drop-drop k a l)
 
 -- in the second of two lists, in the first, in the whole of one, and one byte
 
@@ -126,23 +120,21 @@ row_laid f w long (y ∷ u) (suc i) x h =
     (laid_after w (i * w) (f x) (f y) (flat f u) (long y) ∙ ap (λ (t : List ℕ). f y ++ t) (row_laid f w long u i x (omega arith)))
 
 -- a turn of a loop that lays rows down: row i goes into the part from a to a + w
-pub rows_more : {A : Type 0} (f : A → List ℕ) (w : ℕ) (u : List A) (d : A) (i a : ℕ) (out b last : List ℕ)
-    → a ≡ i * w → i < length u → a + w ≤ length out → length b ≡ w → b ≡ f (get_or u i d) → last ≡ laid b (mid_of a (a + w - a) out)
+pub rows_more : {A : Type 0} (f : A → List ℕ) (w : ℕ) (u : List A) (d : A) (i a : ℕ) (out row : List ℕ)
+    → a ≡ i * w → i < length u → a + w ≤ length out → length row ≡ w → row ≡ f (get_or u i d)
     → take a out ≡ flat f (take i u)
-    → (length (put_mid a (a + w - a) out last) ≡ length out) × (take ((i + 1) * w) (put_mid a (a + w - a) out last) ≡ flat f (take (i + 1) u))
-rows_more f w u d i a out b last ea hi he hl hb el h =
-    let lm = row_long w a out he in
-    let eb : last ≡ b = el ∙ laid_whole b (mid_of a (a + w - a) out) (omega arith) in
-    let ll : length last ≡ w = ap length eb ∙ hl in
+    → (length (put_mid a (a + w - a) out row) ≡ length out) × (take ((i + 1) * w) (put_mid a (a + w - a) out row) ≡ flat f (take (i + 1) u))
+rows_more f w u d i a out row ea hi he hl er h =
     let la : length (take a out) ≡ a = length-take-le a out (omega arith) in
-    let le : length (take a out ++ last) ≡ a + w = length-append (take a out) last ∙ omega arith in
+    let lm = row_long w a out he in
+    let le : length (take a out ++ row) ≡ a + w = length-append (take a out) row ∙ omega arith in
     let en : (i + 1) * w ≡ a + w = rw (add-one i, suc-mul i w, ← ea) in
     let rest = post_of a (a + w - a) out in
-    let front : take (a + w) (put_mid a (a + w - a) out last) ≡ take a out ++ last =
-    rw (← append_assoc (take a out) last rest) (take_at (take a out ++ last) rest (a + w) le) in
-    let row : flat f (take (i + 1) u) ≡ flat f (take i u) ++ f (get_or u i d) =
+    let front : take (a + w) (put_mid a (a + w - a) out row) ≡ take a out ++ row =
+    rw (← append_assoc (take a out) row rest) (take_at (take a out ++ row) rest (a + w) le) in
+    let next : flat f (take (i + 1) u) ≡ flat f (take i u) ++ f (get_or u i d) =
     rw (add-one i, take-suc u i d hi, flat_append f (take i u) (get_or u i d ∷ []), flat_one f (get_or u i d)) in
-    (same_len_mid a (a + w - a) out last (omega arith), rw (en, front, row, h, eb, hb))
+    (same_len_mid a (a + w - a) out row (omega arith), rw (en, front, next, h, er))
 
 -- rows read
 
@@ -220,16 +212,10 @@ read_more g w i m l u d x hi hx h =
 
 -- what was laid down is read again
 pub rows_flat : {A : Type 0} (f : A → List ℕ) (g : List ℕ → A) (w : ℕ)
-    → ((x : A) → (length (f x) ≡ w) × (g (f x) ≡ x)) → (u : List A) → rows_in g w (length u) (flat f u) ≡ u
+    → ((x : A) → length (f x) ≡ w) → (u : List A) (d : A) → ((i : ℕ) → i < length u → g (f (get_or u i d)) ≡ get_or u i d)
+    → rows_in g w (length u) (flat f u) ≡ u
 unfolding rows_in flat
-rows_flat f g w back [] = refl
-rows_flat f g w back (x ∷ u) =
-    rw (take_at (f x) (flat f u) w (back x).0, drop_at (f x) (flat f u) w (back x).0, (back x).1, rows_flat f g w back u)
-
--- the rows of the values
-
-abbrev pub value_bytes : Value → List ℕ
-value_bytes v = kept_bytes v.kept
-
-abbrev pub value_in : List ℕ → Value
-value_in l = value_of (kept_in l)
+rows_flat f g w long [] d back = refl
+rows_flat f g w long (x ∷ u) d back =
+    let rest = rows_flat f g w long u d (λ i h. back (suc i) (omega arith)) in
+    rw (take_at (f x) (flat f u) w (long x), drop_at (f x) (flat f u) w (long x), back 0 (omega arith), rest)

@@ -12,12 +12,10 @@ use lib.ListN.{length, get_or, set, drop, replicate, length-replicate, length-se
 use lib.Seq.{drop-cons, drop-set-lt, get_or-set_same, get_or-set_other}
 use Rattle.figures.proofs.Tests.{both, and_on}
 use Rattle.instrument.specs.Settings.{settings_n, no_row, row_at, is_asked, in_range, in_ranges}
-use Rattle.instrument.specs.Values.{kept_right}
+use Rattle.instrument.specs.Values.{Kept, kept_right}
 use Rattle.instrument.specs.declared.settings.Row.{Row}
 use Rattle.instrument.specs.declared.settings.Series.{Series}
-use Rattle.instrument.specs.declared.values.Kept.{Kept}
-use Rattle.instrument.specs.declared.values.Kept.TheVariants.{Never, Put}
-use Rattle.instrument.specs.declared.values.Value.{Value}
+use Rattle.std.specs.Prelude.{Some, None}
 use Rattle.state.specs.Entries.{entries_n, entry_of, blank_entry, no_entries, is_never, is_blank, all_blank, Contents, contents_of, values_right, contents_right}
 use Rattle.state.specs.Entries.{contents_back, may_go_back, right_back, is_state_of, is_state}
 use Rattle.state.specs.declared.entries.Item.{Item}
@@ -68,12 +66,12 @@ ranges_set (r ∷ rs) (q ∷ ps) (suc i) p e h =
     let (here, later) = both (in_range r q) (in_ranges rs ps) e in
     and_on here ∙ ranges_set rs ps i p later (omega arith)
 
-pub values_set : (k : ℕ) (vs : List Value) (i : ℕ) (v : Value) → values_right k vs ≡ true → i < length vs → values_right k (set vs i v) ≡ kept_right (k + i) v.kept
+pub values_set : (k : ℕ) (vs : List Kept) (i : ℕ) (v : Kept) → values_right k vs ≡ true → i < length vs → values_right k (set vs i v) ≡ kept_right (k + i) v
 unfolding values_right
 values_set k [] i v e h = absurd (omega arith)
-values_set k (w ∷ vs) zero v e h = rw ((both (kept_right k w.kept) (values_right (k + 1) vs) e).1, and-true, add-zero)
+values_set k (w ∷ vs) zero v e h = rw ((both (kept_right k w) (values_right (k + 1) vs) e).1, and-true, add-zero)
 values_set k (w ∷ vs) (suc i) v e h =
-    let (here, later) = both (kept_right k w.kept) (values_right (k + 1) vs) e in
+    let (here, later) = both (kept_right k w) (values_right (k + 1) vs) e in
     let q : k + suc i ≡ k + 1 + i = omega arith in
     and_on here ∙ rw q (values_set (k + 1) vs i v later (omega arith))
 
@@ -142,10 +140,18 @@ pub blank_is : (e : Entry) → is_blank e ≡ true → e ≡ blank_entry
 blank_is e = by e.item e.former.parameter e.former.kept
   where
     by : (i : Item) (p : ℕ) (k : Kept) → is_blank (entry_of i p k) ≡ true → entry_of i p k ≡ blank_entry
-    by Free p Never h = ap (λ (q : ℕ). entry_of Free q Never) (eqb-true p 0 (both (eqb p 0) true h).0)
-    by Free p (Put u m d) h = absurd (false≢true (both (eqb p 0) false h).1)
+    by Free p None h = ap (λ (q : ℕ). entry_of Free q None) (eqb-true p 0 (both (eqb p 0) true h).0)
+    by Free p (Some x) h = absurd (false≢true (both (eqb p 0) false h).1)
     by (Setting i) p k h = absurd (false≢true h)
     by (Stored i) p k h = absurd (false≢true h)
+
+pub blank_at : (u : List Entry) (n i : ℕ) → all_blank (drop n u) ≡ true → n ≤ i → get_or u i blank_entry ≡ blank_entry
+unfolding all_blank
+blank_at [] n i e h = refl
+blank_at (x ∷ u) zero zero e h = blank_is x (both (is_blank x) (all_blank u) e).0
+blank_at (x ∷ u) zero (suc i) e h = blank_at u zero i (both (is_blank x) (all_blank u) e).1 (omega arith)
+blank_at (x ∷ u) (suc n) zero e h = absurd (omega arith)
+blank_at (x ∷ u) (suc n) (suc i) e h = blank_at u n i e (omega arith)
 
 -- the entries past the count
 
@@ -168,7 +174,7 @@ blanks zero = refl
 blanks (suc n) = blanks n
 
 -- without an entry it is a state where what it holds is right
-pub none_state : (k : Series) (settings : List ℕ) (values : List Value) → contents_right (record { series = k; settings = settings; values = values }) ≡ true
+pub none_state : (k : Series) (settings : List ℕ) (values : List Kept) → contents_right (record { series = k; settings = settings; values = values }) ≡ true
     → is_state (no_entries k settings values) ≡ true
 unfolding right_back
 none_state k settings values e =

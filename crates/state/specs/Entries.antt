@@ -1,12 +1,9 @@
 -- What a state is. "A state is settings in range, each value never put or as a PUT can leave it, and 0 to 64 entries holding the same; taken back newest
 -- first, none names a value then never put."
-use Rattle.std.specs.Prelude.{ℕ, zero, suc, ◌+◌, ◌-◌, Bool, true, false, not, ◌&&◌, List, [], ◌∷◌, ◌++◌, eqb, leb, ltb, length, get_or, set, drop, replicate}
+use Rattle.std.specs.Prelude.{ℕ, zero, suc, ◌+◌, ◌-◌, Bool, true, false, not, ◌&&◌, None, List, [], ◌∷◌, ◌++◌, eqb, leb, ltb, length, get_or, set, drop, replicate}
 use Rattle.instrument.specs.Settings.{settings_n, row_at, held_rows, is_asked, factory_settings, in_range, in_ranges}
-use Rattle.instrument.specs.Values.{values_n, is_put, kept_right}
+use Rattle.instrument.specs.Values.{Kept, values_n, is_put, kept_right}
 use Rattle.instrument.specs.declared.settings.Series.{Series}
-use Rattle.instrument.specs.declared.values.Kept.{Kept}
-use Rattle.instrument.specs.declared.values.Kept.TheVariants.{Never}
-use Rattle.instrument.specs.declared.values.Value.{Value}
 use Rattle.state.specs.declared.entries.Item.{Item}
 use Rattle.state.specs.declared.entries.Item.TheVariants.{Free, Setting, Stored}
 use Rattle.state.specs.declared.entries.Former.{Former}
@@ -17,31 +14,28 @@ use Rattle.state.specs.declared.entries.State.{State}
 abbrev pub entries_n : ℕ
 entries_n = 64
 
-abbrev pub value_of : Kept → Value
-value_of k = record { kept = k }
-
 -- what is held at a place; past the last, never put
-abbrev pub value_held : List Value → ℕ → Value
-value_held values i = get_or values i (value_of Never)
+abbrev pub value_held : List Kept → ℕ → Kept
+value_held values i = get_or values i None
 
 abbrev pub entry_of : Item → ℕ → Kept → Entry
 entry_of i p k = record { item = i; former = record { parameter = p; kept = k } }
 
 abbrev pub blank_entry : Entry
-blank_entry = entry_of Free 0 Never
+blank_entry = entry_of Free 0 None
 
 -- some undo entries, the oldest first; the places past them are blank
-abbrev pub with_entries : Series → List ℕ → List Value → List Entry → State
+abbrev pub with_entries : Series → List ℕ → List Kept → List Entry → State
 with_entries k settings values entries =
     record { series = k; settings = settings; values = values; undo = entries ++ replicate (entries_n - length entries) blank_entry; count = length entries }
 
 -- no undo entry
-abbrev pub no_entries : Series → List ℕ → List Value → State
+abbrev pub no_entries : Series → List ℕ → List Kept → State
 no_entries k settings values = record { series = k; settings = settings; values = values; undo = replicate entries_n blank_entry; count = 0 }
 
 -- no value put either
 abbrev pub unused : Series → List ℕ → State
-unused k settings = no_entries k settings (replicate values_n (value_of Never))
+unused k settings = no_entries k settings (replicate values_n None)
 
 -- "At the factory no value has been put."
 abbrev pub factory_state : Series → State
@@ -66,15 +60,15 @@ all_blank (e ∷ es) = is_blank e && all_blank es
 pub record Contents : Type 0 where
   pub series : Series
   pub settings : List ℕ
-  pub values : List Value
+  pub values : List Kept
 
 abbrev pub contents_of : State → Contents
 contents_of s = record { series = s.series; settings = s.settings; values = s.values }
 
 -- the values at the places from i on
-unfoldable pub values_right : ℕ → List Value → Bool
+unfoldable pub values_right : ℕ → List Kept → Bool
 values_right i [] = true
-values_right i (v ∷ vs) = kept_right i v.kept && values_right (i + 1) vs
+values_right i (v ∷ vs) = kept_right i v && values_right (i + 1) vs
 
 -- "settings in range, each value never put or as a PUT can leave it"
 abbrev pub contents_right : Contents → Bool
@@ -86,10 +80,10 @@ settings_back l Free f = l
 settings_back l (Setting i) f = set l i f.parameter
 settings_back l (Stored i) f = l
 
-abbrev pub values_back : List Value → Item → Former → List Value
+abbrev pub values_back : List Kept → Item → Former → List Kept
 values_back l Free f = l
 values_back l (Setting i) f = l
-values_back l (Stored i) f = set l i (value_of f.kept)
+values_back l (Stored i) f = set l i f.kept
 
 abbrev pub contents_back : Contents → Entry → Contents
 contents_back c e = record {
@@ -103,7 +97,7 @@ contents_back c e = record {
 abbrev pub may_go_back : Contents → Item → Former → Bool
 may_go_back c Free f = false
 may_go_back c (Setting i) f = (ltb i (settings_n c.series) && not (is_asked (row_at c.series i))) && is_never f.kept
-may_go_back c (Stored i) f = (ltb i values_n && is_put (value_held c.values i).kept) && eqb f.parameter 0
+may_go_back c (Stored i) f = (ltb i values_n && is_put (value_held c.values i)) && eqb f.parameter 0
 
 -- a parameter that a SET can leave at a place
 abbrev pub settable : Series → ℕ → ℕ → Bool

@@ -1,14 +1,11 @@
 -- The image of a state, and the state whose image some bytes are. docs/IMAGE.md has the layout byte by byte.
-use Rattle.std.specs.Prelude.{ℕ, zero, suc, ◌+◌, ◌*◌, ◌/◌, ◌%◌, Bool, cond, ◌&&◌, List, [], ◌∷◌, ◌++◌, eqb, length, get_or, take, drop}
+use Rattle.std.specs.Prelude.{ℕ, zero, suc, ◌+◌, ◌*◌, ◌/◌, ◌%◌, Bool, cond, ◌&&◌, Some, None, List, [], ◌∷◌, ◌++◌, eqb, length, get_or, take, drop}
 use Rattle.figures.specs.Bytes.{same_bytes}
-use Rattle.instrument.specs.Values.{eight_bytes, eight_of, values_n}
-use Rattle.state.specs.Entries.{entries_n, value_of, entry_of, is_state_of}
+use Rattle.instrument.specs.Values.{Kept, put_of, eight_bytes, eight_of, values_n}
+use Rattle.state.specs.Entries.{entries_n, entry_of, is_state_of}
 use Rattle.instrument.specs.Settings.{settings_n, held, padded}
 use Rattle.instrument.specs.declared.settings.Series.{Series}
 use Rattle.instrument.specs.declared.settings.Series.TheVariants.{Tps100, Tps300}
-use Rattle.instrument.specs.declared.values.Kept.{Kept}
-use Rattle.instrument.specs.declared.values.Kept.TheVariants.{Never, Put}
-use Rattle.instrument.specs.declared.values.Value.{Value}
 use Rattle.state.specs.declared.entries.Item.{Item}
 use Rattle.state.specs.declared.entries.Item.TheVariants.{Free, Setting, Stored}
 use Rattle.state.specs.declared.entries.Entry.{Entry}
@@ -52,8 +49,8 @@ image_n = image_nOf entries_n
 
 -- never put, or unit, sign and eight characters
 unfoldable pub kept_bytes : Kept → List ℕ
-kept_bytes Never = 0 ∷ 0 ∷ 0 ∷ 0 ∷ 0 ∷ 0 ∷ 0 ∷ 0 ∷ 0 ∷ 0 ∷ 0 ∷ []
-kept_bytes (Put u m d) = 1 ∷ u ∷ m ∷ eight_bytes d
+kept_bytes None = 0 ∷ 0 ∷ 0 ∷ 0 ∷ 0 ∷ 0 ∷ 0 ∷ 0 ∷ 0 ∷ 0 ∷ 0 ∷ []
+kept_bytes (Some p) = 1 ∷ p.unit ∷ p.minus ∷ eight_bytes p.eight
 
 abbrev pub item_bytes : Item → List ℕ
 item_bytes Free = 0 ∷ 0 ∷ []
@@ -68,8 +65,8 @@ unfoldable pub flat : {A : Type 0} → (A → List ℕ) → List A → List ℕ
 flat f [] = []
 flat f (x ∷ xs) = f x ++ flat f xs
 
-abbrev pub values_bytes : List Value → List ℕ
-values_bytes = flat (λ (v : Value). kept_bytes v.kept)
+abbrev pub values_bytes : List Kept → List ℕ
+values_bytes = flat kept_bytes
 
 abbrev pub entries_bytes : List Entry → List ℕ
 entries_bytes = flat entry_bytes
@@ -78,7 +75,7 @@ entries_bytes = flat entry_bytes
 abbrev pub count_bytes : ℕ → List ℕ
 count_bytes n = (n / 256 % 256) ∷ (n % 256) ∷ []
 
-abbrev pub rest_of : List Value → ℕ → List Entry → List ℕ
+abbrev pub rest_of : List Kept → ℕ → List Entry → List ℕ
 rest_of values count undo = values_bytes values ++ (count_bytes count ++ entries_bytes undo)
 
 -- series and form, settings, values, count, entries
@@ -89,7 +86,7 @@ abbrev pub encoded_in : State → List ℕ → List ℕ
 encoded_in s image = cond (eqb (length image) (image_n s.series)) (image_of s) image
 
 abbrev pub kept_in : List ℕ → Kept
-kept_in l = cond (eqb (get_or l 0 0) 1) (Put (get_or l 1 0) (get_or l 2 0) (eight_of (drop 3 l))) Never
+kept_in l = cond (eqb (get_or l 0 0) 1) (put_of (get_or l 1 0) (get_or l 2 0) (eight_of (drop 3 l))) None
 
 abbrev pub item_in : List ℕ → Item
 item_in l = cond (eqb (get_or l 0 0) 1) (Setting (get_or l 1 0)) (cond (eqb (get_or l 0 0) 2) (Stored (get_or l 1 0)) Free)
@@ -102,8 +99,8 @@ unfoldable pub rows_in : {A : Type 0} → (List ℕ → A) → ℕ → ℕ → L
 rows_in g w zero l = []
 rows_in g w (suc n) l = g (take w l) ∷ rows_in g w n (drop w l)
 
-abbrev pub values_in : List ℕ → List Value
-values_in = rows_in (λ (l : List ℕ). value_of (kept_in l)) value_n values_n
+abbrev pub values_in : List ℕ → List Kept
+values_in = rows_in kept_in value_n values_n
 
 abbrev pub entries_in_of : ℕ → List ℕ → List Entry
 entries_in_of = rows_in entry_in entry_n

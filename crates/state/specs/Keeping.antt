@@ -1,14 +1,11 @@
 -- How the code keeps an image: judged where it lies, read at its places, and laid down in part. `image_by`, in proofs/Judged.antt, shows that what is
 -- judged is what an image is; proofs/Places.antt, that what is read is the state's, and that what is laid down is the image of the state so altered.
-use Rattle.std.specs.Prelude.{ℕ, zero, suc, ◌+◌, ◌-◌, ◌*◌, min, ◌≡◌, Bool, true, false, cond, ◌&&◌, List, [], ◌∷◌, ◌++◌, map, eqb, leb, ltb, length, get_or, set, take, drop, replicate}
+use Rattle.std.specs.Prelude.{ℕ, zero, suc, ◌+◌, ◌-◌, ◌*◌, min, ◌≡◌, Bool, true, false, cond, ◌&&◌, None, List, [], ◌∷◌, ◌++◌, map, eqb, leb, ltb, length, get_or, set, take, drop, replicate}
 use Rattle.figures.specs.Bytes.{every, within, same_bytes}
 use Rattle.instrument.specs.Settings.{settings_n, settings_most, rows_of, in_ranges, held, padded}
-use Rattle.instrument.specs.Values.{values_n, is_put, kept_right}
+use Rattle.instrument.specs.Values.{Kept, values_n, is_put, kept_right}
 use Rattle.instrument.specs.declared.settings.Series.{Series}
-use Rattle.instrument.specs.declared.values.Kept.{Kept}
-use Rattle.instrument.specs.declared.values.Kept.TheVariants.{Never}
-use Rattle.instrument.specs.declared.values.Value.{Value}
-use Rattle.state.specs.Entries.{entries_n, value_of, blank_entry, entry_right}
+use Rattle.state.specs.Entries.{entries_n, blank_entry, entry_right}
 use Rattle.state.specs.Image.{form_of, value_n, entry_n, values_at, count_at, entries_at, image_n, kept_bytes, entry_bytes, count_bytes, values_bytes}
 use Rattle.state.specs.Image.{kept_in, entry_in, rows_in, values_in, count_from, series_in, is_image}
 use Rattle.state.specs.declared.entries.Item.{Item}
@@ -16,8 +13,8 @@ use Rattle.state.specs.declared.entries.Item.TheVariants.{Free, Setting, Stored}
 use Rattle.state.specs.declared.entries.Entry.{Entry}
 use Rattle.state.specs.declared.entries.State.{State}
 
-abbrev pub puts_of : List Value → List Bool
-puts_of = map (λ (v : Value). is_put v.kept)
+abbrev pub puts_of : List Kept → List Bool
+puts_of = map is_put
 
 -- which values are put, once an entry is taken back; a value that is never put then may not be named
 abbrev pub back_right : List Bool → Item → Bool
@@ -89,7 +86,7 @@ count_in k l = count_from (drop (values_at k) l)
 abbrev pub stored_in : Series → ℕ → List ℕ → Kept
 stored_in k i l =
     let at = values_at k + i * value_n in
-    cond (ltb i values_n && leb (at + value_n) (length l)) (kept_in (take value_n (drop at l))) Never
+    cond (ltb i values_n && leb (at + value_n) (length l)) (kept_in (take value_n (drop at l))) None
 
 -- the entry at a place of the list; past the last, and past the end of the bytes, blank
 abbrev pub entry_at : Series → ℕ → List ℕ → Entry
@@ -98,8 +95,8 @@ entry_at k n l =
     cond (ltb n entries_n && leb (at + entry_n) (length l)) (entry_in (take entry_n (drop at l))) blank_entry
 
 -- values and entries from bytes as many as an image has for them, and blank otherwise; entries past the count are blank
-abbrev pub values_read : List ℕ → List Value
-values_read l = cond (eqb (length l) (values_n * value_n)) (values_in l) (replicate values_n (value_of Never))
+abbrev pub values_read : List ℕ → List Kept
+values_read l = cond (eqb (length l) (values_n * value_n)) (values_in l) (replicate values_n None)
 
 abbrev pub entries_read : ℕ → List ℕ → List Entry
 entries_read count l =
@@ -139,5 +136,5 @@ cleared k l =
     let at = values_at k + entries_at in
     cond (leb (at + n) (length l)) (count_laid k 0 (laid_at at (replicate n 0) l)) l
 
-abbrev pub contents_laid : Series → List ℕ → List Value → List ℕ → List ℕ
+abbrev pub contents_laid : Series → List ℕ → List Kept → List ℕ → List ℕ
 contents_laid k settings values l = laid_at 1 (held k settings ++ values_bytes values) l

@@ -2,9 +2,8 @@
 ghost use Rattle.std.specs.Prelude.{◌≡◌};
 ghost use Rattle.state.specs.Entries.{blank_entry, settable};
 
-use figures::casts::wide;
 use instrument::settings::{SETTINGS, Series, in_range, row_at, settings_of};
-use instrument::values::{Kept, VALUES, Value};
+use instrument::values::{Kept, VALUES};
 
 pub const ENTRIES: usize = 64;
 
@@ -34,7 +33,7 @@ pub struct Entry {
 pub struct State {
     pub series: Series,
     pub settings: [u8; SETTINGS],
-    pub values: [Value; VALUES],
+    pub values: [Kept; VALUES],
     pub undo: [Entry; ENTRIES],
     pub count: usize,
 }
@@ -43,37 +42,19 @@ pub struct State {
 pub fn blank_entry() -> Entry
     ensures { result ≡ blank_entry }
 {
-    let item = Item::Free;
-    let kept = Kept::Never;
-    let former = Former {
-        parameter: 0,
-        kept: kept,
-    };
     Entry {
-        item: item,
-        former: former,
+        item: Item::Free,
+        former: Former {
+            parameter: 0,
+            kept: None,
+        },
     }
 }
 
-fn settable_in(series: Series, place: usize, parameter: u8) -> bool
-    ensures { result ≡ settable series place parameter }
-{
-    if settings_of(series) <= place {
-        return false;
-    }
-    let row = row_at(series, place);
-    if row.asked {
-        return false;
-    }
-    in_range(row, wide(parameter))
-}
-
-// Tells whether a SET can leave the parameter at the place. The series is named so that the compiler knows the table.
+// Tells whether a SET can leave the parameter at the place.
 pub(crate) fn settable(series: Series, place: usize, parameter: u8) -> bool
     ensures { result ≡ settable series place parameter }
 {
-    match series {
-        Series::Tps100 => settable_in(Series::Tps100, place, parameter),
-        Series::Tps300 => settable_in(Series::Tps300, place, parameter),
-    }
+    let row = row_at(series, place);
+    place < settings_of(series) && !row.asked && in_range(row, u64::from(parameter))
 }

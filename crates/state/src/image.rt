@@ -4,10 +4,9 @@ ghost use Rattle.state.specs.Image.{form_of, values_at, value_n, entry_n, image_
 ghost use Rattle.state.specs.Keeping.{count_in, stored_in, entry_at, values_read, entries_read, state_of};
 
 use crate::entries::{ENTRIES, Entry, Former, Item, State, blank_entry};
-use figures::casts::place_of;
 use instrument::settings::{SETTINGS, Series, settings_of};
 use instrument::tps100::SETTINGS_100;
-use instrument::values::{Eight, Kept, VALUES, Value};
+use instrument::values::{Kept, Put, VALUES};
 
 // The bytes of a value, and of an entry.
 pub(crate) const VALUE: usize = 11;
@@ -38,6 +37,7 @@ pub(crate) fn form_of(series: Series) -> u8
 }
 
 // Tells where the values start: after the first byte and as many settings as the series has.
+#[tactic(auto, using(instrument::proofs::Ranges::settings_few))]
 pub fn values_at(series: Series) -> usize
     ensures { (result ≡ values_at series) × (result ≤ 31) }
 {
@@ -55,60 +55,43 @@ fn kept_in(s: &[u8]) -> Kept
     requires { length s.now ≡ value_n }
     ensures { result ≡ kept_in s.now }
 {
-    if s[0] == 1 {
-        let eight = Eight(s[3], s[4], s[5], s[6], s[7], s[8], s[9], s[10]);
-        return Kept::Put(s[1], s[2], eight);
+    if s[0] != 1 {
+        return None;
     }
-    Kept::Never
+    Some(Put {
+        unit: s[1],
+        minus: s[2],
+        eight: [s[3], s[4], s[5], s[6], s[7], s[8], s[9], s[10]],
+    })
 }
 
 fn entry_in(s: &[u8]) -> Entry
     requires { length s.now ≡ entry_n }
     ensures { result ≡ entry_in s.now }
 {
-    let kept = kept_in(&s[3..14]);
-    let former = Former {
-        parameter: s[2],
-        kept: kept,
+    let item = match s[0] {
+        1 => Item::Setting(s[1]),
+        2 => Item::Stored(s[1]),
+        _ => Item::Free,
     };
-    if s[0] == 1 {
-        let item = Item::Setting(s[1]);
-        return Entry {
-            item: item,
-            former: former,
-        };
-    }
-    if s[0] == 2 {
-        let item = Item::Stored(s[1]);
-        return Entry {
-            item: item,
-            former: former,
-        };
-    }
-    let item = Item::Free;
     Entry {
-        item: item,
-        former: former,
+        item,
+        former: Former {
+            parameter: s[2],
+            kept: kept_in(&s[3..14]),
+        },
     }
 }
 
-fn values_in(s: &[u8]) -> [Value; VALUES]
+fn values_in(s: &[u8]) -> [Kept; VALUES]
     ensures { result ≡ values_read s.now }
 {
-    let never = Kept::Never;
-    let value = Value { kept: never };
-    let mut values = [value; VALUES];
-    let mut n = VALUES;
-    if s.len() != COUNT_AT {
-        n = 0;
-    }
-    let mut i = 0;
-    while i < n {
-        let a = i * VALUE;
-        let z = a + VALUE;
-        let kept = kept_in(&s[a..z]);
-        values[i] = Value { kept: kept };
-        i += 1;
+    let mut values = [None; VALUES];
+    if s.len() == COUNT_AT {
+        for (i, value) in values.iter_mut().enumerate() {
+            let a = i * VALUE;
+            *value = kept_in(&s[a..a + VALUE]);
+        }
     }
     values
 }
@@ -117,21 +100,13 @@ fn values_in(s: &[u8]) -> [Value; VALUES]
 fn entries_in(s: &[u8], count: usize) -> [Entry; ENTRIES]
     ensures { result ≡ entries_read count s.now }
 {
-    let entry = blank_entry();
-    let mut undo = [entry; ENTRIES];
-    let mut n = count;
-    if ENTRIES < n {
-        n = ENTRIES;
-    }
-    if s.len() != ENTRIES * ENTRY {
-        n = 0;
-    }
-    let mut i = 0;
-    while i < n {
-        let a = i * ENTRY;
-        let z = a + ENTRY;
-        undo[i] = entry_in(&s[a..z]);
-        i += 1;
+    let blank = blank_entry();
+    let mut undo = [blank; ENTRIES];
+    if s.len() == ENTRIES * ENTRY {
+        for i in 0..count.min(ENTRIES) {
+            let a = i * ENTRY;
+            undo[i] = entry_in(&s[a..a + ENTRY]);
+        }
     }
     undo
 }
@@ -139,10 +114,7 @@ fn entries_in(s: &[u8], count: usize) -> [Entry; ENTRIES]
 fn byte_at(s: &[u8], at: usize) -> u8
     ensures { result ≡ get_or s.now at 0 }
 {
-    if s.len() <= at {
-        return 0;
-    }
-    s[at]
+    s.get(at).copied().unwrap_or(0)
 }
 
 // Reads the series that the first byte says.
@@ -150,9 +122,10 @@ pub fn series_in(image: &[u8]) -> Series
     ensures { result ≡ series_in image.now }
 {
     if byte_at(image, 0) == 17 {
-        return Series::Tps300;
+        Series::Tps300
+    } else {
+        Series::Tps100
     }
-    Series::Tps100
 }
 
 // Reads how many entries stand.
@@ -160,8 +133,8 @@ pub fn count_in(series: Series, image: &[u8]) -> usize
     ensures { result ≡ count_in series image.now }
 {
     let at = values_at(series) + COUNT_AT;
-    let high = place_of(byte_at(image, at));
-    let low = place_of(byte_at(image, at + 1));
+    let high = usize::from(byte_at(image, at));
+    let low = usize::from(byte_at(image, at + 1));
     high * 256 + low
 }
 
@@ -180,12 +153,12 @@ pub fn value_in(series: Series, place: usize, image: &[u8]) -> Kept
     ensures { result ≡ stored_in series place image.now }
 {
     if VALUES <= place {
-        return Kept::Never;
+        return None;
     }
     let a = values_at(series) + place * VALUE;
     let z = a + VALUE;
     if image.len() < z {
-        return Kept::Never;
+        return None;
     }
     kept_in(&image[a..z])
 }
@@ -205,7 +178,7 @@ pub fn entry_at(series: Series, n: usize, image: &[u8]) -> Entry
     entry_in(&image[a..z])
 }
 
-// Reads a state from the parts of its image: parameters, stored values, entries up to the count. Only SET, PUT and UNDO ask for it.
+// Reads a state from the parts of its image: parameters, stored values, entries up to the count, for a caller that wants the whole state.
 pub fn state_of(
     series: Series,
     parameters: &[u8],
@@ -217,13 +190,11 @@ pub fn state_of(
 {
     let mut settings = [0; SETTINGS];
     figures::lay(parameters, &mut settings);
-    let values = values_in(stored);
-    let undo = entries_in(entries, count);
     State {
-        series: series,
-        settings: settings,
-        values: values,
-        undo: undo,
-        count: count,
+        series,
+        settings,
+        values: values_in(stored),
+        undo: entries_in(entries, count),
+        count,
     }
 }

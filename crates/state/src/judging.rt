@@ -9,7 +9,6 @@ use crate::entries::{ENTRIES, settable};
 use crate::image::{
     COUNT_AT, ENTRIES_AT, ENTRY, REST, VALUE, count_in, form_of, image_size, series_in, values_at,
 };
-use figures::casts::place_of;
 use instrument::settings::{Series, in_ranges};
 use instrument::values::{VALUES, parts_right};
 
@@ -19,27 +18,22 @@ fn value_right(place: usize, s: &[u8]) -> bool
     requires { length s.now ≡ value_n }
     ensures { result ≡ value_lies place s.now }
 {
-    if s[0] == 0 {
-        return figures::all_within(&s[1..11], 0, 0);
+    match s[0] {
+        0 => figures::all_within(&s[1..11], 0, 0),
+        1 => parts_right(place, &s[1..11]),
+        _ => false,
     }
-    if s[0] != 1 {
-        return false;
-    }
-    parts_right(place, &s[1..11])
 }
 
 fn values_right(s: &[u8]) -> bool
     requires { length s.now ≡ values_n * value_n }
     ensures { result ≡ values_lie 0 values_n s.now }
 {
-    let mut i = 0;
-    while i < VALUES {
+    for i in 0..VALUES {
         let a = i * VALUE;
-        let z = a + VALUE;
-        if !value_right(i, &s[a..z]) {
+        if !value_right(i, &s[a..a + VALUE]) {
             return false;
         }
-        i += 1;
     }
     true
 }
@@ -50,10 +44,8 @@ fn puts_in(s: &[u8]) -> [bool; VALUES]
     ensures { result ≡ puts_of (values_in s.now) }
 {
     let mut puts = [false; VALUES];
-    let mut i = 0;
-    while i < VALUES {
-        puts[i] = s[i * VALUE] == 1;
-        i += 1;
+    for (i, put) in puts.iter_mut().enumerate() {
+        *put = s[i * VALUE] == 1;
     }
     puts
 }
@@ -63,23 +55,12 @@ fn entry_right(series: Series, e: &[u8]) -> bool
     requires { length e.now ≡ entry_n }
     ensures { result ≡ entry_lies series e.now }
 {
-    let place = place_of(e[1]);
-    if e[0] == 1 {
-        if !settable(series, place, e[2]) {
-            return false;
-        }
-        return figures::all_within(&e[3..14], 0, 0);
+    let place = usize::from(e[1]);
+    match e[0] {
+        1 => settable(series, place, e[2]) && figures::all_within(&e[3..14], 0, 0),
+        2 => place < VALUES && e[2] == 0 && value_right(place, &e[3..14]),
+        _ => false,
     }
-    if e[0] != 2 {
-        return false;
-    }
-    if VALUES <= place {
-        return false;
-    }
-    if e[2] != 0 {
-        return false;
-    }
-    value_right(place, &e[3..14])
 }
 
 // Tells whether the entries up to the count may stand and, taken back newest first, none names a value then never put: all in one pass.
@@ -88,17 +69,14 @@ fn entries_right(series: Series, values: &[u8], s: &[u8], count: usize) -> bool
     ensures { result ≡ entries_lie series count (puts_of (values_in values.now)) s.now }
 {
     let mut puts = puts_in(values);
-    let mut n = count;
-    while 0 < n {
-        n -= 1;
+    for n in (0..count).rev() {
         let a = n * ENTRY;
-        let z = a + ENTRY;
-        let e = &s[a..z];
+        let e = &s[a..a + ENTRY];
         if !entry_right(series, e) {
             return false;
         }
         if e[0] == 2 {
-            let place = place_of(e[1]);
+            let place = usize::from(e[1]);
             if !puts[place] {
                 return false;
             }
@@ -114,10 +92,7 @@ pub fn is_image(image: &[u8]) -> bool
     ensures { result ≡ is_image image.now }
 {
     let series = series_in(image);
-    if image.len() != image_size(series) {
-        return false;
-    }
-    if image[0] != form_of(series) {
+    if image.len() != image_size(series) || image[0] != form_of(series) {
         return false;
     }
     let at = values_at(series);

@@ -1,5 +1,5 @@
 // An image laid down: a part of it, or the factory state.
-ghost use Rattle.std.specs.Prelude.{◌≡◌, ◌*◌, length, replicate};
+ghost use Rattle.std.specs.Prelude.{◌≡◌, ◌*◌, length};
 ghost use Rattle.state.specs.Entries.{factory_state};
 ghost use Rattle.instrument.specs.Values.{values_n};
 ghost use Rattle.state.specs.Image.{value_n, kept_bytes, item_bytes, entry_bytes, values_bytes, encoded_in};
@@ -8,14 +8,20 @@ ghost use Rattle.state.specs.Keeping.{laid_at, parameter_laid, value_laid, entry
 use crate::entries::{ENTRIES, Entry, Item};
 use crate::image::{COUNT_AT, ENTRIES_AT, ENTRY, VALUE, count_in, form_of, image_size, values_at};
 use instrument::settings::{SETTINGS, Series, factory_settings};
-use instrument::values::{Kept, VALUES, Value};
+use instrument::values::{Kept, VALUES};
 
+#[tactic(auto, unfolding(crate::specs::Image::kept_bytes))]
 fn kept_bytes(kept: Kept) -> [u8; VALUE]
     ensures { result ≡ kept_bytes kept }
 {
     match kept {
-        Kept::Never => [0; VALUE],
-        Kept::Put(unit, minus, d) => [1, unit, minus, d.0, d.1, d.2, d.3, d.4, d.5, d.6, d.7],
+        None => [0; VALUE],
+        Some(put) => {
+            let d = put.eight;
+            [
+                1, put.unit, put.minus, d[0], d[1], d[2], d[3], d[4], d[5], d[6], d[7],
+            ]
+        }
     }
 }
 
@@ -33,30 +39,21 @@ fn item_bytes(item: Item) -> [u8; 2]
 fn entry_bytes(entry: Entry) -> [u8; ENTRY]
     ensures { result ≡ entry_bytes entry }
 {
-    let item = entry.item;
-    let former = entry.former;
-    let kept = former.kept;
-    let a = item_bytes(item);
-    let b = kept_bytes(kept);
-    let p = former.parameter;
+    let a = item_bytes(entry.item);
+    let b = kept_bytes(entry.former.kept);
+    let p = entry.former.parameter;
     [
         a[0], a[1], p, b[0], b[1], b[2], b[3], b[4], b[5], b[6], b[7], b[8], b[9], b[10],
     ]
 }
 
-fn put_values(values: [Value; VALUES], out: &mut [u8])
+fn put_values(values: [Kept; VALUES], out: &mut [u8])
     requires { length out.old ≡ values_n * value_n }
     ensures { out.new ≡ values_bytes values }
 {
-    let mut i = 0;
-    while i < VALUES {
-        let value = values[i];
-        let kept = value.kept;
-        let b = kept_bytes(kept);
+    for (i, kept) in values.iter().enumerate() {
         let a = i * VALUE;
-        let z = a + VALUE;
-        figures::lay(&b, &mut out[a..z]);
-        i += 1;
+        figures::lay(&kept_bytes(*kept), &mut out[a..a + VALUE]);
     }
 }
 
@@ -64,15 +61,10 @@ fn put_values(values: [Value; VALUES], out: &mut [u8])
 fn lay_at(w: &[u8], at: usize, image: &mut [u8])
     ensures { image.new ≡ laid_at at w.now image.old }
 {
-    if image.len() < at {
+    if image.len() < at || image.len() - at < w.len() {
         return;
     }
-    let left = image.len() - at;
-    if left < w.len() {
-        return;
-    }
-    let z = at + w.len();
-    figures::lay(w, &mut image[at..z]);
+    figures::lay(w, &mut image[at..at + w.len()]);
 }
 
 // Lays the parameter of the setting at a place down; it does nothing where its byte isn't there.
@@ -92,8 +84,7 @@ pub fn put_value(series: Series, place: usize, kept: Kept, image: &mut [u8])
     if VALUES <= place {
         return;
     }
-    let b = kept_bytes(kept);
-    lay_at(&b, values_at(series) + place * VALUE, image);
+    lay_at(&kept_bytes(kept), values_at(series) + place * VALUE, image);
 }
 
 // Lays the entry at a place of the list down; it does nothing where its bytes aren't there.
@@ -103,8 +94,11 @@ pub fn put_entry(series: Series, n: usize, entry: Entry, image: &mut [u8])
     if ENTRIES <= n {
         return;
     }
-    let b = entry_bytes(entry);
-    lay_at(&b, values_at(series) + ENTRIES_AT + n * ENTRY, image);
+    lay_at(
+        &entry_bytes(entry),
+        values_at(series) + ENTRIES_AT + n * ENTRY,
+        image,
+    );
 }
 
 // Lays the number of entries down; it does nothing where its bytes aren't there.
@@ -113,16 +107,6 @@ pub fn put_count(series: Series, count: usize, image: &mut [u8])
 {
     let b = [(count / 256 % 256) as u8, (count % 256) as u8];
     lay_at(&b, values_at(series) + COUNT_AT, image);
-}
-
-fn blank(out: &mut [u8])
-    ensures { out.new ≡ replicate (length out.old) 0 }
-{
-    let mut i = 0;
-    while i < out.len() {
-        out[i] = 0;
-        i += 1;
-    }
 }
 
 // Blanks the entries up to the count, and the count. In an image the rest is blank already.
@@ -135,7 +119,7 @@ pub fn clear(series: Series, image: &mut [u8])
     if image.len() < z {
         return;
     }
-    blank(&mut image[a..z]);
+    image[a..z].fill(0);
     put_count(series, 0, image);
 }
 
@@ -143,7 +127,7 @@ pub fn clear(series: Series, image: &mut [u8])
 pub fn put_contents(
     series: Series,
     settings: [u8; SETTINGS],
-    values: [Value; VALUES],
+    values: [Kept; VALUES],
     image: &mut [u8],
 )
     ensures { image.new ≡ contents_laid series settings values image.old }
@@ -164,9 +148,7 @@ pub fn put_factory(series: Series, image: &mut [u8])
     if image.len() != image_size(series) {
         return;
     }
-    blank(image);
+    image.fill(0);
     image[0] = form_of(series);
-    let at = values_at(series);
-    let settings = factory_settings(series);
-    figures::lay(&settings, &mut image[1..at]);
+    figures::lay(&factory_settings(series), &mut image[1..values_at(series)]);
 }

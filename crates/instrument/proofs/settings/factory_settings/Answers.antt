@@ -1,22 +1,14 @@
--- `factory_settings` meets its contract: a turn of its loop is a row of the table.
-use Rattle.std.proofs.Common.{arith, sym, ◌∙◌}
-use Rattle.std.proofs.Math.ListN.{length-set}
-use Rattle.instrument.specs.Settings.{held_rows, no_row, factory_of}
-use Rattle.instrument.proofs.Ranges.{held_rows_long, place_row, map_more, map_all}
+-- A turn of the loop is a row of the table.
+use Rattle.std.proofs.Common.{length-set}
+use Rattle.instrument.proofs.Ranges.{factory_more, factory_all}
 use Rattle.instrument.proofs.settings.factory_settings.Goals as goal
 
 pub loop-i-preserved : goal.loop-i-preserved
 loop-i-preserved c =
     let at = c.loop-i in
-    let k = c.args.series in (
-      omega arith,
-      rw length-set at.invariant.1,
-      rw (c.row_at-row.ensures ∙ sym (place_row k at.i))
-          (map_more factory_of (held_rows k) at.settings no_row at.i (omega (arith, held_rows_long k)) (omega arith) at.invariant.2),
-    )
+    (rw length-set at.invariant.0, rw c.row_at.ensures (factory_more c.args.series at.parameter-items at.i at.invariant.0 c.loop-i-test.true at.invariant.1))
 
 pub returns : goal.returns
 returns c =
     let at = c.loop-i in
-    let k = c.args.series in
-    map_all factory_of (held_rows k) at.settings at.i (omega (arith, held_rows_long k)) (omega arith) at.invariant.2
+    factory_all c.args.series at.parameter-items at.i at.invariant.0 c.loop-i-test.false at.invariant.1

@@ -1,83 +1,66 @@
 -- The tests on the parts are the rules for the word that they make.
-use Rattle.std.proofs.Common.{◌≡◌, ℕ, ◌<◌, ◌≤◌, true, false, List, length, get_or, take, drop, sym, ap, ◌∙◌, arith}
-use borrow.Author.Tests.{eq-eqb, ne_eqb, ltb-true, ltb-false}
-use lib.Dec.{ltb}
+use Rattle.std.proofs.Common.{◌≡◌, ◌≤◌, get_or, refl, sym, ◌∙◌, length, take, drop, arith, rules, tests}
+use Rattle.std.specs.Prelude.{ℕ, Bool, false, ◌&&◌, List, Option, Some, None, MatchOption}
+use Rattle.std.proofs.Math.Seq.{length-take-le}
+use Rattle.std.proofs.Math.ListN.{length-drop}
+use borrow.Author.Tests.{eq-eqb, ne_eqb, le-leb}
 use Rattle.figures.specs.Bytes.{every}
-use Rattle.figures.specs.Decimal.{is_digit, number_in}
-use Rattle.figures.specs.declared.Said.{Said}
-use Rattle.figures.specs.declared.Said.TheVariants as said
-use Rattle.figures.proofs.Tests.{by_test, and_on, and_off}
+use lib.Dec.{leb}
+use Rattle.figures.specs.Decimal.{is_digit, number_of, number_in}
+use Rattle.figures.proofs.Tests.{both, and_on, and_off}
+use Rattle.words.proofs.Checks.{said_not, said_number}
 use Rattle.units.specs.Counts.{angle_at}
 use Rattle.words.specs.Reading.{is_counted}
-use Rattle.words.proofs.Checks.{said_number}
-use Rattle.instrument.specs.Values.{values_n, parts_n, parts_right, stored_at}
 use Rattle.instrument.proofs.Kept.{parts_past, parts_text, parts_length, parts_angle}
+use Rattle.instrument.proofs.values.parts_right.Goals.{then-parts-ne10-via-then-parts-ne10, then-parts-ne10-via-else-parts-ne10+then-place-ge-VALUES}
 use Rattle.instrument.proofs.values.parts_right.Goals as goal
 
--- parts that lie there, with a place that there is, a sign and a unit of the place
-module _ (place : ℕ) (l : List ℕ) (long : length l ≡ parts_n) (there : place < values_n) (small : get_or l 1 0 ≤ 1)
-    (low : (stored_at place).first ≤ get_or l 0 0) (high : get_or l 0 0 ≤ (stored_at place).last) where
-  abbrev characters : List ℕ
-  characters = take 8 (drop 2 l)
+-- what `is_some_and` tells of a number of eight characters
+counted : (s : List ℕ) {r : Option ℕ} {b : Bool} (t : ℕ → Bool) {P : ℕ → Type 0} → length s ≤ 16 → r ≡ number_in s → MatchOption r (b ≡ false) P → ((n : ℕ) → P n → b ≡ t n)
+    → b ≡ every is_digit s && t (number_of s)
+counted s {r = None} t few e told by = told ∙ sym (and_off _ (sym (and_on (le-leb (length s) 16 few)) ∙ said_not s e refl))
+counted s {r = Some n} t few e told by =
+    let ok = said_number s e refl in
+    let digits = (both (leb (length s) 16) (every is_digit s) ok.0).1 in
+    by n told ∙ rw ok.1 (sym (and_on digits))
 
-  -- with a byte among the characters that is no digit, where the unit is not of text
-  none : (get_or l 0 0 ≡ 46 → ⊥) → every is_digit characters ≡ false → parts_right place l ≡ false
-  none number off =
-      by_test (ltb (get_or l 0 0) 50)
-      (λ e. parts_length place l long there small low high number (ltb-true _ 50 e) ∙ off)
-      (λ e. parts_angle place l long there small low high (ltb-false _ 50 e) ∙ and_off _ off)
+pub returns-then-parts-ne10 : goal.returns-then-parts-ne10
+returns-then-parts-ne10 c =
+    elim c.then-parts-ne10.branch [
+      | then-parts-ne10-via-then-parts-ne10 w ↦ sym (and_off _ (ne_eqb _ 10 w.if-parts-ne10.true))
+      | then-parts-ne10-via-else-parts-ne10+then-place-ge-VALUES w ↦ sym (parts_past c.args.place c.args.parts.now w.if-parts-ne10.false w.if-place-ge-VALUES.true)
+    ]
 
-  -- an angle, whose digits are read
-  counted : 50 ≤ get_or l 0 0 → every is_digit characters ≡ true → {r : Said} {n : ℕ} → r ≡ number_in characters → r ≡ said.Number n
-      → parts_right place l ≡ is_counted (angle_at (get_or l 0 0) (get_or l 1 0) n)
-  counted far digits e is =
-      let ok = said_number characters e is in
-      parts_angle place l long there small low high far ∙ and_on digits ∙ rw (← ok.1)
-
-pub returns-then-place-ge-VALUES : goal.returns-then-place-ge-VALUES
-returns-then-place-ge-VALUES c = sym (parts_past c.args.place c.args.parts.now c.if-parts-ne10.false c.if-place-ge-VALUES.true)
-
-pub returns-then-minus-ne0 : goal.returns-then-minus-ne0
-returns-then-minus-ne0 c =
-    let row = c.stored_at-row.ensures in
-    sym (parts_text c.args.place c.args.parts.now c.if-parts-ne10.false c.if-place-ge-VALUES.false (omega arith)
-    (rw row at c.if-unit-row.false) (rw row at c.if-row-unit.false) c.if-unit-eq46.true
-    ∙ and_off _ (ne_eqb _ 0 c.if-minus-ne0.true))
-
-pub returns-then-unit-eq46 : goal.returns-then-unit-eq46
-returns-then-unit-eq46 c =
+pub returns-then-minus-eq0 : goal.returns-then-minus-eq0
+returns-then-minus-eq0 c =
     let row = c.stored_at-row.ensures in
     c.all_within.ensures
     ∙ sym (parts_text c.args.place c.args.parts.now c.if-parts-ne10.false c.if-place-ge-VALUES.false (omega arith)
     (rw row at c.if-unit-row.false) (rw row at c.if-row-unit.false) c.if-unit-eq46.true
-    ∙ and_on (eq-eqb _ 0 c.if-minus-ne0.false))
+    ∙ and_on (eq-eqb _ 0 c.if-minus-eq0.true))
 
-pub returns-then-not-all_within : goal.returns-then-not-all_within
-returns-then-not-all_within c =
+pub returns-else-minus-eq0 : goal.returns-else-minus-eq0
+returns-else-minus-eq0 c =
     let row = c.stored_at-row.ensures in
-    sym (none c.args.place c.args.parts.now c.if-parts-ne10.false c.if-place-ge-VALUES.false (omega arith)
-    (rw row at c.if-unit-row.false) (rw row at c.if-row-unit.false) c.if-unit-eq46.false
-    (sym c.all_within-2.ensures ∙ c.if-not-all_within.true))
+    let minus = ne_eqb _ 0 c.if-minus-eq0.false in
+    minus
+    ∙ sym (parts_text c.args.place c.args.parts.now c.if-parts-ne10.false c.if-place-ge-VALUES.false (omega arith)
+    (rw row at c.if-unit-row.false) (rw row at c.if-row-unit.false) c.if-unit-eq46.true
+    ∙ and_off _ minus)
 
 pub returns-then-unit-lt50 : goal.returns-then-unit-lt50
 returns-then-unit-lt50 c =
     let row = c.stored_at-row.ensures in
-    sym (parts_length c.args.place c.args.parts.now c.if-parts-ne10.false c.if-place-ge-VALUES.false (omega arith)
-    (rw row at c.if-unit-row.false) (rw row at c.if-row-unit.false) c.if-unit-eq46.false c.if-unit-lt50.true
-    ∙ sym c.all_within-2.ensures ∙ c.if-not-all_within.false)
+    c.all_within-then-unit-lt50.ensures
+    ∙ sym (parts_length c.args.place c.args.parts.now c.if-parts-ne10.false c.if-place-ge-VALUES.false (omega arith)
+    (rw row at c.if-unit-row.false) (rw row at c.if-row-unit.false) c.if-unit-eq46.false c.if-unit-lt50.true)
 
-pub returns-in-Not : goal.returns-in-Not
-returns-in-Not c =
+pub returns : goal.returns
+returns c =
     let row = c.stored_at-row.ensures in
-    sym (counted c.args.place c.args.parts.now c.if-parts-ne10.false c.if-place-ge-VALUES.false (omega arith)
-    (rw row at c.if-unit-row.false) (rw row at c.if-row-unit.false) c.if-unit-lt50.false
-    (sym c.all_within-2.ensures ∙ c.if-not-all_within.false) c.number.ensures c.in-Number.is
-    ∙ ap is_counted (sym c.angle_at-value.ensures ∙ c.in-Not.is))
-
-pub returns-in_default-value : goal.returns-in_default-value
-returns-in_default-value c =
-    let row = c.stored_at-row.ensures in
-    sym (counted c.args.place c.args.parts.now c.if-parts-ne10.false c.if-place-ge-VALUES.false (omega arith)
-    (rw row at c.if-unit-row.false) (rw row at c.if-row-unit.false) c.if-unit-lt50.false
-    (sym c.all_within-2.ensures ∙ c.if-not-all_within.false) c.number.ensures c.in-Number.is
-    ∙ ap is_counted (sym c.angle_at-value.ensures ∙ c.in_default-value.is))
+    let l = c.args.parts.now in
+    let eight = take 8 (drop 2 l) in
+    let few : length eight ≤ 16 = omega (arith, length-take-le 8 (drop 2 l) (omega (arith, length-drop 2 l))) in
+    counted eight (λ n. is_counted (angle_at (get_or l 0 0) (get_or l 1 0) n)) few c.number.ensures c.is_some_and.ensures (λ n p. search (rules, tests))
+    ∙ sym (parts_angle c.args.place l c.if-parts-ne10.false c.if-place-ge-VALUES.false (omega arith)
+    (rw row at c.if-unit-row.false) (rw row at c.if-row-unit.false) c.if-unit-lt50.false)
