@@ -3,3 +3,4 @@ pub mod Noughts
 pub mod Told
 pub mod Mended
 pub mod Remembered
+pub mod Alike

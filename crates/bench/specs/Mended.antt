@@ -1,14 +1,14 @@
 -- The bench readings of request 105: what a printed block is mended to, with its edits, or by what it is refused.
-use Rattle.std.specs.Prelude.{ℕ, ◌-◌, ◌≡◌, List, [], ◌∷◌, ◌++◌, length, replicate}
+use Rattle.blocks.specs.declared.answers.Refusal.{Refusal}
+use Rattle.std.specs.Prelude.{ℕ, Result, Ok, Err, ◌≡◌, List, [], ◌∷◌, ◌++◌, length, replicate}
 use Prim.Native.String.{String}
 use Rattle.figures.specs.Text.{codes}
 use Rattle.units.specs.declared.kinds.Family.{Family}
 use Rattle.blocks.specs.Answers.{refusal_number, refusal_tells}
 use Rattle.listings.specs.Edits.{dot_kind, blank_kind, cr_kind, edit}
-use Rattle.listings.specs.Outcome.{Outcome, outcome}
+use Rattle.listings.specs.Outcome.{outcome, mended_as}
 use Rattle.listings.specs.declared.edits.Edit.{Edit}
 use Rattle.listings.specs.declared.mending.Mended.{Mended}
-use Rattle.listings.specs.declared.mending.Mended.TheVariants.{Refused, Done}
 
 -- a block that is mended, in room and list of just its size, to these bytes, which read, by these edits; one that is refused, with so much room and so many
 -- places, by number and what it tells
@@ -16,17 +16,17 @@ pub data Printed : Type 0 where
   mended : List ℕ → List ℕ → List Edit → Printed
   refused : List ℕ → ℕ → ℕ → ℕ → ℕ → Printed
 
-abbrev pub mend_number : Mended → ℕ
-mend_number (Done n k) = 0
-mend_number (Refused r) = refusal_number r
+abbrev pub mend_number : Result Mended Refusal → ℕ
+mend_number (Ok m) = 0
+mend_number (Err r) = refusal_number r
 
-abbrev pub mend_tells : Mended → ℕ
-mend_tells (Done n k) = 0
-mend_tells (Refused r) = refusal_tells r
+abbrev pub mend_tells : Result Mended Refusal → ℕ
+mend_tells (Ok m) = 0
+mend_tells (Err r) = refusal_tells r
 
 abbrev pub HoldsPrinted : Family → Printed → Type 0
 HoldsPrinted f (mended s bytes es) =
-    outcome f s (replicate (length bytes) 0) (length es) ≡ record { answer = Done (length bytes) (length es); room = bytes; edits = es }
+    outcome f s (replicate (length bytes) 0) (length es) ≡ record { answer = mended_as (length bytes) (length es); room = bytes; edits = es }
 HoldsPrinted f (refused s room places number told) =
     let a = (outcome f s (replicate room 0) places).answer in (mend_number a ≡ number) × (mend_tells a ≡ told)
 

@@ -10,7 +10,7 @@ use Rattle.units.specs.declared.counts.Count.TheVariants.{Gon, Degree, Tenth, Mi
 use Rattle.words.specs.Records.{width}
 use Rattle.words.specs.Reading.{word_size}
 use Rattle.blocks.specs.Judging.{first_at}
-use Rattle.blocks.specs.declared.answers.Answer.{Answer}
+use Rattle.blocks.specs.Judging.{Answer}
 use Rattle.instrument.specs.Settings as own
 use Rattle.instrument.specs.declared.settings.Series.TheVariants.{Tps100}
 use Rattle.sheets.specs.Sheet.{sheet_of}

@@ -1,6 +1,6 @@
 -- "Bench readings, those with P to be proved": what is tried, and what is answered. "A word shown alone is a block of that word and a CR; the
 -- list has 32 places and the reply room 306 bytes." A line is sent with a CR to a fresh stand-in.
-use Rattle.std.specs.Prelude.{ℕ, ◌-◌, ◌≡◌, Bool, true, false, List, [], ◌∷◌, ◌++◌, map, length, replicate}
+use Rattle.std.specs.Prelude.{ℕ, ◌-◌, ◌≡◌, Bool, true, false, List, [], ◌∷◌, ◌++◌, map, length, replicate, Ok, Err}
 use Prim.Native.String.{String}
 use Rattle.figures.specs.Text.{codes}
 use Rattle.figures.specs.Bytes.{laid}
@@ -14,9 +14,7 @@ use Rattle.words.specs.declared.records.Word.{Word}
 use Rattle.blocks.specs.Answers.{refusal_number, refusal_tells}
 use Rattle.blocks.specs.Judging.{Judgement, is_wide, judged}
 use Rattle.blocks.specs.Composing.{Written·room, written}
-use Rattle.blocks.specs.declared.answers.Answer.{Answer}
-use Rattle.blocks.specs.declared.answers.Answer.TheVariants.{Refused, Read}
-use Rattle.blocks.specs.declared.answers.Wrote.TheVariants.{Written}
+use Rattle.blocks.specs.Judging.{Answer}
 use Rattle.instrument.specs.declared.settings.Series.TheVariants.{Tps100}
 use Rattle.state.specs.Entries.{factory_state}
 use Rattle.state.specs.declared.entries.State.{State}
@@ -45,19 +43,19 @@ pub data Trial : Type 0 where
   tells : List ℕ → ℕ → ℕ → ℕ → Trial
 
 abbrev pub answer_number : Answer → ℕ
-answer_number (Read r) = 0
-answer_number (Refused r) = refusal_number r
+answer_number (Ok r) = 0
+answer_number (Err r) = refusal_number r
 
 abbrev pub answer_place : Answer → ℕ
-answer_place (Read r) = 0
-answer_place (Refused r) = refusal_tells r
+answer_place (Ok r) = 0
+answer_place (Err r) = refusal_tells r
 
 abbrev pub reading : Family → List ℕ → Judgement
 reading f s = judged f s 32
 
 abbrev pub is_crlf : Answer → Bool
-is_crlf (Read r) = r.crlf
-is_crlf (Refused r) = false
+is_crlf (Ok r) = r.crlf
+is_crlf (Err r) = false
 
 -- what is read, written back into a room of the block's length
 abbrev pub back : Family → List ℕ → Written·room
@@ -69,7 +67,7 @@ reply line = step (factory_state Tps100) line reply_room
 abbrev pub Holds : Family → Trial → Type 0
 Holds f (accepted s answer words) = ((reading f s).answer ≡ answer) × (map (given_by f) (reading f s).words ≡ words)
 Holds f (returned s answer words) =
-    ((reading f s).answer ≡ answer) × (map (given_by f) (reading f s).words ≡ words) × (back f s ≡ record { answer = Written (length s); room = s })
+    ((reading f s).answer ≡ answer) × (map (given_by f) (reading f s).words ≡ words) × (back f s ≡ record { answer = Ok (length s); room = s })
 Holds f (refused s number place) = (answer_number (reading f s).answer ≡ number) × (answer_place (reading f s).answer ≡ place)
 Holds f (answered line number r) = (verdict_number (reply line).verdict ≡ number) × ((reply line).reply ≡ r)
 Holds f (tells line number which byte) =
@@ -87,7 +85,7 @@ abbrev pub word : String → List ℕ
 word w = codes w ++ codes "\r"
 
 abbrev pub read : Bool → Bool → ℕ → ℕ → Answer
-read wide crlf words used = Read (record { wide = wide; crlf = crlf; words = words; used = used })
+read wide crlf words used = Ok (record { wide = wide; crlf = crlf; words = words; used = used })
 
 abbrev pub one : ℕ → Answer
 one used = read false false 1 used

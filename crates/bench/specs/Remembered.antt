@@ -1,5 +1,5 @@
 -- Sheets that remember (request 106): the sheet of form 2 of a trial, what it loads to, and what 40 and 41 tell where it is damaged.
-use Rattle.std.specs.Prelude.{ℕ, ◌≡◌, List, [], ◌∷◌, ◌++◌}
+use Rattle.std.specs.Prelude.{ℕ, Err, ◌≡◌, List, [], ◌∷◌, ◌++◌}
 use Prim.Native.String.{String}
 use Rattle.figures.specs.Text.{codes}
 use Rattle.instrument.specs.Settings.{held}
@@ -9,7 +9,7 @@ use Rattle.sheets.specs.Undo.{entries_of, sheet_as}
 use Rattle.sheets.specs.Loading.{wrong, right, loading_of}
 use Rattle.sheets.specs.Writing.{moved_sheet}
 use Rattle.sheets.specs.declared.forms.Form.TheVariants.{One, Two}
-use Rattle.sheets.specs.declared.answers.Sheeted.TheVariants.{Wrong, Standing}
+use Rattle.sheets.specs.declared.answers.SheetRefusal.TheVariants.{Wrong, Standing}
 use Rattle.bench.specs.Readings.{sent}
 
 -- 40 is set, and 88 put twice
@@ -50,6 +50,6 @@ pub record Remembered : Type 0 where
   -- each line is right, but 11 was never put: no state has that list
   pub no_list : At "undo=1\nu=v11:\n" 209
   -- 41 for the way back, and 40 where no state has the list; the other form is wrong at its start
-  pub standing : (moved_sheet Two (second list) []).answer ≡ Standing 209
-  pub no_way_back : (moved_sheet Two (second "undo=1\nu=v11:\n") []).answer ≡ Wrong 209
-  pub other_form : (moved_sheet One (second list) []).answer ≡ Wrong 0
+  pub standing : (moved_sheet Two (second list) []).answer ≡ Err (Standing 209)
+  pub no_way_back : (moved_sheet Two (second "undo=1\nu=v11:\n") []).answer ≡ Err (Wrong 209)
+  pub other_form : (moved_sheet One (second list) []).answer ≡ Err (Wrong 0)

@@ -5,14 +5,16 @@ use mathlib.Core.List.{List}
 use Prim.Native.Nat.{ℕ, ◌*◌}
 use lib.Dec.{eqb}
 use lib.ListN.{length}
+use Rattle.std.proofs.Common.{Result}
 use Rattle.figures.specs.Promises.{Determined}
 use Rattle.figures.proofs.Determined.{by_equation, by_two, by_three}
 use Rattle.units.specs.declared.kinds.Family.{Family}
 use Rattle.words.specs.declared.records.Word.{Word}
 use Rattle.blocks.specs.Judging.{judged, filled}
 use Rattle.blocks.specs.Composing.{written}
-use Rattle.blocks.specs.declared.answers.Answer.{Answer}
-use Rattle.blocks.specs.declared.answers.Wrote.{Wrote}
+use Rattle.blocks.specs.Judging.{Answer}
+use Rattle.blocks.specs.declared.answers.Refusal.{Refusal}
+use Rattle.blocks.specs.Composing.{Wrote}
 use Rattle.listings.specs.declared.edits.Edit.{Edit}
 use Rattle.listings.specs.declared.mending.Mended.{Mended}
 use Rattle.listings.specs.Outcome.{outcome, listed}
@@ -24,7 +26,7 @@ use Rattle.lines.specs.declared.machine.Told.{Told}
 use Rattle.sheets.specs.Writing.{written_sheet, moved_sheet}
 use Rattle.sheets.specs.Loading.{loaded}
 use Rattle.sheets.specs.declared.forms.Form.{Form}
-use Rattle.sheets.specs.declared.answers.Sheeted.{Sheeted}
+use Rattle.sheets.specs.Answers.{Sheeted, told_of_load}
 use Rattle.host.specs.Answers.{read_told, wrote_told, mended_told, is_yes, ReadsC, WritesC, MendsC}
 use Rattle.host.specs.Machine.{told_line, told_sheet, LaysFactory, CallsC, WritesSheetC, LoadsC, MovesC}
 
@@ -34,8 +36,8 @@ told_read_determined = by_equation Answer ℕ read_told
 pub told_wrote_determined : Determined Wrote ℕ (λ i r. r ≡ wrote_told i)
 told_wrote_determined = by_equation Wrote ℕ wrote_told
 
-pub told_mended_determined : Determined Mended ℕ (λ i r. r ≡ mended_told i)
-told_mended_determined = by_equation Mended ℕ mended_told
+pub told_mended_determined : Determined (Result Mended Refusal) ℕ (λ i r. r ≡ mended_told i)
+told_mended_determined = by_equation (Result Mended Refusal) ℕ mended_told
 
 -- of either family: `gsi_read` and `gsi_read_level`
 pub gsi_read_determined : (f : Family) → Determined (List ℕ × List Word) (ℕ × List Word) (λ i o. ReadsC f i.0 i.1 o.0 o.1)
@@ -87,4 +89,4 @@ gsi_sheet_move_determined f =
 
 pub gsi_sheet_load_determined : Determined (List ℕ × List ℕ) (ℕ × List ℕ) (λ i o. LoadsC i.0 i.1 o.0 o.1)
 gsi_sheet_load_determined =
-    by_two (List ℕ × List ℕ) ℕ (List ℕ) (λ i. told_sheet (loaded i.0 i.1).answer) (λ i. (loaded i.0 i.1).image)
+    by_two (List ℕ × List ℕ) ℕ (List ℕ) (λ i. told_sheet (told_of_load (loaded i.0 i.1).answer)) (λ i. (loaded i.0 i.1).image)

@@ -14,14 +14,14 @@ use Rattle.state.specs.Image.{image_n, image_of}
 use Rattle.lines.specs.Verdicts.{verdict_number}
 use Rattle.lines.specs.Machine.{call}
 use Rattle.lines.specs.declared.machine.Told.{Told}
-use Rattle.lines.specs.declared.verdicts.Verdict.{Verdict}
+use Rattle.lines.specs.Verdicts.{Verdict}
 use Rattle.lines.proofs.Leaves.{refused_leaves}
+use Rattle.lines.proofs.Sorts.{accepted_number}
 use Rattle.lines.proofs.Telling.{call_other, call_unanswered}
-use Rattle.sheets.specs.Answers.{sheet_number}
+use Rattle.sheets.specs.Answers.{Sheeted, sheet_number, told_of_load}
 use Rattle.sheets.specs.Writing.{written_sheet, moved_sheet}
 use Rattle.sheets.specs.Loading.{loaded}
 use Rattle.sheets.specs.declared.forms.Form.{Form}
-use Rattle.sheets.specs.declared.answers.Sheeted.{Sheeted}
 use Rattle.sheets.proofs.Starts.{refused_image}
 use Rattle.sheets.proofs.Told.{written_refused, moved_refused}
 use Rattle.host.specs.Answers.{packed, answer_number_in}
@@ -46,7 +46,7 @@ module _ (image line room : List ℕ) {r : ℕ} {image' room' : List ℕ} (h : C
   pub gsi_line_refused : 4294967296 ≤ r → image' ≡ image
   gsi_line_refused high =
       let number = gsi_line_number in
-      h.1.0 ∙ refused_leaves image line room (ne_eqb (verdict_number given) 0 (λ z. omega arith))
+      h.1.0 ∙ refused_leaves image line room (accepted_number given ∙ ne_eqb (verdict_number given) 0 (λ z. omega arith))
 
   -- 30 and 31: "nothing written or changed", and 0 is told
   pub gsi_line_unanswered : 30 ≤ answer_number_in r → answer_number_in r ≤ 31
@@ -70,8 +70,8 @@ gsi_sheet_move_refused f sheet room h high =
 -- 40 "leaves the state as it was", and 31 the lent bytes
 pub gsi_sheet_load_refused : (image sheet : List ℕ) {r : ℕ} {image' : List ℕ} → LoadsC image sheet r image' → 4294967296 ≤ r → image' ≡ image
 gsi_sheet_load_refused image sheet h high =
-    let number = ap answer_number_in h.0 ∙ sheet_number_lem (loaded image sheet).answer in
-    h.1 ∙ refused_image image sheet (λ e. let none = number ∙ ap sheet_number e in omega arith)
+    let number = ap answer_number_in h.0 ∙ sheet_number_lem (told_of_load (loaded image sheet).answer) in
+    h.1 ∙ refused_image image sheet (λ e. let none = number ∙ ap (λ a. sheet_number (told_of_load a)) e in omega arith)
 
 pub gsi_factory_refused : (k : Series) (image : List ℕ) {r : ℕ} {image' : List ℕ} → LaysFactory k image r image' → 4294967296 ≤ r → image' ≡ image
 gsi_factory_refused k image {r} {image'} h high = by (eqb (length image) (image_n k)) h.0 h.1

@@ -5,19 +5,18 @@ use mathlib.Core.List.{List, []}
 use native.Mathlib.Omega.{arith}
 use lib.ListN.{length, take, drop}
 use lib.Seq.{take_at, drop_at}
+use Rattle.std.specs.Prelude.{Ok}
 use Rattle.figures.specs.Bytes.{laid}
 use Rattle.figures.proofs.Bytes.{laid_fits}
 use Rattle.units.specs.declared.kinds.Family.{Family}
 use Rattle.words.specs.declared.records.Word.{Word}
 use Rattle.blocks.specs.declared.answers.Reading.{Reading}
-use Rattle.blocks.specs.declared.answers.Answer.TheVariants.{Read}
 use Rattle.blocks.specs.Judging.{Judgement, judged}
 use Rattle.blocks.specs.Rules.{read_as}
 use Rattle.blocks.proofs.Exactly.{read_ruled, ruled_read}
 use Rattle.listings.specs.declared.edits.Edit.{Edit}
-use Rattle.listings.specs.declared.mending.Mended.TheVariants.{Done}
 use Rattle.listings.specs.Mending.{mended}
-use Rattle.listings.specs.Outcome.{Outcome, outcome, listed}
+use Rattle.listings.specs.Outcome.{mended_as, Outcome, outcome, listed}
 use Rattle.listings.proofs.Accepted.{Accepted, accepted_reads}
 use Rattle.listings.proofs.Twice.{twice_done}
 use Rattle.host.specs.Answers.{mended_told, mended_whole, used_in, ReadsC, MendsC}
@@ -26,7 +25,7 @@ use Rattle.host.proofs.Refused.{gsi_mend_accepted}
 use Rattle.host.proofs.RoundTrips.{told_parts}
 
 -- a block that reads into 32 places reads into more, to the same
-more_places : (f : Family) (s : List ℕ) (k : Reading) (places : ℕ) → (judged f s 32).answer ≡ Read k → 32 ≤ places → judged f s places ≡ judged f s 32
+more_places : (f : Family) (s : List ℕ) (k : Reading) (places : ℕ) → (judged f s 32).answer ≡ Ok k → 32 ≤ places → judged f s places ≡ judged f s 32
 more_places f s k places e h =
     let ws = (judged f s 32).words in
     let is : judged f s 32 ≡ read_as k ws = λ i. record { answer = e i; words = ws } in
@@ -40,7 +39,7 @@ module _ (f : Family) (block room : List ℕ) (list : List Edit) {r : ℕ} {room
   record Wrote : Type 0 where
     n : ℕ
     k : ℕ
-    answer : (outcome f block room (length list)).answer ≡ Done n k
+    answer : (outcome f block room (length list)).answer ≡ mended_as n k
     small : n ≤ 771
     bytes_in : used_in r ≡ n
     there : Accepted f block room list n k room' list'
@@ -48,7 +47,7 @@ module _ (f : Family) (block room : List ℕ) (list : List Edit) {r : ℕ} {room
   wrote : Wrote
   wrote =
       let (n, k, e) = (gsi_mend_accepted f block room list h).0 low in
-      let small : MendedSmall (Done n k) = rw e at (mended_small f block room (length list)) in
+      let small : MendedSmall (mended_as n k) = rw e at (mended_small f block room (length list)) in
       let told = gsi_mend_whole f block room list h ∙ ap mended_whole e in
       record {
         n = n;
@@ -79,9 +78,9 @@ module _ (f : Family) (block room : List ℕ) (list : List Edit) {r : ℕ} {room
       let same : take (used_in r) room' ≡ m = rw w.bytes_in w.there.bytes in
       let room_for : w.n ≤ length room₂ = rw w.bytes_in at fits in
       let size : length m ≡ w.n = sym w.there.length_bytes in
-      let is : outcome f (take (used_in r) room') room₂ (length list₂) ≡ record { answer = Done w.n 0; room = laid m room₂; edits = [] } =
+      let is : outcome f (take (used_in r) room') room₂ (length list₂) ≡ record { answer = mended_as w.n 0; room = laid m room₂; edits = [] } =
       rw same (twice_done f block room (length list) w.n w.k w.answer room₂ (length list₂) room_for) in
-      let number : r2 ≡ mended_told (Done w.n 0) = again.0 ∙ ap (λ (o : Outcome). mended_told o.answer) is in
+      let number : r2 ≡ mended_told (mended_as w.n 0) = again.0 ∙ ap (λ (o : Outcome). mended_told o.answer) is in
       let laid-there = again.1.0 ∙ ap (λ (o : Outcome). o.room) is ∙ laid_fits m room₂ (omega arith) in (
         omega (arith, number, w.small, w.bytes_in),
         rw (same, w.bytes_in, laid-there) (take_at m (drop (length m) room₂) w.n size),

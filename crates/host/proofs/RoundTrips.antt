@@ -8,13 +8,12 @@ use native.Mathlib.Nat.{one-mul, zero-mul}
 use native.Mathlib.Omega.{arith}
 use lib.ListN.{length, take, drop}
 use lib.Seq.{take_at, drop_at, length-take-le}
+use Rattle.std.specs.Prelude.{Ok}
 use Rattle.figures.specs.Bytes.{laid}
 use Rattle.figures.proofs.Bytes.{laid_fits}
 use Rattle.units.specs.declared.kinds.Family.{Family}
 use Rattle.words.specs.declared.records.Word.{Word}
 use Rattle.blocks.specs.declared.answers.Reading.{Reading}
-use Rattle.blocks.specs.declared.answers.Answer.TheVariants.{Read}
-use Rattle.blocks.specs.declared.answers.Wrote.TheVariants.{Written}
 use Rattle.blocks.specs.Judging.{Judgement, judged, filled}
 use Rattle.blocks.specs.Composing.{Written·room, written}
 use Rattle.blocks.specs.Rules.{read_as}
@@ -48,9 +47,9 @@ parts r u w wide crlf h k e =
     record { low = low; used_in_lem = used; words_in_lem = words; wide_in_lem = ap is_yes at-24 ∙ is_IsWide; crlf_in_lem = ap is_yes at-25 ∙ is-crlf }
 
 module _ (f : Family) (s : List ℕ) (list : List Word) {r : ℕ} {list' : List Word} (h : ReadsC f s list r list') where
-  pub told_parts : (k : Reading) → (judged f s (length list)).answer ≡ Read k → Parts r k.used k.words k.wide k.crlf
+  pub told_parts : (k : Reading) → (judged f s (length list)).answer ≡ Ok k → Parts r k.used k.words k.wide k.crlf
   told_parts k e =
-      let small : ReadSmall (Read k) = rw e at (read_small f s (length list)) in
+      let small : ReadSmall (Ok k) = rw e at (read_small f s (length list)) in
       parts r k.used k.words k.wide k.crlf small.0 small.1 (gsi_read_whole f s list h ∙ ap read_whole e)
 
   -- read, and the told words written with the told width and end: the used bytes, and the room beyond as it was
@@ -65,7 +64,7 @@ module _ (f : Family) (s : List ℕ) (list : List Word) {r : ℕ} {list' : List 
       let a = accepted f s (length list) k ws is in
       let same : take (words_in r) list' ≡ ws = rw h.1 (take_at ws (drop (length ws) list) (words_in r) (sym (told.words_in_lem ∙ a.counted))) in
       let room_for : k.used ≤ length room = rw told.used_in_lem at fits in
-      let back : written f (take (words_in r) list') (is_yes (wide_in r)) (is_yes (crlf_in r)) room ≡ record { answer = Written k.used; room = laid (take k.used s) room } =
+      let back : written f (take (words_in r) list') (is_yes (wide_in r)) (is_yes (crlf_in r)) room ≡ record { answer = Ok k.used; room = laid (take k.used s) room } =
       rw (same, told.wide_in_lem, told.crlf_in_lem) (accepted_written f s (length list) k ws room is room_for) in
       let bytes = length-take-le k.used s a.within in
       let laid-there : room' ≡ take k.used s ++ drop k.used room =
@@ -83,8 +82,8 @@ pub gsi_write_read : (f : Family) (ws : List Word) (wide crlf : ℕ) (room : Lis
 gsi_write_read f ws wide crlf room {r = r} {room' = room'} w low list {r2 = r2} {list' = list'} placed h =
     let (n, e) = (gsi_write_accepted f ws wide crlf room w).0 low in
     let told : r ≡ n = gsi_write_whole f ws wide crlf room w ∙ ap wrote_whole e in
-    let is : written f ws (is_yes wide) (is_yes crlf) room ≡ record { answer = Written r; room = room' } =
-    λ i. record { answer = (e ∙ ap Written (sym told)) i; room = sym w.1 i } in
+    let is : written f ws (is_yes wide) (is_yes crlf) room ≡ record { answer = Ok r; room = room' } =
+    λ i. record { answer = (e ∙ ap Ok (sym told)) i; room = sym w.1 i } in
     let back = written_read f ws (is_yes wide) (is_yes crlf) room r room' (length list) is placed in
     let parts = told_parts f (take r room') list h _ (ap (λ (j : Judgement). j.answer) back) in
     let same : list' ≡ filled ws list = h.1 ∙ ap (λ (j : Judgement). filled j.words list) back in (

@@ -3,6 +3,7 @@ use Prim.Native.Nat.{ℕ, ◌%◌, ◌<◌, ◌≤◌, zero-le}
 use mathlib.Core.Bool.{Bool, true, false}
 use native.Mathlib.Nat.{le_refl, mod-lt}
 use native.Mathlib.Omega.{arith}
+use Rattle.std.specs.Prelude.{Ok, Err}
 use Rattle.words.specs.declared.reading.Fault.{Fault}
 use Rattle.words.specs.declared.reading.Fault.TheVariants as fault
 use Rattle.words.specs.Reading.{fault_number}
@@ -11,9 +12,8 @@ use Rattle.blocks.specs.declared.answers.Refusal.TheVariants as refusal
 use Rattle.blocks.specs.Answers.{refusal_number}
 use Rattle.lines.specs.Verdicts.{verdict_which, verdict_byte}
 use Rattle.lines.specs.declared.machine.Told.{Told}
-use Rattle.sheets.specs.declared.answers.Sheeted.{Sheeted}
-use Rattle.sheets.specs.declared.answers.Sheeted.TheVariants as sheet
-use Rattle.sheets.specs.Answers.{sheet_number}
+use Rattle.sheets.specs.declared.answers.SheetRefusal.TheVariants as sheet
+use Rattle.sheets.specs.Answers.{Sheeted, sheet_number}
 use Rattle.host.specs.Answers.{bit_of}
 use Rattle.host.specs.Machine.{line_tells}
 
@@ -50,9 +50,8 @@ tells_below t =
     omega arith
 
 pub sheet_small : (a : Sheeted) → sheet_number a ≤ 99
-sheet_small sheet.NoState = omega arith
-sheet_small sheet.Room = omega arith
-sheet_small (sheet.Wrong at) = omega arith
-sheet_small (sheet.Standing at) = omega arith
-sheet_small (sheet.Written n) = omega arith
-sheet_small sheet.Loaded = omega arith
+sheet_small (Ok n) = omega arith
+sheet_small (Err sheet.NoState) = omega arith
+sheet_small (Err sheet.Room) = omega arith
+sheet_small (Err (sheet.Wrong at)) = omega arith
+sheet_small (Err (sheet.Standing at)) = omega arith

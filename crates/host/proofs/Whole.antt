@@ -7,11 +7,11 @@ use native.Mathlib.Nat.{mod-eq_of_lt}
 use native.Mathlib.Omega.{arith}
 use lib.Dec.{ltb}
 use lib.ListN.{length, drop}
+use Rattle.std.proofs.Common.{Result, Ok, Err}
 use Rattle.units.specs.declared.kinds.Family.{Family}
 use Rattle.words.specs.declared.records.Word.{Word}
 use Rattle.blocks.specs.declared.answers.Refusal.{Refusal}
-use Rattle.blocks.specs.declared.answers.Answer.{Answer}
-use Rattle.blocks.specs.declared.answers.Answer.TheVariants as answer
+use Rattle.blocks.specs.Judging.{Answer}
 use Rattle.blocks.specs.Answers.{refusal_number, refusal_tells}
 use Rattle.blocks.specs.Judging.{Judgement, is_at, judged}
 use Rattle.blocks.specs.Composing.{Written·room, written}
@@ -19,7 +19,6 @@ use Rattle.blocks.proofs.Counts.{judged_by}
 use Rattle.blocks.proofs.Refused.{written_by}
 use Rattle.listings.specs.declared.edits.Edit.{Edit}
 use Rattle.listings.specs.declared.mending.Mended.{Mended}
-use Rattle.listings.specs.declared.mending.Mended.TheVariants as mended
 use Rattle.listings.specs.Mending.{mended as mended_of}
 use Rattle.listings.specs.Outcome.{Outcome, outcome_by, outcome}
 use Rattle.listings.proofs.Counts.{mended_few}
@@ -39,8 +38,8 @@ cond_when P false a b h k = k
 
 -- what a block that was judged tells
 abbrev pub ReadSmall : Answer → Type 0
-ReadSmall (answer.Refused r) = refusal_tells r ≤ 771
-ReadSmall (answer.Read k) = (k.used ≤ 771) × (k.words ≤ 32)
+ReadSmall (Err r) = refusal_tells r ≤ 771
+ReadSmall (Ok k) = (k.used ≤ 771) × (k.words ≤ 32)
 
 pub read_small : (f : Family) (block : List ℕ) (places : ℕ) → ReadSmall (judged f block places).answer
 read_small f block places =
@@ -51,8 +50,8 @@ pub read_whole_lem : (f : Family) (block : List ℕ) (places : ℕ) → read_tol
 read_whole_lem f block places = by (judged f block places).answer (read_small f block places)
   where
     by : (a : Answer) → ReadSmall a → read_told a ≡ read_whole a
-    by (answer.Refused r) small = refused_whole_lem r small
-    by (answer.Read k) small =
+    by (Err r) small = refused_whole_lem r small
+    by (Ok k) small =
         let used : k.used < 65536 = omega (arith, small.0) in
         let words : k.words < 256 = omega (arith, small.1) in
         rw (mod-eq_of_lt used, mod-eq_of_lt words)
@@ -65,9 +64,9 @@ wrote_whole_lem f ws wide crlf room =
 
 -- and a block that was mended, by what the reader answers of its mended bytes
 
-abbrev pub MendedSmall : Mended → Type 0
-MendedSmall (mended.Refused r) = refusal_tells r ≤ 771
-MendedSmall (mended.Done n k) = (n ≤ 771) × (k ≤ 34)
+abbrev pub MendedSmall : Result Mended Refusal → Type 0
+MendedSmall (Err r) = refusal_tells r ≤ 771
+MendedSmall (Ok m) = (m.bytes ≤ 771) × (m.edits ≤ 34)
 
 abbrev Small : Outcome → Type 0
 Small o = MendedSmall o.answer
@@ -76,8 +75,8 @@ pub mended_small : (f : Family) (block room : List ℕ) (places : ℕ) → Small
 mended_small f block room places = by (judged f (mended_of block).bytes 32).answer (read_small f (mended_of block).bytes 32)
   where
     by : (a : Answer) → ReadSmall a → Small (outcome_by a (mended_of block) room places)
-    by (answer.Refused r) small = small
-    by (answer.Read k) small =
+    by (Err r) small = small
+    by (Ok k) small =
         cond_when Small (ltb (length room) (length (mended_of block).bytes)) _ _ (λ _. mended_most block)
         (cond_when Small (ltb places (length (mended_of block).edits)) _ _ (λ _. omega (arith, mended_few block)) (mended_most block, mended_few block))
 
@@ -85,11 +84,11 @@ pub mended_whole_lem : (f : Family) (block room : List ℕ) (places : ℕ)
     → mended_told (outcome f block room places).answer ≡ mended_whole (outcome f block room places).answer
 mended_whole_lem f block room places = by (outcome f block room places).answer (mended_small f block room places)
   where
-    by : (a : Mended) → MendedSmall a → mended_told a ≡ mended_whole a
-    by (mended.Refused r) small = refused_whole_lem r small
-    by (mended.Done n k) small =
-        let bytes : n < 65536 = omega (arith, small.0) in
-        let edits : k < 65536 = omega (arith, small.1) in
+    by : (a : Result Mended Refusal) → MendedSmall a → mended_told a ≡ mended_whole a
+    by (Err r) small = refused_whole_lem r small
+    by (Ok m) small =
+        let bytes : m.bytes < 65536 = omega (arith, small.0) in
+        let edits : m.edits < 65536 = omega (arith, small.1) in
         rw (mod-eq_of_lt bytes, mod-eq_of_lt edits)
 
 -- so the promises say

@@ -1,19 +1,16 @@
 -- What the C functions answer: number * 2^32 + told, our own packing.
-use Rattle.std.specs.Prelude.{ℕ, ◌+◌, ◌*◌, ◌/◌, ◌%◌, min, ◌≡◌, Bool, cond, not, List, eqb, length}
+use Rattle.std.specs.Prelude.{ℕ, ◌+◌, ◌*◌, ◌/◌, ◌%◌, min, ◌≡◌, Bool, cond, not, List, eqb, length, Result, Ok, Err}
 use Rattle.units.specs.declared.kinds.Family.{Family}
 use Rattle.words.specs.declared.records.Word.{Word}
 use Rattle.blocks.specs.declared.answers.Refusal.{Refusal}
 use Rattle.blocks.specs.declared.answers.Reading.{Reading}
-use Rattle.blocks.specs.declared.answers.Answer.{Answer}
-use Rattle.blocks.specs.declared.answers.Answer.TheVariants as answer
-use Rattle.blocks.specs.declared.answers.Wrote.{Wrote}
-use Rattle.blocks.specs.declared.answers.Wrote.TheVariants as wrote
+use Rattle.blocks.specs.Judging.{Answer}
+use Rattle.blocks.specs.Composing.{Wrote}
 use Rattle.blocks.specs.Answers.{refusal_number, refusal_tells}
 use Rattle.blocks.specs.Judging.{judged, filled}
 use Rattle.blocks.specs.Composing.{written}
 use Rattle.listings.specs.declared.edits.Edit.{Edit}
 use Rattle.listings.specs.declared.mending.Mended.{Mended}
-use Rattle.listings.specs.declared.mending.Mended.TheVariants as mended
 use Rattle.listings.specs.Outcome.{outcome, listed}
 
 -- what would be told above 2^32 - 1 is told as 2^32 - 1, so that any answer has a number; no answer tells so much (proofs/Whole.antt, Answered.antt)
@@ -31,47 +28,47 @@ abbrev pub reading_told : Reading → ℕ
 reading_told k = k.used % 65536 + k.words % 256 * 65536 + bit_of k.wide 16777216 + bit_of k.crlf 33554432
 
 abbrev pub read_told : Answer → ℕ
-read_told (answer.Refused r) = refused_told r
-read_told (answer.Read k) = reading_told k
+read_told (Err r) = refused_told r
+read_told (Ok k) = reading_told k
 
 -- told when written: the bytes
 abbrev pub wrote_told : Wrote → ℕ
-wrote_told (wrote.Refused r) = refused_told r
-wrote_told (wrote.Written n) = packed 0 n
+wrote_told (Err r) = refused_told r
+wrote_told (Ok n) = packed 0 n
 
 -- told when mended: bytes + 2^16 * edits, each in its own bits
-abbrev pub mended_told : Mended → ℕ
-mended_told (mended.Refused r) = refused_told r
-mended_told (mended.Done n k) = n % 65536 + k % 65536 * 65536
+abbrev pub mended_told : Result Mended Refusal → ℕ
+mended_told (Err r) = refused_told r
+mended_told (Ok m) = m.bytes % 65536 + m.edits % 65536 * 65536
 
 -- the same with nothing cut off
 abbrev pub refused_whole : Refusal → ℕ
 refused_whole r = refusal_number r * 4294967296 + refusal_tells r
 
 abbrev pub read_whole : Answer → ℕ
-read_whole (answer.Refused r) = refused_whole r
-read_whole (answer.Read k) = k.used + k.words * 65536 + bit_of k.wide 16777216 + bit_of k.crlf 33554432
+read_whole (Err r) = refused_whole r
+read_whole (Ok k) = k.used + k.words * 65536 + bit_of k.wide 16777216 + bit_of k.crlf 33554432
 
 abbrev pub wrote_whole : Wrote → ℕ
-wrote_whole (wrote.Refused r) = refused_whole r
-wrote_whole (wrote.Written n) = n
+wrote_whole (Err r) = refused_whole r
+wrote_whole (Ok n) = n
 
-abbrev pub mended_whole : Mended → ℕ
-mended_whole (mended.Refused r) = refused_whole r
-mended_whole (mended.Done n k) = n + k * 65536
+abbrev pub mended_whole : Result Mended Refusal → ℕ
+mended_whole (Err r) = refused_whole r
+mended_whole (Ok m) = m.bytes + m.edits * 65536
 
 -- the number that an answer has; 0 is accepted
 abbrev pub read_number : Answer → ℕ
-read_number (answer.Refused r) = refusal_number r
-read_number (answer.Read k) = 0
+read_number (Err r) = refusal_number r
+read_number (Ok k) = 0
 
 abbrev pub wrote_number : Wrote → ℕ
-wrote_number (wrote.Refused r) = refusal_number r
-wrote_number (wrote.Written n) = 0
+wrote_number (Err r) = refusal_number r
+wrote_number (Ok n) = 0
 
-abbrev pub mended_number : Mended → ℕ
-mended_number (mended.Refused r) = refusal_number r
-mended_number (mended.Done n k) = 0
+abbrev pub mended_number : Result Mended Refusal → ℕ
+mended_number (Err r) = refusal_number r
+mended_number (Ok m) = 0
 
 -- as gsi.h takes an answer apart: GSI_NUMBER, and of a block that was read GSI_USED, GSI_WORDS, GSI_IS_WIDE and GSI_IS_CRLF
 abbrev pub answer_number_in : ℕ → ℕ

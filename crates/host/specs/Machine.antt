@@ -6,11 +6,10 @@ use Rattle.state.specs.Image.{image_n, image_of}
 use Rattle.lines.specs.Verdicts.{verdict_number, verdict_which, verdict_byte}
 use Rattle.lines.specs.Machine.{call}
 use Rattle.lines.specs.declared.machine.Told.{Told}
-use Rattle.sheets.specs.Answers.{sheet_number, sheet_tells}
+use Rattle.sheets.specs.Answers.{Sheeted, sheet_number, sheet_tells, told_of_load}
 use Rattle.sheets.specs.Writing.{written_sheet, moved_sheet}
 use Rattle.sheets.specs.Loading.{loaded}
 use Rattle.sheets.specs.declared.forms.Form.{Form}
-use Rattle.sheets.specs.declared.answers.Sheeted.{Sheeted}
 use Rattle.host.specs.Answers.{packed}
 
 -- told of a line: reply bytes + 2^16 * which + 2^24 * byte, each in its own bits
@@ -44,7 +43,7 @@ abbrev pub WritesSheetC : Form → List ℕ → List ℕ → ℕ → List ℕ �
 WritesSheetC f image room r room' = (r ≡ told_sheet (written_sheet f image room).answer) × (room' ≡ (written_sheet f image room).room)
 
 abbrev pub LoadsC : List ℕ → List ℕ → ℕ → List ℕ → Type 0
-LoadsC image sheet r image' = (r ≡ told_sheet (loaded image sheet).answer) × (image' ≡ (loaded image sheet).image)
+LoadsC image sheet r image' = (r ≡ told_sheet (told_of_load (loaded image sheet).answer)) × (image' ≡ (loaded image sheet).image)
 
 abbrev pub MovesC : Form → List ℕ → List ℕ → ℕ → List ℕ → Type 0
 MovesC f sheet room r room' = (r ≡ told_sheet (moved_sheet f sheet room).answer) × (room' ≡ (moved_sheet f sheet room).room)

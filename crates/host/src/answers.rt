@@ -2,7 +2,7 @@
 ghost use Rattle.std.specs.Prelude.{◌≡◌, ◌≤◌};
 ghost use Rattle.host.specs.Answers.{packed, bit_of, refused_told, reading_told, read_told, wrote_told, mended_told};
 
-use blocks::answers::{Answer, Reading, Refusal, Wrote, refusal_number, refusal_tells};
+use blocks::answers::{Reading, Refusal, refusal_number, refusal_tells};
 use listings::mending::Mended;
 
 // Packs an answer: the number over what is told; what would be more than 2^32 - 1 is told as that.
@@ -10,18 +10,13 @@ pub(crate) fn pack(number: u64, told: usize) -> u64
     requires { number ≤ 99 }
     ensures { result ≡ packed number told }
 {
-    if told < 4294967295 {
-        return number * 4294967296 + told as u64;
-    }
-    number * 4294967296 + 4294967295
+    number * 4294967296 + (told as u64).min(4294967295)
 }
 
 fn refused(refusal: Refusal) -> u64
     ensures { result ≡ refused_told refusal }
 {
-    let number = refusal_number(refusal);
-    let told = refusal_tells(refusal);
-    pack(number, told)
+    pack(refusal_number(refusal), refusal_tells(refusal))
 }
 
 fn bit(on: bool, weight: u64) -> u64
@@ -40,31 +35,31 @@ fn accepted(reading: Reading) -> u64
 }
 
 // Gives the answer of a reading.
-pub fn told_read(a: Answer) -> u64
+pub fn told_read(a: Result<Reading, Refusal>) -> u64
     ensures { result ≡ read_told a }
 {
     match a {
-        Answer::Refused(refusal) => refused(refusal),
-        Answer::Read(reading) => accepted(reading),
+        Err(refusal) => refused(refusal),
+        Ok(reading) => accepted(reading),
     }
 }
 
 // Gives the answer of a writing.
-pub fn told_wrote(w: Wrote) -> u64
+pub fn told_wrote(w: Result<usize, Refusal>) -> u64
     ensures { result ≡ wrote_told w }
 {
     match w {
-        Wrote::Refused(refusal) => refused(refusal),
-        Wrote::Written(n) => pack(0, n),
+        Err(refusal) => refused(refusal),
+        Ok(n) => pack(0, n),
     }
 }
 
 // Gives the answer of a mending, with what it tells in its own bits.
-pub fn told_mended(m: Mended) -> u64
+pub fn told_mended(m: Result<Mended, Refusal>) -> u64
     ensures { result ≡ mended_told m }
 {
     match m {
-        Mended::Refused(refusal) => refused(refusal),
-        Mended::Done(bytes, edits) => bytes as u64 % 65536 + edits as u64 % 65536 * 65536,
+        Err(refusal) => refused(refusal),
+        Ok(mended) => mended.bytes as u64 % 65536 + mended.edits as u64 % 65536 * 65536,
     }
 }

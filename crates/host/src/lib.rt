@@ -18,16 +18,14 @@ use words::records::Word;
 fn read_told(block: &[u8], family: Family, list: &mut [Word]) -> u64
     ensures { ReadsC family block.now list.old result list.new }
 {
-    let a = read(block, family, list);
-    told_read(a)
+    told_read(read(block, family, list))
 }
 
 // Writes the list's records as one block of the family; wide and crlf: 0 is no, any other number is yes. One function for both writers likewise.
 fn write_told(list: &[Word], family: Family, wide: u64, crlf: u64, block: &mut [u8]) -> u64
     ensures { WritesC family list.now wide crlf block.old result block.new }
 {
-    let w = write(list, family, wide != 0, crlf != 0, block);
-    told_wrote(w)
+    told_wrote(write(list, family, wide != 0, crlf != 0, block))
 }
 
 // Reads the total station's block at the start of the input into the list.

@@ -11,8 +11,7 @@ use units::kinds::Family;
 fn mend_told(block: &[u8], family: Family, mended: &mut [u8], edits: &mut [Edit]) -> u64
     ensures { MendsC family block.now mended.old edits.old result mended.new edits.new }
 {
-    let m = mend(block, family, mended, edits);
-    told_mended(m)
+    told_mended(mend(block, family, mended, edits))
 }
 
 // Mends the total station's block at the start of the input.

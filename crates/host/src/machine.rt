@@ -4,9 +4,10 @@ ghost use Rattle.instrument.specs.declared.settings.Series.TheVariants.{Tps100, 
 ghost use Rattle.state.specs.Image.{image_n};
 ghost use Rattle.host.specs.Machine.{line_tells, told_line, LaysFactory, CallsC};
 
+use crate::answers::pack;
 use instrument::settings::Series;
 use lines::machine::{Told, line};
-use lines::verdicts::{verdict_byte, verdict_number, verdict_which};
+use lines::verdicts::{Refused, verdict_byte, verdict_number, verdict_which};
 use state::image::{IMAGE_100, IMAGE_300, image_size};
 use state::laying::put_factory;
 
@@ -14,10 +15,9 @@ use state::laying::put_factory;
 fn line_tells(told: Told) -> u64
     ensures { result ≡ line_tells told }
 {
-    let verdict = told.verdict;
     let count = told.count as u64 % 65536;
-    let which = verdict_which(verdict) % 256;
-    let byte = verdict_byte(verdict) as u64 % 256;
+    let which = verdict_which(told.verdict) % 256;
+    let byte = verdict_byte(told.verdict) as u64 % 256;
     count + which * 65536 + byte * 16777216
 }
 
@@ -25,9 +25,7 @@ fn line_tells(told: Told) -> u64
 pub fn told_line(told: Told) -> u64
     ensures { result ≡ told_line told }
 {
-    let verdict = told.verdict;
-    let number = verdict_number(verdict);
-    number * 4294967296 + line_tells(told)
+    verdict_number(told.verdict) * 4294967296 + line_tells(told)
 }
 
 // Tells the length of a TPS100's image.
@@ -53,7 +51,7 @@ fn lay_factory(series: Series, image: &mut [u8]) -> u64
     ensures { LaysFactory series image.old result image.new }
 {
     if image.len() != image_size(series) {
-        return 31 * 4294967296;
+        return pack(verdict_number(Err(Refused::NoState)), 0);
     }
     put_factory(series, image);
     0
@@ -80,6 +78,5 @@ pub extern "C" fn gsi_factory_300(image: &mut [u8]) -> u64
 pub extern "C" fn gsi_line(image: &mut [u8], text: &[u8], reply: &mut [u8]) -> u64
     ensures { CallsC image.old text.now reply.old result image.new reply.new }
 {
-    let told = line(image, text, reply);
-    told_line(told)
+    told_line(line(image, text, reply))
 }

@@ -14,17 +14,14 @@ use sheets::writing::write;
 pub fn told_sheet(answer: Sheeted) -> u64
     ensures { result ≡ told_sheet answer }
 {
-    let number = sheet_number(answer);
-    let tells = sheet_tells(answer);
-    pack(number, tells)
+    pack(sheet_number(answer), sheet_tells(answer))
 }
 
 // Writes the image's sheet in a form into the room. One function for both forms, so that the compiler joins it with what it calls.
 fn write_told(form: Form, image: &[u8], sheet: &mut [u8]) -> u64
     ensures { WritesSheetC form image.now sheet.old result sheet.new }
 {
-    let answer = write(form, image, sheet);
-    told_sheet(answer)
+    told_sheet(write(form, image, sheet))
 }
 
 // Writes the image's sheet of the first form into the room.
@@ -48,15 +45,13 @@ pub extern "C" fn gsi_sheet_write_2(image: &[u8], sheet: &mut [u8]) -> u64
 pub extern "C" fn gsi_sheet_load(image: &mut [u8], sheet: &[u8]) -> u64
     ensures { LoadsC image.old sheet.now result image.new }
 {
-    let answer = load(image, sheet);
-    told_sheet(answer)
+    told_sheet(load(image, sheet).map(|()| 0))
 }
 
 fn move_told(form: Form, sheet: &[u8], moved: &mut [u8]) -> u64
     ensures { MovesC form sheet.now moved.old result moved.new }
 {
-    let answer = move_from(form, sheet, moved);
-    told_sheet(answer)
+    told_sheet(move_from(form, sheet, moved))
 }
 
 // Moves a sheet of the first form to the second.

@@ -16,9 +16,8 @@ use Rattle.instrument.proofs.Seek.{each_row, row_tested}
 use Rattle.instrument.specs.declared.settings.Row.{Row}
 use Rattle.instrument.specs.declared.settings.Series.{Series}
 use Rattle.instrument.specs.declared.settings.Series.TheVariants.{Tps100, Tps300}
-use Rattle.instrument.specs.declared.values.Kept.TheVariants.{Never}
-use Rattle.instrument.specs.declared.values.Value.{Value}
-use Rattle.state.specs.Entries.{entries_n, value_of, entry_of}
+use Rattle.instrument.specs.Values.{Kept}
+use Rattle.state.specs.Entries.{entries_n, entry_of}
 use Rattle.state.specs.declared.entries.Item.TheVariants.{Stored}
 use Rattle.state.specs.declared.entries.Entry.{Entry}
 use Rattle.sheets.specs.Lines.{LinesOf, lines_by}
@@ -34,6 +33,7 @@ use Rattle.sheets.proofs.Sheets.{body_by, tail_by, sheet_by, Parted}
 use Rattle.sheets.proofs.Lined.{Lined, unlisted}
 use Rattle.sheets.proofs.Ended.{OneLf, one_line, lines_more, one_lines, LinesEnd, part_lines, form_line_lem, series_line_lem}
 use Rattle.sheets.proofs.Ended.{setting_ends, value_ends, count_ends, entry_ends}
+use Rattle.std.specs.Prelude.{None}
 
 -- what goes on otherwise than the bytes that stand there: it ends where some stand, or has a line that doesn't stand there
 pub data Apart (x rest : List ℕ) : Type 0 where
@@ -161,7 +161,7 @@ module _ (k : Series) where
   abbrev part : List ℕ → List ℕ
   part settings = lines_by (setting_lines k) 0 settings
 
-  abbrev text : List Value → List ℕ
+  abbrev text : List Kept → List ℕ
   text values = lines_by value_lines 0 values
 
   abbrev list : List Entry → List ℕ
@@ -175,7 +175,7 @@ module _ (k : Series) where
       (one_line head head _ _ (series_line_lem k) (series_line_lem k) e).1
 
   -- past form 1's lines
-  pub body_off : (f : Form) (settings others : List ℕ) (values those : List Value) (a b : List ℕ) → Named k settings values → Named k others those
+  pub body_off : (f : Form) (settings others : List ℕ) (values those : List Kept) (a b : List ℕ) → Named k settings values → Named k others those
       → (form_line f ++ body_by k settings values) ++ a ≡ form_line f ++ (body_by k others those ++ b) → a ≡ b
   body_off f settings others values those a b n m e =
       let body = form_off f _ _ (sym (append_assoc (form_line f) (body_by k settings values) a) ∙ e) in
@@ -184,7 +184,7 @@ module _ (k : Series) where
       same_lines value_lines value_said value_ends values those a b n.values_right_lem m.values_right_lem (omega (arith, n.values_long, m.values_long)) rest
 
   -- no sheet begins with another and more
-  pub no_more : (f : Form) (settings others : List ℕ) (values those : List Value) (entries these : List Entry) (a : List ℕ)
+  pub no_more : (f : Form) (settings others : List ℕ) (values those : List Kept) (entries these : List Entry) (a : List ℕ)
       → Lined f k settings values entries → Lined f k others those these
       → sheet_by f k settings values entries ++ a ≡ sheet_by f k others those these → a ≡ []
   no_more f settings others values those entries these a n m e =
@@ -205,7 +205,7 @@ module _ (k : Series) where
   settings_lines settings r =
       lines_more head (part settings) (one_lines head (series_line_lem k)) (part_lines (setting_lines k) (setting_ends k) [] 0 settings r)
 
-  body_lines : (settings : List ℕ) (values : List Value) → right_by (setting_lines k) [] 0 settings ≡ true → right_by value_lines [] 0 values ≡ true
+  body_lines : (settings : List ℕ) (values : List Kept) → right_by (setting_lines k) [] 0 settings ≡ true → right_by value_lines [] 0 values ≡ true
       → are_lines (body_by k settings values) ≡ true
   body_lines settings values r rv =
       ap are_lines (sym (append_assoc head (part settings) (text values)))
@@ -216,7 +216,7 @@ module _ (k : Series) where
       lines_more (count_line n) (list entries) (one_lines (count_line n) (count_ends [] 0 n (le-leb n entries_n h)))
       (part_lines (entry_lines k) (entry_ends k) [] 0 entries r)
 
-  pub sheet_lines : (f : Form) (settings : List ℕ) (values : List Value) (entries : List Entry) → Lined f k settings values entries
+  pub sheet_lines : (f : Form) (settings : List ℕ) (values : List Kept) (entries : List Entry) → Lined f k settings values entries
       → are_lines (sheet_by f k settings values entries) ≡ true
   unfolding are_lines
   sheet_lines f settings values entries n =
@@ -229,12 +229,12 @@ module _ (k : Series) where
       by Two l = list_lines (length entries) entries l.few l.each
 
   -- values that go on from some, and settings with any
-  values_on : (values : List Value) → right_by value_lines [] 0 values ≡ true → length values ≤ values_n
-      → (v : List Value) × (length (values ++ v) ≡ values_n) × (right_by value_lines [] 0 (values ++ v) ≡ true)
-  values_on = filled_to value_lines (λ got i. value_of Never) (λ got i. refl) values_n
+  values_on : (values : List Kept) → right_by value_lines [] 0 values ≡ true → length values ≤ values_n
+      → (v : List Kept) × (length (values ++ v) ≡ values_n) × (right_by value_lines [] 0 (values ++ v) ≡ true)
+  values_on = filled_to value_lines (λ got i. None) (λ got i. refl) values_n
 
   named_on : (settings : List ℕ) → right_by (setting_lines k) [] 0 settings ≡ true → length settings ≤ settings_n k
-      → (g : List ℕ) × (v : List Value) × Named k (settings ++ g) v
+      → (g : List ℕ) × (v : List Kept) × Named k (settings ++ g) v
   unfolding right_by
   named_on settings r h =
       let s = filled_to (setting_lines k) (λ got i. factory_of (row_at k i)) (setting_fills k) (settings_n k) settings r h in
@@ -248,12 +248,12 @@ pub record Broken (f : Form) (k : Series) (input : List ℕ) (at : ℕ) : Type 0
   pub lined : are_lines front ≡ true
   -- there is one
   pub settings : List ℕ
-  pub values : List Value
+  pub values : List Kept
   pub entries : List Entry
   pub shown : Lined f k settings values entries
   pub more : List ℕ
   pub whole : front ++ more ≡ sheet_by f k settings values entries
-  pub apart : (others : List ℕ) (those : List Value) (these : List Entry) → Lined f k others those these → (x : List ℕ)
+  pub apart : (others : List ℕ) (those : List Kept) (these : List Entry) → Lined f k others those these → (x : List ℕ)
       → front ++ x ≡ sheet_by f k others those these → Apart x (drop at input)
 
 module _ (k : Series) (input : List ℕ) (at : ℕ) where
@@ -306,7 +306,7 @@ module _ (k : Series) (input : List ℕ) (at : ℕ) where
             ∙ three (series_line k) (part k others) (text k those) (tail_by f k these))).1;
       }
 
-  pub broken_value : (f : Form) (settings : List ℕ) (values : List Value) → Parted (form_line f ++ body_by k settings values) at input
+  pub broken_value : (f : Form) (settings : List ℕ) (values : List Kept) → Parted (form_line f ++ body_by k settings values) at input
       → length settings ≡ settings_n k → right_by (setting_lines k) [] 0 settings ≡ true → right_by value_lines [] 0 values ≡ true → length values < values_n
       → NoLine value_lines values (0 + length values) (drop at input) → Broken f k input at
   broken_value f settings values p long r rv less none =
@@ -335,7 +335,7 @@ module _ (k : Series) (input : List ℕ) (at : ℕ) where
             ∙ three (series_line k) (part k others) (text k those) (tail_by f k these)));
       }
 
-  pub broken_count : (settings : List ℕ) (values : List Value) → Parted (form_line Two ++ body_by k settings values) at input → Named k settings values
+  pub broken_count : (settings : List ℕ) (values : List Kept) → Parted (form_line Two ++ body_by k settings values) at input → Named k settings values
       → NoLine count_lines [] 0 (drop at input) → Broken Two k input at
   broken_count settings values p n none =
       let body = body_by k settings values in
@@ -355,14 +355,14 @@ module _ (k : Series) (input : List ℕ) (at : ℕ) where
             (count_ends [] 0 (length these) may) (none (length these) may);
       }
 
-  pub broken_entry : (settings : List ℕ) (values : List Value) (n : ℕ) (entries : List Entry)
+  pub broken_entry : (settings : List ℕ) (values : List Kept) (n : ℕ) (entries : List Entry)
       → Parted (form_line Two ++ (body_by k settings values ++ (count_line n ++ lines_by (entry_lines k) 0 entries))) at input → Named k settings values
       → n ≤ entries_n → right_by (entry_lines k) [] 0 entries ≡ true → length entries < n
       → NoLine (entry_lines k) entries (0 + length entries) (drop at input) → Broken Two k input at
   broken_entry settings values n entries p named few r less none =
       let body = body_by k settings values in
       let counted = count_line n ++ list k entries in
-      let (z, many, rights) = filled_to (entry_lines k) (λ got i. entry_of (Stored 0) 0 Never) (λ got i. refl) n entries r (omega arith) in
+      let (z, many, rights) = filled_to (entry_lines k) (λ got i. entry_of (Stored 0) 0 None) (λ got i. refl) n entries r (omega arith) in
       let rest = lines_by (entry_lines k) (0 + length entries) z in
       let on_list : counted ++ rest ≡ tail_by Two k (entries ++ z) =
       append_assoc (count_line n) (list k entries) rest ∙ (λ i. count_line (sym many i) ++ sym (lines_append (entry_lines k) 0 entries z) i) in
@@ -386,7 +386,7 @@ module _ (k : Series) (input : List ℕ) (at : ℕ) where
             (c.1 ∙ sym (append-nil (list k these)));
       }
 
-  pub broken_surplus : (f : Form) (settings : List ℕ) (values : List Value) (entries : List Entry) → Parted (sheet_by f k settings values entries) at input
+  pub broken_surplus : (f : Form) (settings : List ℕ) (values : List Kept) (entries : List Entry) → Parted (sheet_by f k settings values entries) at input
       → at < length input → Lined f k settings values entries → Broken f k input at
   broken_surplus f settings values entries p more n = record {
     front = sheet_by f k settings values entries;

@@ -8,13 +8,19 @@ use lib.ListN.{length}
 use Rattle.figures.specs.Promises.{Determined}
 use Rattle.figures.specs.Bytes.{laid}
 use Rattle.figures.proofs.Determined.{by_equation, by_two}
-use Rattle.sheets.specs.Answers.{sheet_number, sheet_tells}
+use Rattle.sheets.specs.Answers.{Sheeted, LoadAnswer, refusal_number, refusal_tells, sheet_number, sheet_tells}
 use Rattle.sheets.specs.Writing.{written_sheet, WritesSheet, series_named, moved_sheet, MovesSheet}
 use Rattle.sheets.specs.Loading.{form_in, loaded, Loads}
 use Rattle.sheets.specs.Playing.{printed, Prints}
-use Rattle.sheets.specs.declared.answers.Sheeted.{Sheeted}
+use Rattle.sheets.specs.declared.answers.SheetRefusal.{SheetRefusal}
 use Rattle.sheets.specs.declared.forms.Form.{Form}
 use Rattle.instrument.specs.declared.settings.Series.{Series}
+
+pub number_determined : Determined SheetRefusal ℕ (λ i r. r ≡ refusal_number i)
+number_determined = by_equation SheetRefusal ℕ refusal_number
+
+pub tells_determined : Determined SheetRefusal ℕ (λ i r. r ≡ refusal_tells i)
+tells_determined = by_equation SheetRefusal ℕ refusal_tells
 
 pub sheet_number_determined : Determined Sheeted ℕ (λ i r. r ≡ sheet_number i)
 sheet_number_determined = by_equation Sheeted ℕ sheet_number
@@ -23,8 +29,8 @@ pub sheet_tells_determined : Determined Sheeted ℕ (λ i r. r ≡ sheet_tells i
 sheet_tells_determined = by_equation Sheeted ℕ sheet_tells
 
 -- an image and a sheet go in; the answer and the image come out
-pub load_determined : Determined (List ℕ × List ℕ) (Sheeted × List ℕ) (λ i o. Loads i.0 i.1 o.0 o.1)
-load_determined = by_two (List ℕ × List ℕ) Sheeted (List ℕ) (λ i. (loaded i.0 i.1).answer) (λ i. (loaded i.0 i.1).image)
+pub load_determined : Determined (List ℕ × List ℕ) (LoadAnswer × List ℕ) (λ i o. Loads i.0 i.1 o.0 o.1)
+load_determined = by_two (List ℕ × List ℕ) LoadAnswer (List ℕ) (λ i. (loaded i.0 i.1).answer) (λ i. (loaded i.0 i.1).image)
 
 -- a form, an image and a room go in; the answer and the room come out
 pub write_determined : Determined (Form × List ℕ × List ℕ) (Sheeted × List ℕ) (λ i o. WritesSheet i.0 i.1 i.2 o.0 o.1)

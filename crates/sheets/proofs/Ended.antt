@@ -4,8 +4,8 @@ use mathlib.Core.Path.{◌≡◌, refl, sym, ap, ◌∙◌}
 use mathlib.Core.Bool.{true, false, not, ◌&&◌, false≢true, and-false}
 use mathlib.Core.List.{List, [], ◌∷◌, ◌++◌, append_assoc}
 use native.Mathlib.Omega.{arith}
-use borrow.Author.Tests.{eq-eqb, ne_eqb, eqb-true, leb-true, not-false, not-true}
-use lib.Dec.{eqb, leb, ltb}
+use borrow.Author.Tests.{eq-eqb, ne_eqb, eqb-true, not-false, not-true}
+use lib.Dec.{eqb, ltb}
 use lib.ListN.{length, take}
 use Rattle.figures.specs.Text.{codes}
 use Rattle.figures.specs.Bytes.{within, every, run_of, is_other, starts_with}
@@ -15,17 +15,16 @@ use Rattle.figures.proofs.Decimal.{digits_are}
 use Rattle.figures.proofs.Tests.{both, by_test, either}
 use Rattle.words.specs.Records.{is_graphic}
 use Rattle.instrument.specs.Settings.{setting_number, row_at}
-use Rattle.instrument.specs.Values.{values_n, no_stored, stored, stored_at, index_number, value_word, eight_bytes, put_right, kept_right}
+use Rattle.instrument.specs.Values.{values_n, no_stored, stored, stored_at, index_number, value_word, eight_bytes, kept_right}
 use Rattle.state.specs.Entries.{item_right}
 use Rattle.state.specs.declared.entries.Item.{Item}
 use Rattle.state.specs.declared.entries.Item.TheVariants as item
 use Rattle.state.specs.declared.entries.Former.{Former}
 use Rattle.instrument.specs.declared.settings.Series.{Series}
 use Rattle.instrument.specs.declared.settings.Series.TheVariants.{Tps100, Tps300}
-use Rattle.instrument.specs.declared.values.Kept.{Kept}
-use Rattle.instrument.specs.declared.values.Kept.TheVariants.{Never, Put}
+use Rattle.instrument.specs.Values.{Kept}
 use Rattle.instrument.specs.declared.values.Stored.{Stored}
-use Rattle.instrument.proofs.Kept.{held_by, kept_held, put_parts}
+use Rattle.instrument.proofs.Kept.{kept_parts, held_by, kept_held, put_parts}
 use Rattle.instrument.proofs.Seek.{each_row, row_tested}
 use Rattle.sheets.specs.Lines.{LinesOf, lines_by}
 use Rattle.sheets.specs.Sheet.{setting_key, setting_lines, characters_of, value_key, value_lines, series_line}
@@ -33,6 +32,7 @@ use Rattle.sheets.specs.Undo.{form_line, count_key, count_lines, item_key, forme
 use Rattle.sheets.specs.declared.forms.Form.TheVariants.{Two}
 use Rattle.sheets.specs.FirstWrong.{are_lines, has_no_lf, line_n}
 use Rattle.sheets.proofs.Partwise.{right_by}
+use Rattle.std.specs.Prelude.{Some, None}
 
 -- bytes, LF
 pub record OneLf (line : List ℕ) : Type 0 where
@@ -185,14 +185,17 @@ data_clean r u m l e =
 
 characters_clean : (i : ℕ) (k : Kept) → kept_right i k ≡ true → has_no_lf (characters_of i k) ≡ true
 unfolding every
-characters_clean i Never r = refl
-characters_clean i (Put u m d) r =
+characters_clean i None r = refl
+characters_clean i (Some p) r =
+    let u = p.unit in
+    let m = p.minus in
+    let d = p.eight in
     let word = value_word 46 i u m d in
-    let parts = both (leb m 1) (put_right i word) r in
-    let unit = (put_parts i word parts.1).unit in
+    let parts = kept_parts i p r in
+    let unit = (put_parts i word parts.right).unit in
     let bounds = within_bounds (stored_at i).first (stored_at i).last u unit in
     let data_is : has_no_lf (eight_bytes d) ≡ true =
-    data_clean (stored_at i) u m (eight_bytes d) (sym (kept_held u m d (leb-true m 1 parts.0) i (Put u m d) refl bounds.0 bounds.1) ∙ r) in
+    data_clean (stored_at i) u m (eight_bytes d) (sym (kept_held u m d parts.small i parts.long bounds.0 bounds.1) ∙ r) in
     let unit-is : is_other 10 u ≡ true = is_other_lem 10 u (λ q. absurd (false≢true (sym (unit_clean i) ∙ rw q at unit))) in
     rw (
       is_other_lem 10 (48 + (stored_at i).index / 10 % 10) (omega arith),
@@ -204,7 +207,7 @@ characters_clean i (Put u m d) r =
 
 pub value_ends : LinesEnd value_lines
 value_ends got i v e =
-    keyed_line (value_key i) (characters_of i v.kept) (name_clean 118 (index_number (stored_at i)) 61 refl refl) (characters_clean i v.kept e)
+    keyed_line (value_key i) (characters_of i v) (name_clean 118 (index_number (stored_at i)) 61 refl refl) (characters_clean i v e)
 
 -- the undo list
 

@@ -14,7 +14,7 @@ use Rattle.figures.proofs.Bytes.{starts_append}
 use Rattle.figures.proofs.Tests.{clash, by_test}
 use Rattle.instrument.specs.Settings.{held}
 use Rattle.instrument.specs.declared.settings.Series.{Series}
-use Rattle.instrument.specs.declared.values.Value.{Value}
+use Rattle.instrument.specs.Values.{Kept}
 use Rattle.state.specs.Image.{series_in}
 use Rattle.state.specs.declared.entries.Entry.{Entry}
 use Rattle.state.specs.declared.entries.State.{State}
@@ -27,7 +27,9 @@ use Rattle.sheets.specs.FirstWrong.{are_lines, has_no_lf, line_n, is_lined, None
 use Rattle.sheets.specs.Keeping.{is_of}
 use Rattle.sheets.specs.declared.forms.Form.{Form}
 use Rattle.sheets.specs.declared.forms.Form.TheVariants.{One, Two}
-use Rattle.sheets.specs.declared.answers.Sheeted.TheVariants as answer
+use Rattle.sheets.specs.declared.answers.SheetRefusal.TheVariants.{Wrong}
+use Rattle.sheets.specs.Answers.{Sheeted}
+use Rattle.std.specs.Prelude.{Err}
 use Rattle.sheets.proofs.Partwise.{starts_parted}
 use Rattle.sheets.proofs.Sheets.{body_by, tail_by, sheet_by, four, sheet_one, sheet_by_lem, form_in_lem, sheet_loads_of, series_apart, one_series}
 use Rattle.sheets.proofs.Sheets.{sheet_back, Parted, parted_all, parted_within, Ways, other_form, other_series, setting, value, count, entry, surplus, no_list as unlisted}
@@ -72,7 +74,7 @@ as_lined f k s e of =
     )
 
 -- where the first sheet is the beginning of the second
-begins_series : (f : Form) (s : State) (k : Series) (settings : List ℕ) (values : List Value) (entries : List Entry) (more : List ℕ)
+begins_series : (f : Form) (s : State) (k : Series) (settings : List ℕ) (values : List Kept) (entries : List Entry) (more : List ℕ)
     → sheet_as f s ++ more ≡ sheet_by f k settings values entries → s.series ≡ k
 begins_series f s k settings values entries more e =
     let t = s.series in
@@ -239,7 +241,7 @@ tells k input at e = by (ways own k input)
     by (through g v es q all l is) = absurd (wrong_right at g v es (sym e ∙ q))
 
 -- so of a load that 40 refuses
-pub loaded_tells : (image sheet : List ℕ) (at : ℕ) → (loaded image sheet).answer ≡ answer.Wrong at → Tells (series_in image) sheet at
+pub loaded_tells : (image sheet : List ℕ) (at : ℕ) → (loaded image sheet).answer ≡ Err (Wrong at) → Tells (series_in image) sheet at
 loaded_tells image sheet at e = by (loads_as image sheet)
   where
     by : LoadsAs image sheet (loaded image sheet) → Tells (series_in image) sheet at
@@ -252,7 +254,7 @@ pub data MoveTells (f : Form) (sheet : List ℕ) (at : ℕ) : Type 0 where
   of_form : form_in sheet ≡ f → Tells (series_named f sheet) sheet at → MoveTells f sheet at
   of_other : (form_in sheet ≡ f → ⊥) → at ≡ 0 → MoveTells f sheet at
 
-pub moved_tells : (f : Form) (sheet room : List ℕ) (at : ℕ) → (moved_sheet f sheet room).answer ≡ answer.Wrong at → MoveTells f sheet at
+pub moved_tells : (f : Form) (sheet room : List ℕ) (at : ℕ) → (moved_sheet f sheet room).answer ≡ Err (Wrong at) → MoveTells f sheet at
 moved_tells f sheet room at e = by (loading_as f k sheet) refl
   where
     k : Series
@@ -260,7 +262,7 @@ moved_tells f sheet room at e = by (loading_as f k sheet) refl
 
     by : (l : Loading) → loading_as f k sheet ≡ l → MoveTells f sheet at
     by (wrong n) q =
-        let come : answer.Wrong n ≡ answer.Wrong at = sym (ap (λ (l : Loading). (moved_by f k room l).answer) q) ∙ e in
+        let come : ◌≡◌ {A = Sheeted} (Err (Wrong n)) (Err (Wrong at)) = sym (ap (λ (l : Loading). (moved_by f k room l).answer) q) ∙ e in
         let same : n ≡ at = cc in
         by_test (is_of f sheet)
         (λ y. let is = form_of f sheet y in of_form is (tells k sheet at (ap (λ (g : Form). loading_as g k sheet) is ∙ q ∙ ap wrong same)))

@@ -3,10 +3,8 @@ use Prim.Native.Nat.{ℕ, ◌+◌, ◌-◌, ◌≤◌, ◌<◌}
 use mathlib.Core.Path.{◌≡◌, refl, sym, ap, ◌∙◌}
 use mathlib.Core.Bool.{Bool, true, false, cond, ◌&&◌, and-eq-true_iff}
 use mathlib.Core.List.{List, [], ◌∷◌, ◌++◌}
-use native.Mathlib.Nat.{sub-zero}
 use native.Mathlib.Omega.{arith}
 use borrow.Author.Tests.{eqb-true, eq-eqb, ne_eqb, leb-true}
-use borrow.Rule.Slice.PartMut.{mid_of}
 use lib.Dec.{eqb, leb}
 use lib.ListN.{length, get_or, take, length-append}
 use lib.Seq.{take-take, take_at}
@@ -46,8 +44,8 @@ keyed held key most e =
     }
 
 -- the part of what a row holds that the code takes for its key
-pub key_part : {held key : List ℕ} {most : ℕ} → Keyed held key most → {own : List ℕ} {n : ℕ} → own ≡ held → n ≡ key_length own → mid_of 0 (n - 0) own ≡ key
-key_part k e en = rw (en, e, sub-zero) k.is
+pub key_part : {held key : List ℕ} {most : ℕ} → Keyed held key most → {own : List ℕ} {n : ℕ} → own ≡ held → n ≡ key_length own → take n own ≡ key
+key_part k e en = rw (en, e) k.is
 
 -- whatever a row holds, no key is taken for longer than five bytes
 pub key_most : (held : List ℕ) → key_length held ≤ 5

@@ -13,7 +13,7 @@ use Rattle.figures.proofs.Tests.{both}
 use Rattle.instrument.specs.Settings.{held}
 use Rattle.instrument.specs.Values.{values_n}
 use Rattle.instrument.specs.declared.settings.Series.{Series}
-use Rattle.instrument.specs.declared.values.Value.{Value}
+use Rattle.instrument.specs.Values.{Kept}
 use Rattle.state.specs.Entries.{entries_n, contents_of, contents_right, entry_right, is_state}
 use Rattle.state.specs.declared.entries.Entry.{Entry}
 use Rattle.state.specs.declared.entries.State.{State}
@@ -35,7 +35,7 @@ Shows One entries = entries ≡ []
 Shows Two entries = Unit {0}
 
 -- what a sheet can show: each line is right, whether or not a state has that list
-pub record Lined (f : Form) (k : Series) (settings : List ℕ) (values : List Value) (entries : List Entry) : Type 0 where
+pub record Lined (f : Form) (k : Series) (settings : List ℕ) (values : List Kept) (entries : List Entry) : Type 0 where
   pub named : Named k settings values
   pub listed : Listed k entries
   pub shows : Shows f entries
@@ -88,21 +88,21 @@ pub lined_as : (f : Form) (s : State) → is_lined s ≡ true → Lined f s.seri
 lined_as One s e = record { named = lined_named s e; listed = none_listed s.series; shows = refl }
 lined_as Two s e = record { named = lined_named s e; listed = lined_listed s e; shows = tt }
 
-pub unlisted : (f : Form) (k : Series) (settings : List ℕ) (values : List Value) → Named k settings values → Lined f k settings values []
+pub unlisted : (f : Form) (k : Series) (settings : List ℕ) (values : List Kept) → Named k settings values → Lined f k settings values []
 unlisted One k settings values n = record { named = n; listed = none_listed k; shows = refl }
 unlisted Two k settings values n = record { named = n; listed = none_listed k; shows = tt }
 
-pub named_contents : (k : Series) (settings : List ℕ) (values : List Value) → Named k settings values → contents_right (contents_named k settings values) ≡ true
+pub named_contents : (k : Series) (settings : List ℕ) (values : List Kept) → Named k settings values → contents_right (contents_named k settings values) ≡ true
 named_contents k settings values n =
     let ranges = ranges_right k settings n.settings_long ∙ n.settings_right in
     let judged = values_right_lem [] 0 values ∙ n.values_right_lem in
     all_of (padded_right k settings ranges) (all_of (eq-eqb (length values) values_n n.values_long) judged)
 
 -- the entries of a state that has them
-pub entries_back : (k : Series) (settings : List ℕ) (values : List Value) (entries : List Entry) → entries_of (loaded_state k settings values entries) ≡ entries
+pub entries_back : (k : Series) (settings : List ℕ) (values : List Kept) (entries : List Entry) → entries_of (loaded_state k settings values entries) ≡ entries
 entries_back k settings values entries = take-append_seam entries _
 
-pub shown_lined : (f : Form) (k : Series) (settings : List ℕ) (values : List Value) (entries : List Entry) → Lined f k settings values entries
+pub shown_lined : (f : Form) (k : Series) (settings : List ℕ) (values : List Kept) (entries : List Entry) → Lined f k settings values entries
     → is_lined (loaded_state k settings values entries) ≡ true
 shown_lined f k settings values entries l =
     rw (entries_back k settings values entries)

@@ -1,6 +1,6 @@
 -- Laws of lines: one line more, whether the next one fits, and how long a line is.
 use Prim.Native.Nat.{ℕ, suc, ◌+◌, ◌*◌, ◌/◌, ◌%◌, ◌^◌, ◌<◌, ◌≤◌}
-use mathlib.Core.Path.{◌≡◌, refl, sym, ap, ◌∙◌}
+use mathlib.Core.Path.{◌≡◌, refl, sym, ap, subst, ◌∙◌}
 use mathlib.Core.Bool.{cond}
 use mathlib.Core.List.{List, [], ◌∷◌, ◌++◌, append_assoc, append-nil, foldr}
 use native.Mathlib.Nat.{add-zero}
@@ -12,22 +12,34 @@ use lib.ListN.{length, get_or, take, drop, length-append, take-append-drop, drop
 use lib.Seq.{take-suc, take_all, drop-cons, length-take-le}
 use Rattle.figures.specs.Text.{codes, byte}
 use Rattle.figures.specs.Decimal.{digits_of, digits_nBy, digits_n, decimal_of}
-use Rattle.figures.specs.Rooms.{Puts}
+use Rattle.figures.specs.Rooms.{Fills}
+use Rattle.figures.specs.declared.rooms.Room.{Room}
 use Rattle.figures.proofs.Decimal.{digits_length}
 use Rattle.figures.proofs.Tests.{by_test}
-use Rattle.figures.proofs.Putting.{puts_as, puts_more, puts_nothing, puts_long}
+use Rattle.figures.proofs.Putting.{puts_nothing, puts_long, fills_more, fills_as}
 use Rattle.instrument.specs.Settings.{rows100, rows300, rows_of, settings_n, row_at, no_row, held}
 use Rattle.instrument.specs.Values.{is_put}
 use Rattle.instrument.specs.declared.settings.Series.{Series}
 use Rattle.instrument.specs.declared.settings.Series.TheVariants.{Tps100, Tps300}
 use Rattle.instrument.specs.declared.settings.Row.{Row}
-use Rattle.instrument.specs.declared.values.Kept.{Kept}
-use Rattle.instrument.specs.declared.values.Kept.TheVariants.{Never, Put}
+use Rattle.instrument.specs.Values.{Kept}
 use Rattle.state.specs.declared.entries.State.{State}
 use Rattle.sheets.specs.Lines.{LinesOf, lines_by}
 use Rattle.sheets.specs.Sheet.{series_line, setting_key, setting_lines, characters_n, characters_of, value_key, kept_line, value_lines, sheet_of}
-use Rattle.sheets.specs.Keeping.{keys_n, kept_text}
+use Rattle.sheets.specs.Keeping.{Fits, keys_n, kept_text}
 use Rattle.sheets.proofs.Keyed.{value_name}
+use Rattle.std.specs.Prelude.{Some, None}
+
+-- of a text in two parts that fits, the first does, and then the second
+
+pub fits_first : {a : Room} (s t : List ℕ) → Fits a (s ++ t) → Fits a s
+fits_first s t h = record { within = omega (arith, h.within, length-append s t) }
+
+pub fits_next : {a b : Room} (s t : List ℕ) → Fits a (s ++ t) → Fills a s b → Fits b t
+fits_next {a = a} s t h p = record { within = omega (arith, h.within, length-append s t, p.puts.0, puts_long a.bytes.now a.at s p.puts) }
+
+pub fits_as : {a : Room} {s t : List ℕ} → Fits a s → s ≡ t → Fits a t
+fits_as {a} p e = subst (λ x. Fits a x) e p
 
 -- one line more, whatever a line is
 
@@ -48,9 +60,9 @@ module _ {A : Type 0} (l : LinesOf A) where
       ∙ lines_append 0 (take i xs) (get_or xs i d ∷ [])
       ∙ ap (λ t. lines_by l 0 (take i xs) ++ t) (append-nil _ ∙ ap (λ n. l.write n (get_or xs i d)) place)
 
-  pub lines_none : (room : List ℕ) (at : ℕ) (xs : List A) → at ≤ length room → Puts room at (lines_by l 0 (take 0 xs)) at room
+  pub lines_none : (xs : List A) {a : Room} → a.at ≤ length a.bytes.now → Fills a (lines_by l 0 (take 0 xs)) a
   unfolding lines_by
-  lines_none room at xs h = puts_nothing room at h
+  lines_none xs {a} h = record { puts = puts_nothing a.bytes.now a.at h; same = refl }
 
   -- how long the lines before a place are: none, and one more
 
@@ -69,21 +81,19 @@ module _ {A : Type 0} (l : LinesOf A) where
       omega (arith, ap length whole, length-append (lines_by l 0 done) (lines_by l (0 + length done) (drop i xs)))
 
   -- where all lines fit the next does
-  pub lines_fit : (room : List ℕ) (at : ℕ) (xs : List A) (i : ℕ) (d : A) {one : List ℕ} {m : ℕ} → i < length xs
-      → at + length (lines_by l 0 xs) ≤ length room → Puts room at (lines_by l 0 (take i xs)) m one → m + length (l.write i (get_or xs i d)) ≤ length one
-  lines_fit room at xs i d h fits p =
-      omega (arith, p.0, puts_long room at (lines_by l 0 (take i xs)) p, long_more xs i d h, long_all xs (i + 1))
+  pub lines_fit : (xs : List A) (i : ℕ) (d : A) {a b : Room} → i < length xs → Fits a (lines_by l 0 xs) → Fills a (lines_by l 0 (take i xs)) b
+      → Fits b (l.write i (get_or xs i d))
+  lines_fit xs i d {a} h fits p =
+      let done = lines_by l 0 (take i xs) in
+      record { within = omega (arith, p.puts.0, puts_long a.bytes.now a.at done p.puts, fits.within, long_more xs i d h, long_all xs (i + 1)) }
 
   -- the line of the next place is put after those before it
-  pub lines_put : (room : List ℕ) (at : ℕ) (xs : List A) (i : ℕ) (d : A) {text one two : List ℕ} {m n : ℕ} → i < length xs → text ≡ l.write i (get_or xs i d)
-      → Puts room at (lines_by l 0 (take i xs)) m one → Puts one m text n two → Puts room at (lines_by l 0 (take (i + 1) xs)) n two
-  lines_put room at xs i d {text} h e p q =
-      let next = puts_more room at (lines_by l 0 (take i xs)) text p q in
-      puts_as room at _ _ (lines_more xs i d h ∙ ap (λ t. lines_by l 0 (take i xs) ++ t) (sym e)) refl refl next
+  pub lines_put : (xs : List A) (i : ℕ) (d : A) {a b c : Room} {text : List ℕ} → i < length xs → text ≡ l.write i (get_or xs i d)
+      → Fills a (lines_by l 0 (take i xs)) b → Fills b text c → Fills a (lines_by l 0 (take (i + 1) xs)) c
+  lines_put xs i d h e p q = fills_as (fills_more p q) (ap (λ t. lines_by l 0 (take i xs) ++ t) e ∙ sym (lines_more xs i d h))
 
-  pub lines_all : (room : List ℕ) (at : ℕ) (xs : List A) (i : ℕ) {one : List ℕ} {m : ℕ} → length xs ≤ i
-      → Puts room at (lines_by l 0 (take i xs)) m one → Puts room at (lines_by l 0 xs) m one
-  lines_all room at xs i h p = rw (take_all i xs h) at p
+  pub lines_all : (xs : List A) (i : ℕ) {a b : Room} → length xs ≤ i → Fills a (lines_by l 0 (take i xs)) b → Fills a (lines_by l 0 xs) b
+  lines_all xs i h p = fills_as p (ap (lines_by l 0) (take_all i xs h))
 
 -- a number of up to three digits, by them
 
@@ -122,9 +132,9 @@ setting_long k i p =
 -- a value's name, a separator, what was put, LF
 
 pub text_long : (i separator : ℕ) (k : Kept) → length (kept_text i separator k) ≡ length (value_name i) + 2 + characters_n * cond (is_put k) 1 0
-text_long i separator Never = omega (arith, length-append (value_name i) (separator ∷ codes "\n"))
-text_long i separator (Put u m d) =
-    let c = characters_of i (Put u m d) in
+text_long i separator None = omega (arith, length-append (value_name i) (separator ∷ codes "\n"))
+text_long i separator (Some p) =
+    let c = characters_of i (Some p) in
     omega (arith, length-append (value_name i) (separator ∷ (c ++ codes "\n")), length-append c (codes "\n"))
 
 pub kept_text_lem : (i : ℕ) (k : Kept) → kept_line i k ≡ kept_text i (byte "=") k

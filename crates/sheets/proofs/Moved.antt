@@ -10,7 +10,7 @@ use Rattle.figures.specs.Bytes.{starts_with}
 use Rattle.figures.proofs.Tests.{clash, by_test}
 use Rattle.instrument.specs.declared.settings.Series.{Series}
 use Rattle.instrument.specs.declared.settings.Series.TheVariants.{Tps100, Tps300}
-use Rattle.instrument.specs.declared.values.Value.{Value}
+use Rattle.instrument.specs.Values.{Kept}
 use Rattle.state.specs.Entries.{factory_state, is_state}
 use Rattle.state.specs.Image.{image_n, image_of, encoded_in}
 use Rattle.state.specs.Keeping.{count_in}
@@ -25,8 +25,10 @@ use Rattle.sheets.specs.Writing.{Sheet·room, Leaves, unwritten, sheet_in_room, 
 use Rattle.sheets.specs.Keeping.{is_of, sheet_most}
 use Rattle.sheets.specs.declared.forms.Form.{Form}
 use Rattle.sheets.specs.declared.forms.Form.TheVariants.{One, Two}
-use Rattle.sheets.specs.declared.answers.Sheeted.{Sheeted}
-use Rattle.sheets.specs.declared.answers.Sheeted.TheVariants.{Wrong, Standing, Written}
+use Rattle.sheets.specs.Answers.{Sheeted, LoadAnswer}
+use Rattle.sheets.specs.declared.answers.SheetRefusal.{SheetRefusal}
+use Rattle.sheets.specs.declared.answers.SheetRefusal.TheVariants.{Wrong, Standing}
+use Rattle.std.specs.Prelude.{Ok, Err}
 use Rattle.sheets.proofs.Partwise.{starts_parted}
 use Rattle.sheets.proofs.Sheets.{sheet_one, loads_sheet}
 use Rattle.sheets.proofs.Sizes.{sheet_below}
@@ -54,7 +56,7 @@ not_of_form Two k sheet e = rw e
 -- the image is that of the state that the sheet loads to
 pub record Holds (f : Form) (k : Series) (sheet image : List ℕ) : Type 0 where
   pub settings : List ℕ
-  pub values : List Value
+  pub values : List Kept
   pub entries : List Entry
   pub loads : loading_as f k sheet ≡ right settings values entries
   pub state : is_state (loaded_state k settings values entries) ≡ true
@@ -62,7 +64,7 @@ pub record Holds (f : Form) (k : Series) (sheet image : List ℕ) : Type 0 where
 
 -- what loading into the factory's image comes to
 module _ (f : Form) (k : Series) (sheet : List ℕ) (of : is_of f sheet ≡ true) (image : List ℕ) (long : length image ≡ image_n k) {first : List ℕ}
-    (laid : first ≡ encoded_in (factory_state k) image) {r : Sheeted} {second : List ℕ} (l : Loads first sheet r second) where
+    (laid : first ≡ encoded_in (factory_state k) image) {r : LoadAnswer} {second : List ℕ} (l : Loads first sheet r second) where
   loads_by : (m : Loading) → loading_as f k sheet ≡ m → let o = loaded_by k (image_of (factory_state k)) m in (r ≡ o.answer) × (second ≡ o.image)
   loads_by m e =
       let i = image_of (factory_state k) in
@@ -73,18 +75,23 @@ module _ (f : Form) (k : Series) (sheet : List ℕ) (of : is_of f sheet ≡ true
       ∙ ap (loaded_by k i) e in
       (l.0 ∙ ap (λ (o : Loaded·image). o.answer) so, l.1 ∙ ap (λ (o : Loaded·image). o.image) so)
 
-  pub told_wrong : {at : ℕ} → r ≡ Wrong at → loading_as f k sheet ≡ wrong at
-  told_wrong {at} e = by (loading_as f k sheet) refl
+  -- a refusal tells the wrong line, and is what moving comes to
+  pub moved_refused : {e : SheetRefusal} → r ≡ Err e → (room : List ℕ) → Leaves (moved_by f k room (loading_as f k sheet)) (Err e) room
+  moved_refused {e} is room = by (loading_as f k sheet) refl
     where
-      by : (m : Loading) → loading_as f k sheet ≡ m → m ≡ wrong at
-      by (wrong a) q = let t = loads_by (wrong a) q in cc
+      by : (m : Loading) → loading_as f k sheet ≡ m → Leaves (moved_by f k room (loading_as f k sheet)) (Err e) room
+      by (wrong a) q =
+          let t = loads_by (wrong a) q in
+          let so : ◌≡◌ {A = LoadAnswer} (Err e) (Err (Wrong a)) = sym is ∙ t.0 in
+          let tells : e ≡ Wrong a = cc in
+          (ap (λ (r : SheetRefusal). Err r) tells ∙ ap (λ (l : Loading). (moved_by f k room l).answer) (sym q), ap (λ (l : Loading). (moved_by f k room l).room) (sym q))
       by (right settings values entries) q = let t = loads_by (right settings values entries) q in absurd (clash (cc))
 
-  pub holds : ((at : ℕ) → r ≡ Wrong at → ⊥) → Holds f k sheet second
-  holds not = by (loading_as f k sheet) refl
+  pub holds : {u : Unit {0}} → r ≡ Ok u → Holds f k sheet second
+  holds is = by (loading_as f k sheet) refl
     where
       by : (m : Loading) → loading_as f k sheet ≡ m → Holds f k sheet second
-      by (wrong a) q = absurd (not a (loads_by (wrong a) q).0)
+      by (wrong a) q = let t = loads_by (wrong a) q in absurd (clash (cc))
       by (right settings values entries) q = record {
         settings = settings;
         values = values;
@@ -97,7 +104,7 @@ module _ (f : Form) (k : Series) (sheet : List ℕ) (of : is_of f sheet ≡ true
 -- what comes of it
 
 pub moved_wrong : (f : Form) (k : Series) (sheet room : List ℕ) {at : ℕ} → loading_as f k sheet ≡ wrong at
-    → Leaves (moved_by f k room (loading_as f k sheet)) (Wrong at) room
+    → Leaves (moved_by f k room (loading_as f k sheet)) (Err (Wrong at)) room
 moved_wrong f k sheet room e = (ap (λ (m : Loading). (moved_by f k room m).answer) (sym e), ap (λ (m : Loading). (moved_by f k room m).room) (sym e))
 
 module _ {f : Form} {k : Series} {sheet image : List ℕ} (h : Holds f k sheet image) where
@@ -126,23 +133,26 @@ module _ {f : Form} {k : Series} {sheet image : List ℕ} (h : Holds f k sheet i
 
   -- otherwise the list's place is told: after as many bytes as the first form has
   module _ {r : Sheeted} {lines : List ℕ} (w : WritesSheet One image (replicate (sheet_most One) 0) r lines) where
-    pub first_written : r ≡ Written (length (sheet_of s))
+    pub first_written : r ≡ Ok (length (sheet_of s))
     first_written =
         let blank : List ℕ = replicate (sheet_most One) 0 in
         let below : length (sheet_as One s) ≤ length blank = omega (arith, sheet_below One s h.state, length-replicate {A = ℕ} (sheet_most One) 0) in
         w.0 ∙ ap (λ (o : Sheet·room). o.answer) (held_writes One blank ∙ fits (sheet_as One s) blank below)
-        ∙ ap (λ (t : List ℕ). Written (length t)) (sheet_one s)
+        ∙ ap (λ (t : List ℕ). Ok (length t)) (sheet_one s)
 
-    first_long : {n : ℕ} → r ≡ Written n → n ≡ length (sheet_of s)
+    pub not_refused : {e : SheetRefusal} → r ≡ Err e → ⊥
+    not_refused is = let never = sym is ∙ first_written in clash (cc)
+
+    first_long : {n : ℕ} → r ≡ Ok n → n ≡ length (sheet_of s)
     first_long e = cc first_written
 
-    pub first_most : {n : ℕ} → r ≡ Written n → n ≤ sheet_most One
+    pub first_most : {n : ℕ} → r ≡ Ok n → n ≤ sheet_most One
     first_most e = omega (arith, first_long e, ap length (sheet_one s), sheet_below One s h.state)
 
-    pub moved_standing : (room : List ℕ) {n m : ℕ} → n ≡ count_in k image → (n ≡ 0 → ⊥) → r ≡ Written m
-        → Leaves (moved_by f k room (loading_as f k sheet)) (Standing (length (form_line Two) + m)) room
+    pub moved_standing : (room : List ℕ) {n m : ℕ} → n ≡ count_in k image → (n ≡ 0 → ⊥) → r ≡ Ok m
+        → Leaves (moved_by f k room (loading_as f k sheet)) (Err (Standing (length (form_line Two) + m))) room
     moved_standing room {n} {m} e some q =
         let so : moved_by f k room (loading_as f k sheet) ≡ unwritten (Standing (length (form_line Two ++ sheet_of s))) room =
         moved_held room ∙ rw (ne_eqb s.count 0 (λ z. some (e ∙ count_held ∙ z))) in
         let at : length (form_line Two) + m ≡ length (form_line Two ++ sheet_of s) = omega (arith, first_long q, length-append (form_line Two) (sheet_of s)) in
-        (ap Standing at ∙ ap (λ (o : Sheet·room). o.answer) (sym so), ap (λ (o : Sheet·room). o.room) (sym so))
+        (ap (λ (n : ℕ). Err (Standing n)) at ∙ ap (λ (o : Sheet·room). o.answer) (sym so), ap (λ (o : Sheet·room). o.room) (sym so))

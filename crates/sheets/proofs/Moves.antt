@@ -28,7 +28,8 @@ use Rattle.sheets.specs.Loading.{Loading, wrong, right, loaded_state, loading_as
 use Rattle.sheets.specs.Writing.{Sheet·room, unwritten, sheet_in_room, series_named, other_form, moved_by, moved_sheet}
 use Rattle.sheets.specs.declared.forms.Form.{Form}
 use Rattle.sheets.specs.declared.forms.Form.TheVariants.{One, Two}
-use Rattle.sheets.specs.declared.answers.Sheeted.TheVariants.{Wrong, Standing, Written}
+use Rattle.sheets.specs.declared.answers.SheetRefusal.TheVariants.{Wrong, Standing}
+use Rattle.std.specs.Prelude.{Ok, Err}
 use Rattle.sheets.proofs.Sheets.{shown_in, sheet_one, sheet_contents, past_form, sheet_by_lem, sheet_loads, shown_back}
 use Rattle.sheets.proofs.Sheets.{wrong_right, loads_sheet}
 use Rattle.sheets.proofs.Lined.{entries_in}
@@ -87,7 +88,7 @@ moves_as f sheet room = by (loading_as f (series_named f sheet) sheet) refl
         let es : entries_in f s ≡ entries = cc in
         of_state s back.0 (sym (shown_back f s back.0) ∙ (λ i. loaded_state n (gs i) values (es i))) back.1 refl
 
-not_wrong : (f : Form) (s : State) (room : List ℕ) (at : ℕ) → (moved_of f s room).answer ≡ Wrong at → ⊥
+not_wrong : (f : Form) (s : State) (room : List ℕ) (at : ℕ) → (moved_of f s room).answer ≡ Err (Wrong at) → ⊥
 not_wrong f s room at q =
     let text = sheet_as (other_form f) s in
     by_test (eqb s.count 0)
@@ -95,7 +96,7 @@ not_wrong f s room at q =
     (λ y. clash (cc (rw y at q)))
 
 -- it "takes exactly the bytes some sheet has", of the form and of either series: 40 is told of no such sheet, and of all else
-pub move_takes : (f : Form) (sheet room : List ℕ) → IsSheet f sheet ↔ ((at : ℕ) → (moved_sheet f sheet room).answer ≡ Wrong at → ⊥)
+pub move_takes : (f : Form) (sheet room : List ℕ) → IsSheet f sheet ↔ ((at : ℕ) → (moved_sheet f sheet room).answer ≡ Err (Wrong at) → ⊥)
 move_takes f sheet room = (
   λ t at q.
       let come = ap (λ (l : List ℕ). moved_sheet f l room) (sym t.2) ∙ moved_sheet_lem f t.0 room t.1 in
@@ -103,7 +104,7 @@ move_takes f sheet room = (
   λ h. by h (moves_as f sheet room),
 )
   where
-    by : ((at : ℕ) → (moved_sheet f sheet room).answer ≡ Wrong at → ⊥) → MovesAs f sheet room (moved_sheet f sheet room) → IsSheet f sheet
+    by : ((at : ℕ) → (moved_sheet f sheet room).answer ≡ Err (Wrong at) → ⊥) → MovesAs f sheet room (moved_sheet f sheet room) → IsSheet f sheet
     by h (no_sheet at q not) = absurd (h at (ap (λ (o : Sheet·room). o.answer) q))
     by h (of_state s is shown has q) = (s, is, has)
 
@@ -169,7 +170,7 @@ other_other One = refl
 other_other Two = refl
 
 -- what was written had no entry, and stands in the room
-written_by : (f : Form) (s : State) (room : List ℕ) (n : ℕ) → (moved_of f s room).answer ≡ Written n
+written_by : (f : Form) (s : State) (room : List ℕ) (n : ℕ) → (moved_of f s room).answer ≡ Ok n
     → (s.count ≡ 0) × (take n (moved_of f s room).room ≡ sheet_as (other_form f) s)
 written_by f s room n q =
     let text = sheet_as (other_form f) s in
@@ -183,7 +184,7 @@ written_by f s room n q =
     (λ y. absurd (clash (cc (rw y at q))))
 
 -- a sheet that was moved, moved back, gives the same bytes, whichever form it was of
-pub move_back : (f : Form) (sheet room other : List ℕ) (n : ℕ) → (moved_sheet f sheet room).answer ≡ Written n
+pub move_back : (f : Form) (sheet room other : List ℕ) (n : ℕ) → (moved_sheet f sheet room).answer ≡ Ok n
     → moved_sheet (other_form f) (take n (moved_sheet f sheet room).room) other ≡ sheet_in_room sheet other
 move_back f sheet room other n h = by (moves_as f sheet room)
   where
@@ -199,7 +200,7 @@ move_back f sheet room other n h = by (moves_as f sheet room)
         ∙ rw (eq-eqb s.count 0 zero, other_other f, has)
 
 -- refused, the room is as it was
-pub move_refused : (f : Form) (sheet room : List ℕ) → ((n : ℕ) → (moved_sheet f sheet room).answer ≡ Written n → ⊥) → (moved_sheet f sheet room).room ≡ room
+pub move_refused : (f : Form) (sheet room : List ℕ) → ((n : ℕ) → (moved_sheet f sheet room).answer ≡ Ok n → ⊥) → (moved_sheet f sheet room).room ≡ room
 move_refused f sheet room h = by (moves_as f sheet room)
   where
     by : MovesAs f sheet room (moved_sheet f sheet room) → (moved_sheet f sheet room).room ≡ room

@@ -14,7 +14,7 @@ use Rattle.figures.proofs.Bytes.{every_append, run_other, starts_append}
 use Rattle.figures.proofs.Tests.{by_test}
 use Rattle.instrument.specs.Settings.{held}
 use Rattle.instrument.specs.declared.settings.Series.{Series}
-use Rattle.instrument.specs.declared.values.Value.{Value}
+use Rattle.instrument.specs.Values.{Kept}
 use Rattle.state.specs.declared.entries.Entry.{Entry}
 use Rattle.state.specs.declared.entries.State.{State}
 use Rattle.sheets.specs.Sheet.{sheet_of}
@@ -76,7 +76,7 @@ lined_nowhere k input f s e of is at w =
     false≢true (sym (w.ended q f s e of) ∙ ap (starts_with (take n input)) parted ∙ starts_append (take n input) (drop n input)))
 
 -- so none in one that loads
-pub right_nowhere : (k : Series) (input settings : List ℕ) (values : List Value) (entries : List Entry) → loading_of k input ≡ right settings values entries
+pub right_nowhere : (k : Series) (input settings : List ℕ) (values : List Kept) (entries : List Entry) → loading_of k input ≡ right settings values entries
     → (at : ℕ) → FirstWrong k input at → ⊥
 right_nowhere k input settings values entries e =
     let s = loaded_state k settings values entries in

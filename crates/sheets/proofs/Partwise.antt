@@ -9,14 +9,17 @@ use native.Mathlib.Numerals.{add-one}
 use native.Mathlib.Omega.{arith}
 use borrow.Rule.Slice.PartMut.{mid_of}
 use lib.ListN.{length, set, take, drop, length-append, length-drop, take-append-drop}
-use lib.Seq.{append_snoc, take_all, take-suc-set, drop-drop, drop-append_seam}
+use lib.Seq.{append_snoc, take_all, take-suc-set, drop-drop, drop-set-lt, drop-append_seam}
 use Rattle.figures.specs.Bytes.{starts_with}
 use Rattle.figures.proofs.Bytes.{starts_append, starts_true, starts_length}
 use Rattle.figures.proofs.Tests.{both, by_test}
 use Rattle.commands.proofs.Shape.{to_end}
-use Rattle.sheets.specs.Lines.{LinesOf, lines_by, Part, wrong_at, part_by}
-use Rattle.sheets.specs.Keeping.{line_stands}
-use Rattle.sheets.specs.declared.loading.Came.TheVariants.{To}
+use Rattle.sheets.specs.Lines.{LinesOf, lines_by, Came, Part, wrong_at, part_by}
+use Rattle.sheets.specs.Keeping.{line_stands, line_taken, kept_as}
+use Rattle.sheets.specs.declared.answers.SheetRefusal.{SheetRefusal}
+use Rattle.sheets.specs.declared.answers.SheetRefusal.TheVariants.{Wrong}
+use Rattle.sheets.specs.declared.loading.Taken.{Taken}
+use Rattle.std.specs.Prelude.{Option, Some, None, Ok, Err}
 
 -- what is held at the places from i on, after what the lines before them hold, may all be held in its turn
 unfoldable pub right_by : {A : Type 0} → LinesOf A → List A → ℕ → List A → Bool
@@ -29,7 +32,7 @@ Said l = (got : List _) (i : ℕ) (x : _) (rest : List ℕ) → l.may got i x �
 
 -- a part that came to a place
 abbrev pub came : {A : Type 0} → ℕ → List A → Part A
-came to got = record { came = To to; got = got }
+came to got = record { came = Ok to; got = got }
 
 pub wrong_came : {A : Type 0} {at to : ℕ} {all : List A} → wrong_at at ≡ came to all → ⊥
 wrong_came e =
@@ -57,11 +60,11 @@ taken_within {l = l} {i = i} {sheet = sheet} {at = at} {to = to} {all = all} t h
 abbrev pub left_of : {A : Type 0} → LinesOf A → ℕ → ℕ → ℕ → List ℕ → List A → Part A
 left_of l n i at sheet got = part_by l (n - i) i at (drop at sheet) (take i got)
 
--- a turn whose line has m bytes, none where it isn't right, and holds x
-pub record Turned {A : Type 0} (l : LinesOf A) (n i at : ℕ) (sheet : List ℕ) (got : List A) (x : A) (m : ℕ) : Type 0 where
-  pub astray : m ≡ 0 → left_of l n i at sheet got ≡ wrong_at at
-  pub within : (m ≡ 0 → ⊥) → at + m ≤ length sheet
-  pub more : (m ≡ 0 → ⊥) → left_of l n i at sheet got ≡ left_of l n (i + 1) (at + m) sheet (set got i x)
+-- a turn, by the line that was taken, if it is right
+pub record Turned {A : Type 0} (l : LinesOf A) (n i at : ℕ) (sheet : List ℕ) (got : List A) (taken : Option (Taken A)) : Type 0 where
+  pub astray : taken ≡ None → left_of l n i at sheet got ≡ wrong_at at
+  pub within : (t : Taken A) → taken ≡ Some t → at + t.to ≤ length sheet
+  pub more : (t : Taken A) → taken ≡ Some t → left_of l n i at sheet got ≡ left_of l n (i + 1) (at + t.to) sheet (set got i t.held)
 
 -- no line that may stand at a place stands there
 abbrev pub NoLine : {A : Type 0} → LinesOf A → List A → ℕ → List ℕ → Type 0
@@ -74,20 +77,46 @@ pub data Went {A : Type 0} (l : LinesOf A) (n : ℕ) (got : List A) (i : ℕ) (s
       → NoLine l (got ++ held) (i + length held) (drop to sheet)
       → Went l n got i sheet at p
 
+pub none_some : {T : Type 0} {t : T} → ◌≡◌ {A = Option T} None (Some t) → ⊥
+none_some e = cc
+
+pub some_same : {T : Type 0} {t u : T} → ◌≡◌ {A = Option T} (Some t) (Some u) → t ≡ u
+some_same e = cc
+
+-- past a place that is set, a list is as it was
+pub set_past : {A : Type 0} (xs blanks : List A) (i : ℕ) (x : A) → drop i xs ≡ drop i blanks → drop (i + 1) (set xs i x) ≡ drop (i + 1) blanks
+set_past xs blanks i x e =
+    drop-set-lt (i + 1) xs i x (omega arith) ∙ sym (drop-drop 1 i xs) ∙ ap (drop 1) e ∙ drop-drop 1 i blanks
+
+-- what is kept of lines tells how far they came
+
+pub record Astray (c : Came) (e : SheetRefusal) : Type 0 where
+  pub at : ℕ
+  pub came : c ≡ Err at
+  pub tells : e ≡ Wrong at
+
+pub kept_astray : {A : Type 0} (held : A) (c : Came) {e : SheetRefusal} → kept_as held c ≡ Err e → Astray c e
+kept_astray held (Err at) q = record { at = at; came = refl; tells = cc }
+kept_astray held (Ok at) q = absurd (cc q)
+
+pub kept_whole : {A : Type 0} (held : A) (c : Came) {t : Taken A} → kept_as held c ≡ Ok t → (c ≡ Ok t.to) × (t.held ≡ held)
+kept_whole held (Err at) q = absurd (cc q)
+kept_whole held (Ok at) {t} q =
+    let same : t ≡ record { to = at; held = held } = cc in
+    (ap (λ (x : Taken _). Ok x.to) (sym same), ap (λ (x : Taken _). x.held) same)
+
 module _ {A : Type 0} (l : LinesOf A) where
-  -- a turn of the loop, by what the call in it answers: `some` where the line is right, whatever the lines before it hold
-  pub part_turned : {T : Type 0} (n i at : ℕ) (sheet : List ℕ) (got : List A) → i < n → i < length got → at ≤ length sheet
+  -- a turn of the loop, by what the call in it answers: the line where it is right, whatever the lines before it hold
+  pub part_turned : (n i at : ℕ) (sheet : List ℕ) (got : List A) → i < n → i < length got → at ≤ length sheet
       → ((before : List A) (x : A) → l.may before i x ≡ l.may [] i x)
-      → let rest = mid_of at (length sheet - at) sheet in
-      (size : T → ℕ) (held : T → A) (t some none : T) → t ≡ cond (line_stands l i rest) some none
-      → size some ≡ length (l.write i (l.says i rest)) → 0 < size some → held some ≡ l.says i rest → size none ≡ 0
-      → Turned l n i at sheet got (held t) (size t)
+      → (taken : Option (Taken A)) → taken ≡ line_taken l i (mid_of at (length sheet - at) sheet) → Turned l n i at sheet got taken
   unfolding part_by
-  part_turned n i at sheet got hn hg ha any size held t some none is long pos holds nought =
+  part_turned n i at sheet got hn hg ha any taken is =
       let rest = mid_of at (length sheet - at) sheet in
       let here = to_end at sheet in
       let x = l.says i rest in
       let w = l.write i x in
+      let some : Taken A = record { to = length w; held = x } in
       let left : n - i ≡ suc (n - (i + 1)) = omega arith in
       let past : drop (length w) rest ≡ drop (at + length w) sheet = ap (drop (length w)) here ∙ drop-drop (length w) at sheet in
       let next = part_by l (n - (i + 1)) (i + 1) (at + length w) (drop (length w) rest) (take i got ++ (x ∷ [])) in
@@ -95,15 +124,19 @@ module _ {A : Type 0} (l : LinesOf A) where
       ap (λ (r : List ℕ). part_by l (n - i) i at r (take i got)) (sym here) ∙ rw (left, any (take i got) x) in
       by_test (line_stands l i rest)
       (λ e.
-      let so : t ≡ some = is ∙ rw e in
+      let so : taken ≡ Some some = is ∙ rw e in
       let stands = (both (l.may [] i x) (starts_with w rest) e).1 in record {
-        astray = λ z. absurd (omega (arith, ap size so));
-        within = λ z. omega (arith, ap size so, starts_length w rest stands, ap length here, length-drop at sheet);
-        more = λ z. turn ∙ rw (e, so, long, holds, past, add-one i, take-suc-set got i x hg);
+        astray = λ z. absurd (none_some (sym z ∙ so));
+        within = λ t z.
+            let same : t ≡ some = some_same (sym z ∙ so) in
+            omega (arith, ap (λ (r : Taken A). r.to) same, starts_length w rest stands, ap length here, length-drop at sheet);
+        more = λ t z.
+            let same : t ≡ some = some_same (sym z ∙ so) in
+            turn ∙ rw (e, same, past, add-one i, take-suc-set got i x hg);
       })
       (λ e.
-      let so : size t ≡ 0 = ap size (is ∙ rw e) ∙ nought in
-      record { astray = λ z. turn ∙ rw e; within = λ z. absurd (z so); more = λ z. absurd (z so) })
+      let so : taken ≡ None = is ∙ rw e in
+      record { astray = λ z. turn ∙ rw e; within = λ t z. absurd (none_some (sym so ∙ z)); more = λ t z. absurd (none_some (sym so ∙ z)) })
 
   pub part_ended : (n i at : ℕ) (sheet : List ℕ) (got : List A) → i ≡ n → left_of l n i at sheet got ≡ came at (take i got)
   unfolding part_by

@@ -22,8 +22,10 @@ use Rattle.pieces.specs.Pieces.{pieces}
 use Rattle.sheets.specs.Playing.{call_of, refused_input, input_most, printed, Prints}
 use Rattle.sheets.specs.Keeping.{lent_of, run_by}
 use Rattle.sheets.specs.declared.forms.Form.TheVariants.{One}
-use Rattle.sheets.specs.declared.answers.Sheeted.{Sheeted}
-use Rattle.sheets.specs.declared.answers.Sheeted.TheVariants.{NoState, Room, Wrong, Standing, Written, Loaded}
+use Rattle.sheets.specs.Answers.{Sheeted}
+use Rattle.sheets.specs.declared.answers.SheetRefusal.TheVariants.{Room}
+use Rattle.std.specs.Prelude.{Ok, Err}
+use Rattle.std.specs.Result.{result_unwrap_or}
 use Rattle.sheets.proofs.Sheets.{sheet_one}
 use Rattle.sheets.proofs.Images.{image_writes}
 
@@ -63,12 +65,7 @@ write_printed input image room room' answer h ei w =
 
 -- how much an answer says was written
 abbrev pub written_n : Sheeted → ℕ
-written_n NoState = 0
-written_n Room = 0
-written_n (Wrong at) = 0
-written_n (Standing at) = 0
-written_n (Written n) = n
-written_n Loaded = 0
+written_n a = result_unwrap_or a 0
 
 fitted_tells : (sheet room : List ℕ)
     → (written_n (sheet_in_room sheet room).answer ≡ cond (leb (length sheet) (length room)) (length sheet) 0)
@@ -76,7 +73,7 @@ fitted_tells : (sheet room : List ℕ)
 fitted_tells sheet room = by (leb (length sheet) (length room))
   where
     out : Bool → Sheet·room
-    out b = cond b (record { answer = Written (length sheet); room = laid sheet room }) (record { answer = Room; room = room })
+    out b = cond b (record { answer = Ok (length sheet); room = laid sheet room }) (record { answer = Err Room; room = room })
 
     by : (b : Bool) → (written_n (out b).answer ≡ cond b (length sheet) 0) × ((out b).room ≡ cond b (laid sheet room) room)
     by true = (refl, refl)

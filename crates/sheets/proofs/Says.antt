@@ -7,7 +7,7 @@ use mathlib.Core.List.{List, [], ◌∷◌, ◌++◌, append_assoc}
 use native.Mathlib.Numerals.{add-one}
 use native.Mathlib.Omega.{arith}
 use borrow.Author.Tests.{leb-true, ltb-true, eqb-true, eq-eqb, ne_eqb}
-use lib.Dec.{eqb, leb, ltb}
+use lib.Dec.{eqb, ltb}
 use lib.ListN.{length, take, drop, drop_of_length-le}
 use lib.Seq.{drop-cons, take-append_seam, drop-append_seam, length-take-le, get_or-take}
 use Rattle.figures.specs.Text.{codes}
@@ -19,27 +19,26 @@ use Rattle.figures.proofs.Tests.{both, by_test, Even, along}
 use Rattle.units.proofs.Positions.{sign_on}
 use Rattle.instrument.specs.Rows.{seek}
 use Rattle.instrument.specs.Settings.{no_row, rows100, rows300, rows_of, row_at, setting_number, setting_place, is_asked, in_range, in_ranges, settings_n}
-use Rattle.instrument.specs.Values.{values_n, stored, stored_at, index_number, value_place, put_right, put_kept, kept_right, value_word}
-use Rattle.state.specs.Entries.{entries_n, entry_of, blank_entry, is_never, settable, item_right, entry_right, value_of, values_right, is_state}
+use Rattle.instrument.specs.Values.{values_n, stored, stored_at, index_number, value_place, put_kept, kept_right}
+use Rattle.state.specs.Entries.{entries_n, entry_of, blank_entry, is_never, settable, item_right, entry_right, values_right, is_state}
 use Rattle.instrument.specs.declared.settings.Series.{Series}
 use Rattle.instrument.specs.declared.settings.Series.TheVariants.{Tps100, Tps300}
-use Rattle.instrument.specs.declared.settings.Found.{Found}
-use Rattle.instrument.specs.declared.settings.Found.TheVariants.{Nothing, At}
-use Rattle.instrument.specs.declared.values.Kept.{Kept}
-use Rattle.instrument.specs.declared.values.Kept.TheVariants.{Never, Put}
-use Rattle.instrument.specs.declared.values.Value.{Value}
+use Rattle.instrument.specs.Values.{Kept}
 use Rattle.state.specs.declared.entries.Item.{Item}
 use Rattle.state.specs.declared.entries.Item.TheVariants.{Free, Setting, Stored}
 use Rattle.state.specs.declared.entries.Entry.{Entry}
 use Rattle.state.specs.declared.entries.State.{State}
 use Rattle.state.proofs.Listed.{EachRight, entries_right}
 use Rattle.state.proofs.Steps.{state_parts}
+use Rattle.instrument.specs.Values.{Eight, put_of, eight_bytes}
+use Rattle.instrument.proofs.Kept.{kept_parts, eight_whole}
 use Rattle.instrument.proofs.Ranges.{range_byte}
 use Rattle.sheets.specs.Sheet.{setting_key, said_by, setting_lines, characters_of, value_key, value_lines}
 use Rattle.sheets.specs.Undo.{count_key, count_lines, item_key, entry_line, setting_said, stored_said, number_said, entry_said, entry_lines, entries_of}
 use Rattle.sheets.specs.Keeping.{digits_first}
 use Rattle.sheets.proofs.Linewise.{short_decimal}
 use Rattle.sheets.proofs.Partwise.{right_by, Said}
+use Rattle.std.specs.Prelude.{Option, Some, None}
 
 -- the digits at the start, k of them at most, and what they say after n
 
@@ -115,45 +114,46 @@ not_never (x ∷ k) b rest h = rw (eq-eqb x x refl) (not_never k b rest h)
 
 -- after a key, in a value's line and in that of an entry
 abbrev kept_after : List ℕ → List ℕ → Kept
-kept_after key rest = cond (starts_with (key ++ codes "\n") rest) Never (put_kept (drop (length key) rest))
+kept_after key rest = cond (starts_with (key ++ codes "\n") rest) None (put_kept (drop (length key) rest))
 
 kept_said : (key : List ℕ) (place : ℕ) (k : Kept) (rest : List ℕ) → kept_right place k ≡ true
     → kept_after key ((key ++ (characters_of place k ++ codes "\n")) ++ rest) ≡ k
-kept_said key place Never rest e = rw (starts_append (key ++ codes "\n") rest)
-kept_said key place (Put u m d) rest e =
-    let c = characters_of place (Put u m d) in
+kept_said key place None rest e = rw (starts_append (key ++ codes "\n") rest)
+kept_said key place (Some p) rest e =
+    let c = characters_of place (Some p) in
+    let parts = kept_parts place p e in
     let put : starts_with (key ++ codes "\n") (key ++ (c ++ (10 ∷ rest))) ≡ false =
     not_never key (48 + (stored_at place).index / 10 % 10) (drop 1 c ++ (10 ∷ rest)) (omega arith) in
-    let small : m ≤ 1 = leb-true m 1 (both (leb m 1) (put_right place (value_word 46 place u m d)) e).0 in
     ap (kept_after key) (line_on key c rest)
-    ∙ ap (λ (b : Bool). cond b Never (put_kept (drop (length key) (key ++ (c ++ (10 ∷ rest)))))) put
+    ∙ ap (λ (b : Bool). cond b None (put_kept (drop (length key) (key ++ (c ++ (10 ∷ rest)))))) put
     ∙ ap put_kept (drop-append_seam key (c ++ (10 ∷ rest)))
-    ∙ ap (λ (s : ℕ). Put u s d) (sign_on m small)
+    ∙ ap (λ (s : ℕ). put_of p.unit s (eight_bytes p.eight)) (sign_on p.minus parts.small)
+    ∙ ap (λ (d : Eight). put_of p.unit p.minus d) (eight_whole p.eight parts.long)
 
 pub value_said : Said value_lines
-value_said got place v rest e = ap value_of (kept_said (value_key place) place v.kept rest e)
+value_said got place v rest e = kept_said (value_key place) place v rest e
 
 -- entries
 
 -- a number of up to three digits that finds its place again
-abbrev is_found_at : ℕ → Found → Bool
-is_found_at i Nothing = false
-is_found_at i (At j) = eqb j i
+abbrev is_found_at : ℕ → Option ℕ → Bool
+is_found_at i None = false
+is_found_at i (Some j) = eqb j i
 
-abbrev finds_again : (ℕ → ℕ) → (ℕ → Found) → ℕ → Bool
+abbrev finds_again : (ℕ → ℕ) → (ℕ → Option ℕ) → ℕ → Bool
 finds_again number place i = ltb (number i) 1000 && is_found_at i (place (number i))
 
-abbrev FindsAgain : (ℕ → ℕ) → (ℕ → Found) → ℕ → Type 0
-FindsAgain number place i = (number i < 1000) × (place (number i) ≡ At i)
+abbrev FindsAgain : (ℕ → ℕ) → (ℕ → Option ℕ) → ℕ → Type 0
+FindsAgain number place i = (number i < 1000) × (place (number i) ≡ Some i)
 
-finds_again_lem : (number : ℕ → ℕ) (place : ℕ → Found) (n : ℕ) → Even (finds_again number place) true 0 n → (i : ℕ) → i < n → FindsAgain number place i
+finds_again_lem : (number : ℕ → ℕ) (place : ℕ → Option ℕ) (n : ℕ) → Even (finds_again number place) true 0 n → (i : ℕ) → i < n → FindsAgain number place i
 finds_again_lem number place n all i h =
     let tested = both (ltb (number i) 1000) (is_found_at i (place (number i))) (sym (along (finds_again number place) 0 n all (omega arith) h)) in
     (ltb-true (number i) 1000 tested.0, by (place (number i)) tested.1)
   where
-    by : (f : Found) → is_found_at i f ≡ true → f ≡ At i
-    by Nothing e = absurd (false≢true e)
-    by (At j) e = ap At (eqb-true j i e)
+    by : (f : Option ℕ) → is_found_at i f ≡ true → f ≡ Some i
+    by None e = absurd (false≢true e)
+    by (Some j) e = ap (λ (n : ℕ). Some n) (eqb-true j i e)
 
 setting_again : (k : Series) (i : ℕ) → i < settings_n k → FindsAgain (λ j. setting_number (row_at k j)) (setting_place k) i
 unfolding rows100 rows300 seek
@@ -164,9 +164,9 @@ value_again : (i : ℕ) → i < values_n → FindsAgain (λ j. index_number (sto
 unfolding stored seek
 value_again = finds_again_lem _ value_place values_n refl
 
-never_is : (w : Kept) → is_never w ≡ true → w ≡ Never
-never_is Never e = refl
-never_is (Put u m d) e = absurd (false≢true e)
+never_is : (w : Kept) → is_never w ≡ true → w ≡ None
+never_is None e = refl
+never_is (Some p) e = absurd (false≢true e)
 
 -- the number after the letter, up to the colon
 item_said : (n : ℕ) (text rest : List ℕ) → n < 1000 → said_by 3 0 (((decimal_of n ++ codes ":") ++ text) ++ rest) ≡ n
@@ -182,20 +182,20 @@ entry_by k (Setting i) p w rest e =
     let (may, never) = both (settable k i p) (is_never w) e in
     let (there, settled) = both (ltb i (settings_n k)) (not (is_asked r) && in_range r p) may in
     let again = setting_again k i (ltb-true i (settings_n k) there) in
-    let here : setting_place k (number_said line) ≡ At i =
+    let here : setting_place k (number_said line) ≡ Some i =
     ap (setting_place k) (item_said (setting_number r) (decimal_of p ++ codes "\n") rest again.0) ∙ again.1 in
     let ranged = (both (not (is_asked r)) (in_range r p) settled).1 in
     let said = number_said_lem (item_key k (Setting i)) p rest (omega (arith, range_byte k i p ranged)) in
-    ap (λ (f : Found). setting_said k f line) here ∙ (λ j. entry_of (Setting i) (said j) (sym (never_is w never) j))
+    ap (λ (f : Option ℕ). setting_said k f line) here ∙ (λ j. entry_of (Setting i) (said j) (sym (never_is w never) j))
 entry_by k (Stored i) p w rest e =
     let line = entry_line k (entry_of (Stored i) p w) ++ rest in
     let (there, settled) = both (ltb i values_n) (eqb p 0 && kept_right i w) e in
     let (nought, right) = both (eqb p 0) (kept_right i w) settled in
     let again = value_again i (ltb-true i values_n there) in
-    let here : value_place (number_said line) ≡ At i =
+    let here : value_place (number_said line) ≡ Some i =
     ap value_place (item_said (index_number (stored_at i)) (characters_of i w ++ codes "\n") rest again.0) ∙ again.1 in
     let said = kept_said (item_key k (Stored i)) i w rest right in
-    ap (λ (f : Found). stored_said k f line) here ∙ (λ j. entry_of (Stored i) (sym (eqb-true p 0 nought) j) (said j))
+    ap (λ (f : Option ℕ). stored_said k f line) here ∙ (λ j. entry_of (Stored i) (sym (eqb-true p 0 nought) j) (said j))
 
 pub entry_said_lem : (k : Series) → Said (entry_lines k)
 entry_said_lem k got i e rest h = entry_by k e.item e.former.parameter e.former.kept rest h
@@ -211,13 +211,13 @@ ranges_from k (p ∷ ps) got i h =
 pub ranges_right : (k : Series) (settings : List ℕ) → length settings ≡ settings_n k → in_ranges (rows_of k) settings ≡ right_by (setting_lines k) [] 0 settings
 ranges_right k settings h = ranges_from k settings [] 0 (omega arith)
 
-pub values_right_lem : (got : List Value) (i : ℕ) (vs : List Value) → values_right i vs ≡ right_by value_lines got i vs
+pub values_right_lem : (got : List Kept) (i : ℕ) (vs : List Kept) → values_right i vs ≡ right_by value_lines got i vs
 unfolding values_right right_by
 values_right_lem got i [] = refl
-values_right_lem got i (v ∷ vs) = ap (λ (t : Bool). kept_right i v.kept && t) (values_right_lem (got ++ (v ∷ [])) (i + 1) vs)
+values_right_lem got i (v ∷ vs) = ap (λ (t : Bool). kept_right i v && t) (values_right_lem (got ++ (v ∷ [])) (i + 1) vs)
 
 -- settings and values that a state of the series may hold
-pub record Named (k : Series) (settings : List ℕ) (values : List Value) : Type 0 where
+pub record Named (k : Series) (settings : List ℕ) (values : List Kept) : Type 0 where
   pub settings_long : length settings ≡ settings_n k
   pub settings_right : right_by (setting_lines k) [] 0 settings ≡ true
   pub values_long : length values ≡ values_n

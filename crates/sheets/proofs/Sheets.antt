@@ -16,7 +16,7 @@ use Rattle.state.specs.Entries.{entries_n, with_entries, no_entries, contents_of
 use Rattle.instrument.specs.Values.{values_n}
 use Rattle.instrument.specs.declared.settings.Series.{Series}
 use Rattle.instrument.specs.declared.settings.Series.TheVariants.{Tps100, Tps300}
-use Rattle.instrument.specs.declared.values.Value.{Value}
+use Rattle.instrument.specs.Values.{Kept}
 use Rattle.state.specs.declared.entries.Entry.{Entry}
 use Rattle.state.specs.declared.entries.State.{State}
 use Rattle.state.proofs.Images.{shaped, padded_held}
@@ -30,21 +30,21 @@ use Rattle.sheets.specs.Loading.{FirstLines, first_wrong_at, settings_in, after_
 use Rattle.sheets.specs.Loading.{form_in, loading_of}
 use Rattle.sheets.specs.declared.forms.Form.{Form}
 use Rattle.sheets.specs.declared.forms.Form.TheVariants.{One, Two}
-use Rattle.sheets.specs.declared.loading.Came.TheVariants.{To}
+use Rattle.std.specs.Prelude.{Ok}
 use Rattle.sheets.proofs.Partwise.{right_by, Said, came, starts_parted, TakenLines, NoLine, Went, finished, stopped, part_load, part_went}
 use Rattle.sheets.proofs.Says.{setting_said_lem, value_said, Named, count_said, entry_said_lem}
 use Rattle.sheets.proofs.Lined.{Lined, entries_in, state_lined, lined_as, unlisted, named_contents, entries_back}
 
 -- a sheet by its parts
 
-abbrev pub body_by : Series → List ℕ → List Value → List ℕ
+abbrev pub body_by : Series → List ℕ → List Kept → List ℕ
 body_by k settings values = series_line k ++ (lines_by (setting_lines k) 0 settings ++ lines_by value_lines 0 values)
 
 abbrev pub tail_by : Form → Series → List Entry → List ℕ
 tail_by One k entries = []
 tail_by Two k entries = list_text k entries
 
-abbrev pub sheet_by : Form → Series → List ℕ → List Value → List Entry → List ℕ
+abbrev pub sheet_by : Form → Series → List ℕ → List Kept → List Entry → List ℕ
 sheet_by f k settings values entries = form_line f ++ (body_by k settings values ++ tail_by f k entries)
 
 pub sheet_one : (s : State) → sheet_as One s ≡ sheet_of s
@@ -101,9 +101,9 @@ part_there l said {n} {at} xs front rest is here long judged =
     ∙ ap (λ (t : List ℕ). part_by l n 0 at t []) (drop_at front (lines_by l 0 xs ++ rest) at (sym here))
     ∙ rw (← long) (part_load l said xs 0 at rest [] judged)
 
-first_load : (f : Form) (k : Series) (settings : List ℕ) (values : List Value) (rest : List ℕ) → Named k settings values
+first_load : (f : Form) (k : Series) (settings : List ℕ) (values : List Kept) (rest : List ℕ) → Named k settings values
     → first_lines f k (form_line f ++ (body_by k settings values ++ rest))
-    ≡ record { came = To (length (form_line f ++ body_by k settings values)); settings = settings; values = values }
+    ≡ record { came = Ok (length (form_line f ++ body_by k settings values)); settings = settings; values = values }
 unfolding first_lines
 first_load f k settings values rest n =
     let first = form_line f in
@@ -128,7 +128,7 @@ first_load f k settings values rest n =
     ap (λ (t : Bool). cond t (after_settings sheet (settings_in k sheet (length first)).got (settings_in k sheet (length first)).came) (first_wrong_at 0))
     (starts_append first (body ++ rest))
     ∙ ap (λ (p : Part ℕ). after_settings sheet p.got p.came) one
-    ∙ ap (λ (p : Part Value). record { came = p.came; settings = settings; values = p.got }) two
+    ∙ ap (λ (p : Part Kept). record { came = p.came; settings = settings; values = p.got }) two
 
 -- a line for one count
 count_line_lem : (n : ℕ) → lines_by count_lines 0 (n ∷ []) ≡ count_line n
@@ -140,7 +140,7 @@ unfolding right_by
 count_right n h = rw (le-leb n entries_n h)
 
 -- what follows form 1's lines
-tail_load : (f : Form) (k : Series) (settings : List ℕ) (values : List Value) (entries : List Entry) → Lined f k settings values entries
+tail_load : (f : Form) (k : Series) (settings : List ℕ) (values : List Kept) (entries : List Entry) → Lined f k settings values entries
     → is_state (loaded_state k settings values entries) ≡ true → let sheet = sheet_by f k settings values entries in
     undo_from f (contents_named k settings values) sheet (length (form_line f ++ body_by k settings values)) ≡ came (length sheet) entries
 unfolding undo_from
@@ -168,7 +168,7 @@ tail_load Two k settings values entries n is =
     ∙ ap (λ (p : Part Entry). after_entries c sheet at p.got p.came) two
     ∙ rw (eq-eqb (at + length counted + length e) (length sheet) to, is) (λ i. came (to i) entries)
 
-lines_load : (f : Form) (k : Series) (settings : List ℕ) (values : List Value) (entries : List Entry) → Lined f k settings values entries
+lines_load : (f : Form) (k : Series) (settings : List ℕ) (values : List Kept) (entries : List Entry) → Lined f k settings values entries
     → is_state (loaded_state k settings values entries) ≡ true → loading_as f k (sheet_by f k settings values entries) ≡ right settings values entries
 lines_load f k settings values entries n is =
     let sheet = sheet_by f k settings values entries in
@@ -201,7 +201,7 @@ series_apart Tps300 Tps300 l m e = refl
 series_apart Tps100 Tps300 l m e = absurd (eqb-false 49 51 refl (ap (λ (x : List ℕ). get_or x 10 0) e))
 series_apart Tps300 Tps100 l m e = absurd (eqb-false 51 49 refl (ap (λ (x : List ℕ). get_or x 10 0) e))
 
-pub past_form : (f : Form) (k : Series) (settings : List ℕ) (values : List Value) (entries : List Entry)
+pub past_form : (f : Form) (k : Series) (settings : List ℕ) (values : List Kept) (entries : List Entry)
     → drop (length (form_line f)) (sheet_by f k settings values entries)
     ≡ series_line k ++ ((lines_by (setting_lines k) 0 settings ++ lines_by value_lines 0 values) ++ tail_by f k entries)
 past_form f k settings values entries =
@@ -261,7 +261,7 @@ other_sheet f k s apart =
 
 -- what loads is what would be written
 
-pub sheet_back : (f : Form) (k : Series) (settings : List ℕ) (values : List Value) (entries : List Entry) → length settings ≡ settings_n k
+pub sheet_back : (f : Form) (k : Series) (settings : List ℕ) (values : List Kept) (entries : List Entry) → length settings ≡ settings_n k
     → sheet_as f (loaded_state k settings values entries) ≡ sheet_by f k settings values entries
 unfolding sheet_as sheet_of undo_text
 sheet_back One k settings values entries long =
@@ -310,28 +310,28 @@ pub data Ways (f : Form) (k : Series) (sheet : List ℕ) (l : Loading) : Type 0 
   setting : (at : ℕ) (settings : List ℕ) → l ≡ wrong at → Parted (form_line f ++ (series_line k ++ lines_by (setting_lines k) 0 settings)) at sheet
       → right_by (setting_lines k) [] 0 settings ≡ true → length settings < settings_n k
       → NoLine (setting_lines k) settings (0 + length settings) (drop at sheet) → Ways f k sheet l
-  value : (at : ℕ) (settings : List ℕ) (values : List Value) → l ≡ wrong at → Parted (form_line f ++ body_by k settings values) at sheet
+  value : (at : ℕ) (settings : List ℕ) (values : List Kept) → l ≡ wrong at → Parted (form_line f ++ body_by k settings values) at sheet
       → length settings ≡ settings_n k → right_by (setting_lines k) [] 0 settings ≡ true → right_by value_lines [] 0 values ≡ true → length values < values_n
       → NoLine value_lines values (0 + length values) (drop at sheet) → Ways f k sheet l
-  count : (at : ℕ) (settings : List ℕ) (values : List Value) → f ≡ Two → l ≡ wrong at → Parted (form_line f ++ body_by k settings values) at sheet
+  count : (at : ℕ) (settings : List ℕ) (values : List Kept) → f ≡ Two → l ≡ wrong at → Parted (form_line f ++ body_by k settings values) at sheet
       → Named k settings values → NoLine count_lines [] 0 (drop at sheet) → Ways f k sheet l
-  entry : (at : ℕ) (settings : List ℕ) (values : List Value) (n : ℕ) (entries : List Entry) → f ≡ Two → l ≡ wrong at
+  entry : (at : ℕ) (settings : List ℕ) (values : List Kept) (n : ℕ) (entries : List Entry) → f ≡ Two → l ≡ wrong at
       → Parted (form_line f ++ (body_by k settings values ++ (count_line n ++ lines_by (entry_lines k) 0 entries))) at sheet → Named k settings values
       → n ≤ entries_n → right_by (entry_lines k) [] 0 entries ≡ true → length entries < n
       → NoLine (entry_lines k) entries (0 + length entries) (drop at sheet) → Ways f k sheet l
-  surplus : (at : ℕ) (settings : List ℕ) (values : List Value) (entries : List Entry) → l ≡ wrong at → Parted (sheet_by f k settings values entries) at sheet
+  surplus : (at : ℕ) (settings : List ℕ) (values : List Kept) (entries : List Entry) → l ≡ wrong at → Parted (sheet_by f k settings values entries) at sheet
       → at < length sheet → Lined f k settings values entries → Ways f k sheet l
-  no_list : (at : ℕ) (settings : List ℕ) (values : List Value) (entries : List Entry) → f ≡ Two → l ≡ wrong at
+  no_list : (at : ℕ) (settings : List ℕ) (values : List Kept) (entries : List Entry) → f ≡ Two → l ≡ wrong at
       → at ≡ length (form_line f ++ body_by k settings values) → sheet ≡ sheet_by f k settings values entries → Lined f k settings values entries
       → is_state (loaded_state k settings values entries) ≡ false → Ways f k sheet l
-  through : (settings : List ℕ) (values : List Value) (entries : List Entry) → l ≡ right settings values entries
+  through : (settings : List ℕ) (values : List Kept) (entries : List Entry) → l ≡ right settings values entries
       → sheet ≡ sheet_by f k settings values entries → Lined f k settings values entries → is_state (loaded_state k settings values entries) ≡ true
       → Ways f k sheet l
 
 -- what follows form 1's lines
 
 module _ (k : Series) (sheet : List ℕ) where
-  module _ (at : ℕ) (settings : List ℕ) (values : List Value) (n : Named k settings values) where
+  module _ (at : ℕ) (settings : List ℕ) (values : List Kept) (n : Named k settings values) where
     abbrev ended : Part Entry → Loading
     ended p = after_undo settings values p.got p.came
 
@@ -379,8 +379,8 @@ module _ (k : Series) (sheet : List ℕ) where
           (parted_as (append-nil front) (parted_on front p t)) n none
       list_went q (stopped to (m ∷ more) e t less none) = absurd (omega arith)
 
-  tail_went : (f : Form) (at : ℕ) (settings : List ℕ) (values : List Value) → Named k settings values → Parted (form_line f ++ body_by k settings values) at sheet
-      → Ways f k sheet (after_first f k sheet settings values (To at))
+  tail_went : (f : Form) (at : ℕ) (settings : List ℕ) (values : List Kept) → Named k settings values → Parted (form_line f ++ body_by k settings values) at sheet
+      → Ways f k sheet (after_first f k sheet settings values (Ok at))
   unfolding undo_from
   tail_went One at settings values n p =
       let body = body_by k settings values in
@@ -400,14 +400,14 @@ module _ (f : Form) (k : Series) (sheet : List ℕ) where
   head = form_line f ++ series_line k
 
   values_went : (a : ℕ) (settings : List ℕ) → Parted (head ++ lines_by (setting_lines k) 0 settings) a sheet → length settings ≡ settings_n k
-      → right_by (setting_lines k) [] 0 settings ≡ true → (q : Part Value) → Went value_lines values_n [] 0 sheet a q
+      → right_by (setting_lines k) [] 0 settings ≡ true → (q : Part Kept) → Went value_lines values_n [] 0 sheet a q
       → Ways f k sheet (after_first f k sheet settings q.got q.came)
   values_went a settings p long judged q (finished b values e t) =
       rw e (tail_went k sheet f b settings values (record { settings_long = long; settings_right = judged; values_long = t.long; values_right_lem = t.judged })
       (parted_as (four (form_line f) (series_line k) (lines_by (setting_lines k) 0 settings) (lines_by value_lines 0 values))
       (parted_on (head ++ lines_by (setting_lines k) 0 settings) p t)))
   values_went a settings p long judged q (stopped b values e t less none) =
-      value b settings values (ap (λ (r : Part Value). after_first f k sheet settings r.got r.came) e)
+      value b settings values (ap (λ (r : Part Kept). after_first f k sheet settings r.got r.came) e)
       (parted_as (four (form_line f) (series_line k) (lines_by (setting_lines k) 0 settings) (lines_by value_lines 0 values))
       (parted_on (head ++ lines_by (setting_lines k) 0 settings) p t)) long judged t.judged less none
 
@@ -437,10 +437,10 @@ module _ (f : Form) (k : Series) (sheet : List ℕ) where
       (λ s. other_series first (rw (e, s)) start s))
       (λ e. other_form (rw e) e)
 
-pub wrong_right : (at : ℕ) (settings : List ℕ) (values : List Value) (entries : List Entry) → wrong at ≡ right settings values entries → ⊥
+pub wrong_right : (at : ℕ) (settings : List ℕ) (values : List Kept) (entries : List Entry) → wrong at ≡ right settings values entries → ⊥
 wrong_right at settings values entries e = let z : ◌≡◌ {A = ℕ} 0 1 = cc in omega arith
 
-pub loads_sheet : (f : Form) (k : Series) (sheet settings : List ℕ) (values : List Value) (entries : List Entry)
+pub loads_sheet : (f : Form) (k : Series) (sheet settings : List ℕ) (values : List Kept) (entries : List Entry)
     → loading_as f k sheet ≡ right settings values entries → let s = loaded_state k settings values entries in
     (is_state s ≡ true) × (sheet_as f s ≡ sheet)
 loads_sheet f k sheet settings values entries e = by (ways f k sheet)
@@ -466,7 +466,7 @@ loads_sheet f k sheet settings values entries e = by (ways f k sheet)
         rw (← gs, ← vs, ← en) (is, sheet_back f k g v es n.named.settings_long ∙ sym all)
 
 -- so of a sheet as it loads, in its own form
-pub loads_sheet_of : (k : Series) (sheet settings : List ℕ) (values : List Value) (entries : List Entry)
+pub loads_sheet_of : (k : Series) (sheet settings : List ℕ) (values : List Kept) (entries : List Entry)
     → loading_of k sheet ≡ right settings values entries → let s = loaded_state k settings values entries in
     (is_state s ≡ true) × (sheet_as (form_in sheet) s ≡ sheet)
 loads_sheet_of k sheet = loads_sheet (form_in sheet) k sheet

@@ -13,14 +13,12 @@ use Rattle.figures.proofs.Tests.{both, by_test}
 use Rattle.instrument.specs.Settings.{rows100, rows300, row_at, is_asked, held, in_range, in_ranges, settings_n}
 use Rattle.instrument.specs.Settings as rows
 use Rattle.instrument.specs.Values.{stored, is_put, values_n}
-use Rattle.state.specs.Entries.{entries_n, value_of, entry_of, with_entries, factory_state, is_never, all_blank, values_right, settable, entry_right}
+use Rattle.state.specs.Entries.{entries_n, entry_of, with_entries, factory_state, is_never, all_blank, values_right, settable, entry_right}
 use Rattle.state.specs.Entries.{right_back, is_state}
 use Rattle.instrument.specs.declared.settings.Row.{Row}
 use Rattle.instrument.specs.declared.settings.Series.{Series}
 use Rattle.instrument.specs.declared.settings.Series.TheVariants.{Tps100, Tps300}
-use Rattle.instrument.specs.declared.values.Kept.{Kept}
-use Rattle.instrument.specs.declared.values.Kept.TheVariants.{Never, Put}
-use Rattle.instrument.specs.declared.values.Value.{Value}
+use Rattle.instrument.specs.Values.{Kept, put_of}
 use Rattle.state.specs.declared.entries.Item.{Item}
 use Rattle.state.specs.declared.entries.Item.TheVariants as item
 use Rattle.state.specs.declared.entries.Entry.{Entry}
@@ -39,6 +37,7 @@ use Rattle.sheets.proofs.Partwise.{right_by}
 use Rattle.sheets.proofs.Says.{Listed}
 use Rattle.sheets.proofs.Lined.{lined_named, lined_listed, state_lined}
 use Rattle.sheets.proofs.UndoWrites.{sheet_long, count_long, setting_line_long, stored_line_long}
+use Rattle.std.specs.Prelude.{Some, None}
 
 -- a size of each thing, added up
 unfoldable pub total_of : {A : Type 0} → (A → ℕ) → List A → ℕ
@@ -59,17 +58,17 @@ lines_size l here k own long i (x ∷ xs) =
     omega (arith, length-append (l.write i x) (lines_by l (i + 1) xs), long i x, lines_size l here k own long (i + 1) xs)
 
 -- how many values are put
-abbrev pub puts_n : List Value → ℕ
-puts_n = total_of (λ (v : Value). cond (is_put v.kept) 1 0)
+abbrev pub puts_n : List Kept → ℕ
+puts_n = total_of (λ (v : Kept). cond (is_put v) 1 0)
 
 put_few : (w : Kept) → cond (is_put w) 1 0 ≤ 1
-put_few Never = omega arith
-put_few (Put u m d) = omega arith
+put_few None = omega arith
+put_few (Some p) = omega arith
 
-puts_few : (vs : List Value) → puts_n vs ≤ length vs
+puts_few : (vs : List Kept) → puts_n vs ≤ length vs
 unfolding total_of
 puts_few [] = omega arith
-puts_few (v ∷ vs) = omega (arith, put_few v.kept, puts_few vs)
+puts_few (v ∷ vs) = omega (arith, put_few v, puts_few vs)
 
 -- a setting's line: its key, LF, and the digits of its parameter, one at least and at most those of the highest
 
@@ -182,7 +181,7 @@ sheet_between s e =
     (held k s.settings) n.settings_right in
     let few : settings_least k ≤ length g = rw n.settings_long at settings.0 in
     let many : length g ≤ settings_greatest k = rw n.settings_long at settings.1 in
-    let values = lines_size value_lines value_here characters_n (λ (x : Value). cond (is_put x.kept) 1 0) (λ i x. kept_long i x.kept) 0 s.values in
+    let values = lines_size value_lines value_here characters_n (λ (x : Kept). cond (is_put x) 1 0) (λ i x. kept_long i x) 0 s.values in
     let put : length v ≡ values_least + characters_n * puts_n s.values = rw n.values_long at values in
     let all = length-append (series_line k) (g ++ v) in
     let both = length-append g v in
@@ -305,8 +304,8 @@ unfolding sheet_of lines_by total_from rows100 rows300 stored digits_of digits_n
 least_reached Tps100 = refl
 least_reached Tps300 = refl
 
-abbrev held_as : ℕ → Value
-held_as u = value_of (Put u 0 (record { 0 = 48; 1 = 48; 2 = 48; 3 = 48; 4 = 48; 5 = 48; 6 = 48; 7 = 48 }))
+abbrev held_as : ℕ → Kept
+held_as u = put_of u 0 (replicate 8 48)
 
 abbrev pub fullest : Series → State
 fullest k =
@@ -314,7 +313,7 @@ fullest k =
     let angle = held_as 50 in
     let long = held_as 48 in
     with_entries k (map (λ (r : Row). r.highest) (rows.held_rows k)) (text ∷ text ∷ angle ∷ angle ∷ replicate 7 long)
-    (replicate entries_n (entry_of (item.Stored 0) 0 text.kept))
+    (replicate entries_n (entry_of (item.Stored 0) 0 text))
 
 pub fullest_state : (k : Series) → is_state (fullest k) ≡ true
 unfolding rows100 rows300 stored in_ranges values_right all_blank right_back among every number_from

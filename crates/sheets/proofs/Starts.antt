@@ -7,17 +7,17 @@ use Rattle.figures.proofs.Tests.{clash}
 use Rattle.state.specs.Entries.{is_state}
 use Rattle.state.specs.Image.{image_of, series_in}
 use Rattle.state.specs.declared.entries.Entry.{Entry}
-use Rattle.instrument.specs.declared.values.Value.{Value}
+use Rattle.instrument.specs.Values.{Kept}
 use Rattle.sheets.specs.Undo.{sheet_as}
 use Rattle.sheets.specs.Loading.{right, loaded_state, form_in, loading_of, Loaded·image, loaded}
-use Rattle.sheets.specs.declared.answers.Sheeted.TheVariants.{Loaded}
+use Rattle.std.specs.Prelude.{Ok}
 use Rattle.sheets.proofs.Sheets.{loads_sheet_of}
 use Rattle.sheets.proofs.Images.{LoadsAs, lent_none, lent_wrong, lent_right, loads_as}
 
 -- the state that a sheet names, of the image's series: its image is left, and it has that sheet
 pub record Fresh (image sheet : List ℕ) : Type 0 where
   pub settings : List ℕ
-  pub values : List Value
+  pub values : List Kept
   pub entries : List Entry
   pub names : loading_of (series_in image) sheet ≡ right settings values entries
   pub is : is_state (loaded_state (series_in image) settings values entries) ≡ true
@@ -26,7 +26,7 @@ pub record Fresh (image sheet : List ℕ) : Type 0 where
 
 module _ (image sheet : List ℕ) where
   -- "makes the settings and stored values those it names", and the undo list
-  pub loaded_image : (loaded image sheet).answer ≡ Loaded → Fresh image sheet
+  pub loaded_image : (loaded image sheet).answer ≡ Ok tt → Fresh image sheet
   loaded_image e = by (loads_as image sheet)
     where
       by : LoadsAs image sheet (loaded image sheet) → Fresh image sheet
@@ -45,7 +45,7 @@ module _ (image sheet : List ℕ) where
           }
 
   -- 40 "leaves the state as it was", and 31 the lent bytes
-  pub refused_image : ((loaded image sheet).answer ≡ Loaded → ⊥) → (loaded image sheet).image ≡ image
+  pub refused_image : ((loaded image sheet).answer ≡ Ok tt → ⊥) → (loaded image sheet).image ≡ image
   refused_image f = by (loads_as image sheet)
     where
       by : LoadsAs image sheet (loaded image sheet) → (loaded image sheet).image ≡ image

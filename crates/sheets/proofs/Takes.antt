@@ -19,23 +19,19 @@ use Rattle.figures.proofs.Decimal.{digits_length, digits_are, digits_number, num
 use Rattle.figures.proofs.Tests.{both, by_test, along, and_on, and_off}
 use Rattle.units.specs.Information.{sign_byte, sign_of}
 use Rattle.instrument.specs.Settings.{settings_n, row_at, in_range}
-use Rattle.instrument.specs.Values.{values_n, stored, stored_at, is_text, put_kept, kept_right}
+use Rattle.instrument.specs.Values.{values_n, stored, stored_at, is_text, put_of, put_kept, kept_right}
 use Rattle.instrument.specs.declared.settings.Series.{Series}
 use Rattle.instrument.specs.declared.values.Stored.{Stored}
-use Rattle.instrument.specs.declared.values.Kept.{Kept}
-use Rattle.instrument.specs.declared.values.Kept.TheVariants.{Never, Put}
-use Rattle.instrument.specs.declared.values.Value.{Value}
+use Rattle.instrument.specs.Values.{Kept}
 use Rattle.instrument.proofs.Kept.{elements}
-use Rattle.state.specs.Entries.{value_of}
 use Rattle.sheets.specs.Sheet.{setting_key, said_by, setting_lines, characters_of, value_key, kept_line, kept_said, value_lines}
-use Rattle.sheets.specs.Keeping.{key_length, digits_first, said_of, no_number, number_taken, no_setting, setting_taken, no_value, value_taken, put_stands}
+use Rattle.sheets.specs.Keeping.{key_length, digits_first, said_of, number_taken, setting_taken, value_taken, put_stands}
 use Rattle.sheets.specs.declared.loading.Digits.{Digits}
-use Rattle.sheets.specs.declared.loading.Numbered.{Numbered}
 use Rattle.sheets.specs.declared.loading.Taken.{Taken}
-use Rattle.sheets.specs.declared.loading.TakenValue.{TakenValue}
-use Rattle.sheets.proofs.Keyed.{value_keyed_lem}
-use Rattle.sheets.proofs.Linewise.{short_decimal, setting_long, kept_long}
-use Rattle.sheets.proofs.Partwise.{starts_parted, Turned, part_turned}
+use Rattle.std.specs.Prelude.{Option, Some, None}
+use Rattle.sheets.proofs.Keyed.{key_part, value_keyed_lem}
+use Rattle.sheets.proofs.Linewise.{short_decimal, kept_long}
+use Rattle.sheets.proofs.Partwise.{starts_parted, none_some, some_same, Turned, part_turned}
 use Rattle.sheets.proofs.Says.{digits_stand, digits_until}
 
 -- the loop that reads digits, after i of them that say n: a turn, and the end where no digit follows
@@ -153,40 +149,37 @@ number_long p = length-append (decimal_of p) (codes "\n") ∙ rw (digits_length 
 
 module _ (s : List ℕ) (n : ℕ) (r : Digits) (is : r ≡ said_of (drop n s)) where
   number_as : let p = r.number in
-      number_taken (drop n s) ≡ cond (all (number_tests s n r)) (record { n = length (decimal_of p ++ codes "\n"); number = p }) no_number
+      number_taken (drop n s) ≡ cond (all (number_tests s n r)) (Some (record { to = length (decimal_of p ++ codes "\n"); held = p })) None
   number_as =
       let t = drop n s in
       rw (number_stands t, is, drop-drop (digits_first 3 t) n s, and-true)
 
-  pub number_not : (j : ℕ) → get_or (number_tests s n r) j true ≡ false → no_number ≡ number_taken (drop n s)
+  pub number_not : (j : ℕ) → get_or (number_tests s n r) j true ≡ false → None ≡ number_taken (drop n s)
   number_not j e = sym (number_as ∙ rw (all_not (number_tests s n r) j e))
 
   pub number_is : r.digits ≡ digits_n r.number → all (number_tests s n r) ≡ true
-      → record { n = r.digits + 1; number = r.number } ≡ number_taken (drop n s)
+      → Some (record { to = r.digits + 1; held = r.number }) ≡ number_taken (drop n s)
   number_is d e =
       let size : r.digits + 1 ≡ length (decimal_of r.number ++ codes "\n") = omega (arith, number_long r.number) in
-      (λ j. record { n = size j; number = r.number }) ∙ sym (number_as ∙ rw e)
+      (λ j. Some (record { to = size j; held = r.number })) ∙ sym (number_as ∙ rw e)
 
 -- what was taken: nothing, where no number and LF stand, or both
-module _ (rest : List ℕ) (t : Numbered) (is : t ≡ number_taken rest) where
+module _ (rest : List ℕ) (t : Option (Taken ℕ)) (is : t ≡ number_taken rest) where
   abbrev line : List ℕ
   line = decimal_of (said_by 3 0 rest) ++ codes "\n"
 
-  abbrev some : Numbered
-  some = record { n = length line; number = said_by 3 0 rest }
+  abbrev some : Taken ℕ
+  some = record { to = length line; held = said_by 3 0 rest }
 
-  as_judged : (b : Bool) → starts_with line rest ≡ b → t ≡ cond b some no_number
-  as_judged b e = is ∙ ap (λ (x : Bool). cond x some no_number) e
+  as_judged : (b : Bool) → starts_with line rest ≡ b → t ≡ cond b (Some some) None
+  as_judged b e = is ∙ ap (λ (x : Bool). cond x (Some some) None) e
 
-  pub number_none : t.n ≡ 0 → starts_with line rest ≡ false
-  number_none z =
-      by_test (starts_with line rest)
-      (λ e. absurd (omega (arith, z, ap (λ (x : Numbered). x.n) (as_judged true e), number_long (said_by 3 0 rest))))
-      (λ e. e)
+  pub number_none : t ≡ None → starts_with line rest ≡ false
+  number_none z = by_test (starts_with line rest) (λ e. absurd (none_some (sym z ∙ as_judged true e))) (λ e. e)
 
-  pub number_some : (t.n ≡ 0 → ⊥) → (starts_with line rest ≡ true) × (t ≡ some)
+  pub number_some : {x : Taken ℕ} → t ≡ Some x → (starts_with line rest ≡ true) × (x ≡ some)
   number_some z =
-      by_test (starts_with line rest) (λ e. (e, as_judged true e)) (λ e. absurd (z (ap (λ (x : Numbered). x.n) (as_judged false e))))
+      by_test (starts_with line rest) (λ e. (e, some_same (sym z ∙ as_judged true e))) (λ e. absurd (none_some (sym (as_judged false e) ∙ z)))
 
 -- the line of a setting: its key of n bytes, and then a number that was taken
 
@@ -194,10 +187,10 @@ module _ (k : Series) (i : ℕ) (s : List ℕ) where
   abbrev key : List ℕ
   key = setting_key (row_at k i)
 
-  pub setting_unkeyed : starts_with key s ≡ false → no_setting ≡ setting_taken k i s
+  pub setting_unkeyed : starts_with key s ≡ false → None ≡ setting_taken k i s
   setting_unkeyed e = rw (starts_both key (decimal_of ((setting_lines k).says i s) ++ codes "\n") s (length key) refl, e, and-false)
 
-  module _ (keyed : starts_with key s ≡ true) (n : ℕ) (long : n ≡ length key) (t : Numbered) (is : t ≡ number_taken (drop n s)) where
+  module _ (keyed : starts_with key s ≡ true) (n : ℕ) (long : n ≡ length key) (t : Option (Taken ℕ)) (is : t ≡ number_taken (drop n s)) where
     taken : t ≡ number_taken (drop (length key) s)
     taken = is ∙ ap (λ (m : ℕ). number_taken (drop m s)) long
 
@@ -205,34 +198,32 @@ module _ (k : Series) (i : ℕ) (s : List ℕ) where
     after_key : let p = (setting_lines k).says i s in starts_with ((setting_lines k).write i p) s ≡ starts_with (decimal_of p ++ codes "\n") (drop (length key) s)
     after_key = starts_both key (decimal_of ((setting_lines k).says i s) ++ codes "\n") s (length key) refl ∙ and_on keyed
 
-    pub setting_unended : t.n ≡ 0 → no_setting ≡ setting_taken k i s
+    pub setting_unended : t ≡ None → None ≡ setting_taken k i s
     setting_unended z = rw (after_key, number_none (drop (length key) s) t taken z, and-false)
 
-    module _ (some : t.n ≡ 0 → ⊥) where
-      said : t ≡ record { n = length (decimal_of ((setting_lines k).says i s) ++ codes "\n"); number = (setting_lines k).says i s }
+    module _ (x : Taken ℕ) (some : t ≡ Some x) where
+      said : x ≡ record { to = length (decimal_of ((setting_lines k).says i s) ++ codes "\n"); held = (setting_lines k).says i s }
       said = (number_some (drop (length key) s) t taken some).1
 
-      pub setting_beyond : in_range (row_at k i) t.number ≡ false → no_setting ≡ setting_taken k i s
+      pub setting_beyond : in_range (row_at k i) x.held ≡ false → None ≡ setting_taken k i s
       setting_beyond e =
-          let out : in_range (row_at k i) ((setting_lines k).says i s) ≡ false = ap (λ (x : Numbered). in_range (row_at k i) x.number) (sym said) ∙ e in
+          let out : in_range (row_at k i) ((setting_lines k).says i s) ≡ false = ap (λ (y : Taken ℕ). in_range (row_at k i) y.held) (sym said) ∙ e in
           rw out
 
-      pub setting_is : in_range (row_at k i) t.number ≡ true → record { n = n + t.n; parameter = t.number } ≡ setting_taken k i s
+      pub setting_is : in_range (row_at k i) x.held ≡ true → Some (record { to = n + x.to; held = x.held }) ≡ setting_taken k i s
       setting_is e =
           let p = (setting_lines k).says i s in
-          let in-it : in_range (row_at k i) p ≡ true = ap (λ (x : Numbered). in_range (row_at k i) x.number) (sym said) ∙ e in
-          let size : n + t.n ≡ length ((setting_lines k).write i p) =
-          omega (arith, long, ap (λ (x : Numbered). x.n) said, length-append key (decimal_of p ++ codes "\n")) in
-          (λ j. record { n = size j; parameter = (said j).number })
+          let in-it : in_range (row_at k i) p ≡ true = ap (λ (y : Taken ℕ). in_range (row_at k i) y.held) (sym said) ∙ e in
+          let size : n + x.to ≡ length ((setting_lines k).write i p) =
+          omega (arith, long, ap (λ (y : Taken ℕ). y.to) said, length-append key (decimal_of p ++ codes "\n")) in
+          (λ j. Some (record { to = size j; held = (said j).held }))
           ∙ rw (in-it, after_key, (number_some (drop (length key) s) t taken some).0)
 
 pub setting_turned : (k : Series) (i at : ℕ) (sheet got : List ℕ) → i < settings_n k → i < length got → at ≤ length sheet
-    → (t : Taken) → t ≡ setting_taken k i (mid_of at (length sheet - at) sheet) → Turned (setting_lines k) (settings_n k) i at sheet got t.parameter t.n
+    → (t : Option (Taken ℕ)) → t ≡ setting_taken k i (mid_of at (length sheet - at) sheet)
+    → Turned (setting_lines k) (settings_n k) i at sheet got t
 setting_turned k i at sheet got hn hg ha t is =
-    let p = (setting_lines k).says i (mid_of at (length sheet - at) sheet) in
-    let some : Taken = record { n = length ((setting_lines k).write i p); parameter = p } in
-    part_turned (setting_lines k) (settings_n k) i at sheet got hn hg ha (λ before x. refl) (λ (r : Taken). r.n) (λ (r : Taken). r.parameter)
-    t some no_setting is refl (omega (arith, setting_long k i p)) refl refl
+    part_turned (setting_lines k) (settings_n k) i at sheet got hn hg ha (λ before x. refl) t is
 
 -- the line of a value, whose key has four bytes
 
@@ -246,6 +237,12 @@ key_four i h = sym ((value_keyed_lem i).long ∙ key_long i h)
 pub key_held : (i : ℕ) → i < values_n → 4 ≤ length (stored_at i).key
 unfolding stored digits_of digits_nBy
 key_held i h = leb-true 4 (length (stored_at i).key) (sym (along (λ j. leb 4 (length (stored_at j).key)) 0 values_n refl (omega arith) h))
+
+-- which is the one that is looked for
+pub value_starts : (i : ℕ) → i < values_n → (s : List ℕ) (row : Stored) → row ≡ stored_at i → starts_with (take 4 row.key) s ≡ starts_with (value_key i) s
+value_starts i h s row is =
+    let own = ap (λ (r : Stored). r.key) is in
+    ap (λ (w : List ℕ). starts_with w s) (key_part (value_keyed_lem i) own (key_four i h ∙ ap key_length (sym own)))
 
 -- the two digits of its index
 key_digits : (i : ℕ) → i < values_n
@@ -266,23 +263,23 @@ module _ (i : ℕ) (there : i < values_n) (s : List ℕ) where
       ∙ ap (λ (t : List ℕ). starts_with (value_key i) s && starts_with t (drop 4 s)) (sym (drop_at (value_key i) w 4 (key_long i there)))
 
   -- a line that doesn't stand whole isn't taken
-  untaken : (starts_with (kept_line i (kept_said i s)) s ≡ true → ⊥) → no_value ≡ value_taken i s
+  untaken : (starts_with (kept_line i (kept_said i s)) s ≡ true → ⊥) → None ≡ value_taken i s
   untaken f = by_test (starts_with (kept_line i (kept_said i s)) s) (λ e. absurd (f e)) (λ e. rw (e, and-false))
 
-  pub value_unkeyed : starts_with (value_key i) s ≡ false → no_value ≡ value_taken i s
+  pub value_unkeyed : starts_with (value_key i) s ≡ false → None ≡ value_taken i s
   value_unkeyed e = untaken (λ t. false≢true (sym (kept_starts (kept_said i s) ∙ and_off _ e) ∙ t))
 
-  pub value_few : length s < 5 → no_value ≡ value_taken i s
+  pub value_few : length s < 5 → None ≡ value_taken i s
   value_few h = untaken (λ t. omega (arith, starts_length (kept_line i (kept_said i s)) s t, kept_long i (kept_said i s), key_long i there))
 
   module _ (keyed : starts_with (value_key i) s ≡ true) (h : 4 < length s) where
-    never_is : starts_with (kept_line i Never) s ≡ eqb (get_or s 4 0) 10
+    never_is : starts_with (kept_line i None) s ≡ eqb (get_or s 4 0) 10
     never_is = starts_both (value_key i) (codes "\n") s 4 (key_long i there) ∙ and_on keyed ∙ byte_is 10 s 4 h
 
-    pub value_never : get_or s 4 0 ≡ 10 → record { n = 5; kept = Never } ≡ value_taken i s
+    pub value_never : get_or s 4 0 ≡ 10 → Some (record { to = 5; held = None }) ≡ value_taken i s
     value_never e =
-        let never : starts_with (kept_line i Never) s ≡ true = never_is ∙ eq-eqb (get_or s 4 0) 10 e in
-        let n : length (kept_line i Never) ≡ 5 = omega (arith, kept_long i Never, key_long i there) in
+        let never : starts_with (kept_line i None) s ≡ true = never_is ∙ eq-eqb (get_or s 4 0) 10 e in
+        let n : length (kept_line i None) ≡ 5 = omega (arith, kept_long i None, key_long i there) in
         rw (never, never, n)
 
     module _ (f : get_or s 4 0 ≡ 10 → ⊥) where
@@ -291,43 +288,32 @@ module _ (i : ℕ) (there : i < values_n) (s : List ℕ) where
 
       put_said : kept_said i s ≡ put
       put_said =
-          ap (λ (b : Bool). cond b Never (put_kept (drop (length (value_key i)) s))) (never_is ∙ ne_eqb (get_or s 4 0) 10 f)
+          ap (λ (b : Bool). cond b None (put_kept (drop (length (value_key i)) s))) (never_is ∙ ne_eqb (get_or s 4 0) 10 f)
           ∙ ap (λ (n : ℕ). put_kept (drop n s)) (key_long i there)
 
       put_long : length (kept_line i put) ≡ 20
       put_long = omega (arith, kept_long i put, key_long i there)
 
-      pub value_short : length s < 20 → no_value ≡ value_taken i s
+      pub value_short : length s < 20 → None ≡ value_taken i s
       value_short few = untaken (λ t. omega (arith, starts_length (kept_line i put) s (rw put_said at t), put_long))
 
-      pub value_put : (b : Bool) → b ≡ put_stands i s → cond b (record { n = 20; kept = put }) no_value ≡ value_taken i s
+      pub value_put : (b : Bool) → b ≡ put_stands i s → cond b (Some (record { to = 20; held = put })) None ≡ value_taken i s
       value_put b is =
           let line = is ∙ ap (λ (t : Bool). kept_right i put && t) (sym (kept_starts put ∙ and_on keyed)) in
-          let taken : Kept → TakenValue =
-          λ k. cond (kept_right i k && starts_with (kept_line i k) s) (record { n = length (kept_line i k); kept = k }) no_value in
-          (λ j. cond (line j) (record { n = sym put_long j; kept = put }) no_value) ∙ ap taken (sym put_said)
+          let taken : Kept → Option (Taken Kept) =
+          λ k. cond (kept_right i k && starts_with (kept_line i k) s) (Some (record { to = length (kept_line i k); held = k })) None in
+          (λ j. cond (line j) (Some (record { to = sym put_long j; held = put })) None) ∙ ap taken (sym put_said)
 
-pub value_turned : (i at : ℕ) (sheet : List ℕ) (got : List Value) → i < values_n → i < length got → at ≤ length sheet
-    → (t : TakenValue) → t ≡ value_taken i (mid_of at (length sheet - at) sheet) → Turned value_lines values_n i at sheet got (value_of t.kept) t.n
-value_turned i at sheet got hn hg ha t is =
-    let k = kept_said i (mid_of at (length sheet - at) sheet) in
-    let some : TakenValue = record { n = length (kept_line i k); kept = k } in
-    part_turned value_lines values_n i at sheet got hn hg ha (λ before x. refl) (λ (r : TakenValue). r.n) (λ (r : TakenValue). value_of r.kept)
-    t some no_value is refl (omega (arith, kept_long i k)) refl refl
+pub value_turned : (i at : ℕ) (sheet : List ℕ) (got : List Kept) → i < values_n → i < length got → at ≤ length sheet
+    → (t : Option (Taken Kept)) → t ≡ value_taken i (mid_of at (length sheet - at) sheet) → Turned value_lines values_n i at sheet got t
+value_turned i at sheet got hn hg ha t is = part_turned value_lines values_n i at sheet got hn hg ha (λ before x. refl) t is
 
 -- what follows the key of a value that was put, byte by byte
 
 abbrev pub signed_at : List ℕ → ℕ → Kept
-signed_at s m = Put (get_or s 9 0) m (record {
-  0 = get_or s 11 0;
-  1 = get_or s 12 0;
-  2 = get_or s 13 0;
-  3 = get_or s 14 0;
-  4 = get_or s 15 0;
-  5 = get_or s 16 0;
-  6 = get_or s 17 0;
-  7 = get_or s 18 0;
-})
+signed_at s m =
+    put_of (get_or s 9 0) m
+    (get_or s 11 0 ∷ get_or s 12 0 ∷ get_or s 13 0 ∷ get_or s 14 0 ∷ get_or s 15 0 ∷ get_or s 16 0 ∷ get_or s 17 0 ∷ get_or s 18 0 ∷ [])
 
 abbrev pub kept_at : List ℕ → Kept
 kept_at s = signed_at s (sign_of (get_or s 10 0))
@@ -372,20 +358,9 @@ module _ (i : ℕ) (there : i < values_n) (s : List ℕ) (long : 20 ≤ length s
   put_as =
       ap (λ (k : Kept). kept_right i k && starts_with (drop 4 (kept_line i k)) (drop 4 s)) (put_kept_lem s) ∙ ap (λ (t : Bool). kept_right i (kept_at s) && t) put_starts
 
-  pub put_not : (n : ℕ) → get_or (put_tests i s) n true ≡ false → false ≡ put_stands i s
-  put_not n e = sym (put_as ∙ rw (all_not (put_tests i s) n e, and-false))
+  pub put_off : all (put_tests i s) ≡ false → false ≡ put_stands i s
+  put_off e = sym (put_as ∙ rw (e, and-false))
 
   -- where they all stand, it is left whether what it holds may be held
   pub put_is : all (put_tests i s) ≡ true → kept_right i (kept_at s) ≡ put_stands i s
   put_is e = sym (put_as ∙ rw (e, and-true))
-
--- a sign that stands there: plus, minus, or none
-
-pub sign_plus : (b : ℕ) → b ≡ 43 → (0 ≡ sign_of b) × (b ≡ sign_byte (sign_of b))
-sign_plus b e = rw e (refl, refl)
-
-pub sign_minus : (b : ℕ) → b ≡ 45 → (1 ≡ sign_of b) × (b ≡ sign_byte (sign_of b))
-sign_minus b e = rw e (refl, refl)
-
-pub sign_none : (b : ℕ) → (b ≡ 43 → ⊥) → (b ≡ 45 → ⊥) → b ≡ sign_byte (sign_of b) → ⊥
-sign_none b p m e = m (e ∙ rw (ne_eqb b 43 p))

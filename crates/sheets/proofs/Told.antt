@@ -16,7 +16,7 @@ use Rattle.state.specs.Image.{series_in, state_in, is_image}
 use Rattle.state.specs.declared.entries.State.{State}
 use Rattle.state.proofs.Images.{image_of_lem}
 use Rattle.instrument.specs.declared.settings.Series.{Series}
-use Rattle.sheets.specs.Answers.{sheet_number, sheet_tells}
+use Rattle.sheets.specs.Answers.{Sheeted, sheet_number, sheet_tells, told_of_load}
 use Rattle.sheets.specs.Sheet.{sheet_of}
 use Rattle.sheets.specs.Undo.{form_line, sheet_as}
 use Rattle.sheets.specs.Writing.{Sheet·room, unwritten, sheet_in_room, written_sheet, series_named, other_form, moved_sheet}
@@ -25,8 +25,8 @@ use Rattle.sheets.specs.FirstWrong.{Tells, wrong_line, no_list}
 use Rattle.sheets.specs.Keeping.{sheet_most}
 use Rattle.sheets.specs.declared.forms.Form.{Form}
 use Rattle.sheets.specs.declared.forms.Form.TheVariants.{One, Two}
-use Rattle.sheets.specs.declared.answers.Sheeted.{Sheeted}
-use Rattle.sheets.specs.declared.answers.Sheeted.TheVariants as answer
+use Rattle.sheets.specs.declared.answers.SheetRefusal.TheVariants.{NoState, Room, Wrong}
+use Rattle.std.specs.Prelude.{Ok, Err}
 use Rattle.sheets.proofs.Sheets.{shown_in}
 use Rattle.sheets.proofs.Sizes.{most_two, lined_below, sheet_below}
 use Rattle.sheets.proofs.Images.{LoadsAs, lent_none, lent_wrong, lent_right, loads_as}
@@ -51,20 +51,20 @@ tells_within k input at (no_list n) =
 pub wrong_within : (k : Series) (input : List ℕ) (at : ℕ) → loading_of k input ≡ wrong at → (at ≤ length input) × (at ≤ sheet_most Two)
 wrong_within k input at e = tells_within k input at (tells k input at e)
 
-loaded_bounds : (image sheet : List ℕ) → let n = sheet_tells (loaded image sheet).answer in
+loaded_bounds : (image sheet : List ℕ) → let n = sheet_tells (told_of_load (loaded image sheet).answer) in
     (n ≤ length sheet) × (n ≤ sheet_most Two)
 loaded_bounds image sheet = by (loads_as image sheet)
   where
-    by : LoadsAs image sheet (loaded image sheet) → let n = sheet_tells (loaded image sheet).answer in
+    by : LoadsAs image sheet (loaded image sheet) → let n = sheet_tells (told_of_load (loaded image sheet).answer) in
         (n ≤ length sheet) × (n ≤ sheet_most Two)
     by (lent_none i q) = rw q (omega arith, omega arith)
     by (lent_wrong at l q) = rw q (wrong_within (series_in image) sheet at l)
     by (lent_right settings values entries l q) = rw q (omega arith, omega arith)
 
-pub loaded_within : (image sheet : List ℕ) → sheet_tells (loaded image sheet).answer ≤ length sheet
+pub loaded_within : (image sheet : List ℕ) → sheet_tells (told_of_load (loaded image sheet).answer) ≤ length sheet
 loaded_within image sheet = (loaded_bounds image sheet).0
 
-pub loaded_most : (image sheet : List ℕ) → sheet_tells (loaded image sheet).answer ≤ sheet_most Two
+pub loaded_most : (image sheet : List ℕ) → sheet_tells (told_of_load (loaded image sheet).answer) ≤ sheet_most Two
 loaded_most image sheet = (loaded_bounds image sheet).1
 
 -- a sheet laid into a room that may be too small for it
@@ -76,8 +76,8 @@ room_refused : (sheet room : List ℕ) → 0 < sheet_number (sheet_in_room sheet
 room_refused sheet room = by (leb (length sheet) (length room))
   where
     by : (fits : Bool) →
-        let whole : Sheet·room = record { answer = answer.Written (length sheet); room = laid sheet room } in
-        let o = cond fits whole (unwritten answer.Room room) in
+        let whole : Sheet·room = record { answer = Ok (length sheet); room = laid sheet room } in
+        let o = cond fits whole (unwritten Room room) in
         0 < sheet_number o.answer → o.room ≡ room
     by true h = absurd (omega arith)
     by false h = refl
@@ -91,7 +91,7 @@ written_most f image room =
 pub written_refused : (f : Form) (image room : List ℕ) → 0 < sheet_number (written_sheet f image room).answer → (written_sheet f image room).room ≡ room
 written_refused f image room = by (is_image image)
   where
-    by : (is : Bool) → let o = cond is (sheet_in_room (sheet_as f (state_in image)) room) (unwritten answer.NoState room) in
+    by : (is : Bool) → let o = cond is (sheet_in_room (sheet_as f (state_in image)) room) (unwritten NoState room) in
         0 < sheet_number o.answer → o.room ≡ room
     by true h = room_refused (sheet_as f (state_in image)) room h
     by false h = refl
@@ -122,7 +122,7 @@ moved_bounds f sheet room = by (moves_as f sheet room)
     by : MovesAs f sheet room (moved_sheet f sheet room) → Bounds (moved_sheet f sheet room).answer sheet
     by (no_sheet at q not) = rw q (place (moved_tells f sheet room at (ap (λ (o : Sheet·room). o.answer) q)))
       where
-        place : MoveTells f sheet at → Bounds (answer.Wrong at) sheet
+        place : MoveTells f sheet at → Bounds (Err (Wrong at)) sheet
         place (of_form is t) = let b = tells_within (series_named f sheet) sheet at t in (λ n. b.0, b.1)
         place (of_other apart start) = (λ n. omega arith, omega arith)
     by (of_state s is shown has q) = rw (q, ← has) (moved_state f s room is shown)

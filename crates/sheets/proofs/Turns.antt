@@ -10,20 +10,21 @@ use lib.Seq.{drop-drop, take_all}
 use Rattle.state.specs.Image.{state_in, is_image}
 use Rattle.lines.specs.Machine.{Outcome, step, told, played, call}
 use Rattle.lines.specs.Sessions.{session}
-use Rattle.lines.specs.declared.verdicts.Verdict.TheVariants.{NoState}
+use Rattle.lines.specs.declared.verdicts.Refused.TheVariants.{NoState}
 use Rattle.pieces.specs.Pieces.{cut_of, pieces}
 use Rattle.pieces.proofs.Pieces.{cut_some, cut_fits, pieces_none, pieces_more}
 use Rattle.sheets.specs.Playing.{reply_room}
 use Rattle.sheets.specs.Keeping.{run_by}
+use Rattle.std.specs.Prelude.{Err}
 
 -- a line on an image, whatever the room holds
 pub room_length : (image line room : List ℕ) → length room ≡ reply_room → (call image line room).image ≡ (call image line (replicate reply_room 0)).image
 room_length image line room e =
-    ap (λ (n : ℕ). (cond (is_image image) (played (step (state_in image) line n) room) (record { answer = told NoState 0; image = image; room = room })).image) e
+    ap (λ (n : ℕ). (cond (is_image image) (played (step (state_in image) line n) room) (record { answer = told (Err NoState) 0; image = image; room = room })).image) e
     ∙ by (is_image image) (step (state_in image) line reply_room)
   where
-    by : (b : Bool) (o : Outcome) → (cond b (played o room) (record { answer = told NoState 0; image = image; room = room })).image
-        ≡ (cond b (played o (replicate reply_room 0)) (record { answer = told NoState 0; image = image; room = replicate reply_room 0 })).image
+    by : (b : Bool) (o : Outcome) → (cond b (played o room) (record { answer = told (Err NoState) 0; image = image; room = room })).image
+        ≡ (cond b (played o (replicate reply_room 0)) (record { answer = told (Err NoState) 0; image = image; room = replicate reply_room 0 })).image
     by true o = refl
     by false o = refl
 

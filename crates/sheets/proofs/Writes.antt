@@ -12,9 +12,7 @@ use Rattle.figures.specs.Bytes.{laid}
 use Rattle.instrument.specs.Settings.{settings_n, held}
 use Rattle.instrument.specs.Values.{values_n}
 use Rattle.instrument.specs.declared.settings.Series.{Series}
-use Rattle.instrument.specs.declared.values.Kept.{Kept}
-use Rattle.instrument.specs.declared.values.Kept.TheVariants.{Never}
-use Rattle.state.specs.Entries.{value_of}
+use Rattle.instrument.specs.Values.{Kept}
 use Rattle.state.specs.Image.{state_in, is_image}
 use Rattle.state.specs.Keeping.{Imaged, stored_in}
 use Rattle.state.specs.declared.entries.State.{State}
@@ -26,11 +24,13 @@ use Rattle.sheets.specs.Writing.{Sheet·room, unwritten, sheet_in_room, written_
 use Rattle.sheets.specs.Keeping.{sheet_most, settings_text, values_text}
 use Rattle.sheets.specs.declared.forms.Form.{Form}
 use Rattle.sheets.specs.declared.forms.Form.TheVariants.{One}
-use Rattle.sheets.specs.declared.answers.Sheeted.{Sheeted}
-use Rattle.sheets.specs.declared.answers.Sheeted.TheVariants as answer
+use Rattle.sheets.specs.Answers.{Sheeted}
+use Rattle.sheets.specs.declared.answers.SheetRefusal.TheVariants.{NoState, Room}
+use Rattle.std.specs.Prelude.{Ok, Err}
 use Rattle.sheets.proofs.Sizes.{series_long, sheet_below}
 use Rattle.sheets.proofs.Linewise.{sheet_halves}
-use Rattle.sheets.proofs.UndoWrites.{sheet_parts, is_state_lem}
+use Rattle.sheets.proofs.UndoWrites.{sheet_parts, sheet_long, is_state_lem}
+use Rattle.std.specs.Prelude.{None}
 
 -- what is read of an image of the series k is its state's
 
@@ -57,7 +57,7 @@ module _ {k : Series} {l : List ℕ} (im : Imaged k l) where
   pub values_long : length s.values ≡ values_n
   values_long = (shaped s (is_state_lem im)).values_long
 
-  pub value_read : (i : ℕ) (v : Kept) → i < values_n → v ≡ stored_in k i l → kept_line i v ≡ value_lines.write i (get_or s.values i (value_of Never))
+  pub value_read : (i : ℕ) (v : Kept) → i < values_n → v ≡ stored_in k i l → kept_line i v ≡ value_lines.write i (get_or s.values i None)
   value_read i v h e = ap (kept_line i) (e ∙ stored_read im i h)
 
   -- the first form's lines by their three parts
@@ -73,6 +73,11 @@ module _ {k : Series} {l : List ℕ} (im : Imaged k l) where
   unfolding sheet_as
   lines_few = sheet_below One s (is_state_lem im)
 
+  -- and how long the sheet of a form is
+  pub sheet_sized : (f : Form) {n settings values undo : ℕ} → n ≡ length (form_line f) → settings ≡ length (settings_text s)
+      → values ≡ length (values_text s) → undo ≡ length (undo_text f s) → n + (14 + settings + values) + undo ≡ length (sheet_as f s)
+  sheet_sized f en es ev eu = omega (arith, en, es, ev, eu, lines_long, sheet_long f s)
+
   -- and the sheet of a form by those
   pub sheet_text : (f : Form) → (form_line f ++ ((series_line k ++ settings_text s) ++ values_text s)) ++ undo_text f s ≡ sheet_as f s
   sheet_text f =
@@ -82,31 +87,31 @@ module _ {k : Series} {l : List ℕ} (im : Imaged k l) where
 
 module _ (f : Form) (image room : List ℕ) where
   abbrev nothing : Sheet·room
-  nothing = unwritten answer.NoState room
+  nothing = unwritten NoState room
 
   answered : (w : Sheet·room) (r : Sheeted) (room' : List ℕ) → written_sheet f image room ≡ w → r ≡ w.answer → room' ≡ w.room
       → WritesSheet f image room r room'
   answered w r room' e a b = (a ∙ ap (λ (x : Sheet·room). x.answer) (sym e), b ∙ ap (λ (x : Sheet·room). x.room) (sym e))
 
-  pub writes_none : is_image image ≡ false → WritesSheet f image room answer.NoState room
-  writes_none i = answered nothing answer.NoState room (ap (λ (b : Bool). cond b (sheet_in_room (sheet_as f (state_in image)) room) nothing) i) refl refl
+  pub writes_none : is_image image ≡ false → WritesSheet f image room (Err NoState) room
+  writes_none i = answered nothing (Err NoState) room (ap (λ (b : Bool). cond b (sheet_in_room (sheet_as f (state_in image)) room) nothing) i) refl refl
 
   module _ (i : is_image image ≡ true) where
     abbrev sheet : List ℕ
     sheet = sheet_as f (state_in image)
 
     abbrev whole : Sheet·room
-    whole = record { answer = answer.Written (length sheet); room = laid sheet room }
+    whole = record { answer = Ok (length sheet); room = laid sheet room }
 
     abbrev short : Sheet·room
-    short = unwritten answer.Room room
+    short = unwritten Room room
 
     by : (b : Bool) → leb (length sheet) (length room) ≡ b → written_sheet f image room ≡ cond b whole short
     by b e = λ j. cond (i j) (cond (e j) whole short) nothing
 
-    pub writes_room : length room < length sheet → WritesSheet f image room answer.Room room
-    writes_room h = answered _ answer.Room room (by false (lt-leb (length sheet) (length room) h)) refl refl
+    pub writes_room : length room < length sheet → WritesSheet f image room (Err Room) room
+    writes_room h = answered _ (Err Room) room (by false (lt-leb (length sheet) (length room) h)) refl refl
 
     pub writes_sheet : (n : ℕ) (room' : List ℕ) → length sheet ≤ length room → n ≡ length sheet → room' ≡ laid sheet room
-        → WritesSheet f image room (answer.Written n) room'
-    writes_sheet n room' h en er = answered _ (answer.Written n) room' (by true (le-leb (length sheet) (length room) h)) (ap answer.Written en) er
+        → WritesSheet f image room (Ok n) room'
+    writes_sheet n room' h en er = answered _ (Ok n) room' (by true (le-leb (length sheet) (length room) h)) (ap Ok en) er

@@ -1,5 +1,5 @@
 -- Demand 3 over lines and sheet loads in any order: it starts at the factory state or at a loaded sheet, of either form.
-use Rattle.std.specs.Prelude.{ℕ, ◌≤◌, ◌≡◌, true, List, [], length}
+use Rattle.std.specs.Prelude.{ℕ, ◌≤◌, ◌≡◌, true, List, [], length, Ok}
 use Rattle.state.specs.Entries.{Contents, contents_of, is_state}
 use Rattle.state.specs.declared.entries.State.{State}
 use Rattle.commands.specs.Shapes.{is_ended, text_of, order_of}
@@ -44,7 +44,7 @@ traced s acts = (session acted (starts_at s) acts).left
 pub record Demanded (t : Traced) : Type 0 where
   pub is : is_state t.state ≡ true
   pub played : contents_of t.state ≡ play_all t.start t.standing
-  pub undo : (line : List ℕ) (room : ℕ) → is_ended line ≡ true → order_of (text_of line) ≡ Undo → length (run t.state line).reply ≤ room
+  pub undo : (line : List ℕ) (room : ℕ) → is_ended line ≡ true → order_of (text_of line) ≡ Ok Undo → length (run t.state line).reply ≤ room
       → is_accepted (step t.state line room).verdict ≡ stands t.standing
 
 -- the same on a lent image

@@ -1,40 +1,33 @@
 -- How the code keeps what the other files define: a line, and the parts of a sheet as they are written and loaded.
-use Rattle.std.specs.Prelude.{ℕ, zero, suc, ◌+◌, ◌-◌, ◌≡◌, Bool, cond, not, ◌&&◌, eqb, length, get_or, drop, replicate}
+use Rattle.std.specs.Prelude.{ℕ, zero, suc, ◌+◌, ◌-◌, ◌≤◌, ◌≡◌, Bool, cond, not, ◌&&◌, eqb, length, get_or, drop, replicate, Option, Some, None, Result, Ok, Err}
 use mathlib.Core.List.{List, [], ◌∷◌, ◌++◌, map, foldr}
 use Rattle.figures.specs.Bytes.{starts_with}
+use Rattle.figures.specs.declared.rooms.Room.{Room}
 use Rattle.figures.specs.Text.{codes}
 use Rattle.figures.specs.Decimal.{is_digit, decimal_of}
 use Rattle.instrument.specs.Rows.{name_of}
 use Rattle.instrument.specs.Settings.{rows_of, held, padded}
-use Rattle.state.specs.Entries.{entries_n, value_of, blank_entry, Contents}
+use Rattle.state.specs.Entries.{entries_n, blank_entry, Contents}
 use Rattle.instrument.specs.Values.{values_n, index_number, stored_at, put_kept, kept_right}
 use Rattle.instrument.specs.declared.settings.Series.{Series}
-use Rattle.instrument.specs.declared.values.Kept.{Kept}
-use Rattle.instrument.specs.declared.values.Kept.TheVariants.{Never}
-use Rattle.instrument.specs.declared.values.Value.{Value}
+use Rattle.instrument.specs.Values.{Kept}
 use Rattle.state.specs.declared.entries.Entry.{Entry}
 use Rattle.state.specs.declared.entries.State.{State}
 use Rattle.state.specs.Keeping.{entry_laid, count_laid}
 use Rattle.lines.specs.Sessions.{Lent, image_after}
 use Rattle.pieces.specs.Pieces.{pieces}
-use Rattle.sheets.specs.Lines.{LinesOf, lines_by, Part}
-use Rattle.sheets.specs.Sheet.{setting_key, said_by, setting_lines, characters_of, kept_line, kept_said, value_lines}
+use Rattle.sheets.specs.Lines.{LinesOf, lines_by, Came, Part}
+use Rattle.sheets.specs.Sheet.{setting_key, said_by, setting_lines, characters_of, kept_line, value_lines}
 use Rattle.sheets.specs.Undo.{form_line, count_lines, entry_lines}
 use Rattle.sheets.specs.Loading.{FirstLines}
 use Rattle.sheets.specs.Playing.{reply_room}
 use Rattle.sheets.specs.declared.forms.Form.{Form}
 use Rattle.sheets.specs.declared.forms.Form.TheVariants.{One, Two}
+use Rattle.sheets.specs.declared.answers.SheetRefusal.{SheetRefusal}
+use Rattle.sheets.specs.declared.answers.SheetRefusal.TheVariants.{Wrong}
 use Rattle.sheets.specs.declared.loading.Digits.{Digits}
-use Rattle.sheets.specs.declared.loading.Numbered.{Numbered}
 use Rattle.sheets.specs.declared.loading.Taken.{Taken}
-use Rattle.sheets.specs.declared.loading.TakenValue.{TakenValue}
-use Rattle.sheets.specs.declared.loading.Settings.{Settings}
-use Rattle.sheets.specs.declared.loading.Values.{Values}
 use Rattle.sheets.specs.declared.loading.First.{First}
-use Rattle.sheets.specs.declared.undo.TakenEntry.{TakenEntry}
-use Rattle.sheets.specs.declared.undo.TakenCount.{TakenCount}
-use Rattle.sheets.specs.declared.undo.Entries.{Entries}
-use Rattle.sheets.specs.declared.undo.Undo.{Undo}
 
 -- a sheet starts as those of the form do, and not as those of the other
 abbrev pub is_of : Form → List ℕ → Bool
@@ -50,6 +43,10 @@ key_length k = cond (eqb (get_or k 4 0) 0) (cond (eqb (get_or k 3 0) 0) 3 4) 5
 abbrev pub sheet_most : Form → ℕ
 sheet_most One = 441
 sheet_most Two = 1864
+
+-- a text fits into a room from its place on
+pub record Fits (room : Room) (text : List ℕ) : Type 0 where
+  pub within : room.at + length text ≤ length room.bytes.now
 
 -- the settings' lines without their parameters: each has its key and LF
 unfoldable pub keys_n : Series → ℕ
@@ -75,36 +72,25 @@ digits_first (suc k) (b ∷ t) = cond (is_digit b) (suc (digits_first k t)) 0
 abbrev pub said_of : List ℕ → Digits
 said_of t = record { number = said_by 3 0 t; digits = digits_first 3 t }
 
--- a line is taken as `part_by` (Lines.antt) judges it: its length and what it holds, or nothing; `setting_turned` and `value_turned`, in proofs/Takes.antt, and
--- `count_turned` and `entry_turned`, in UndoTakes.antt, show it
+-- a line is taken as `part_by` (Lines.antt) judges it: its length and what it holds, or nothing; `part_turned`, in proofs/Partwise.antt, shows it
 abbrev pub line_stands : {A : Type 0} → LinesOf A → ℕ → List ℕ → Bool
 line_stands l i rest = let x = l.says i rest in l.may [] i x && starts_with (l.write i x) rest
 
--- a number in its fewest digits and LF, at the start: its length and the number, or nothing; `number_stands`, in proofs/Takes.antt, judges it by its digits
-abbrev pub no_number : Numbered
-no_number = record { n = 0; number = 0 }
+abbrev pub line_taken : {A : Type 0} → LinesOf A → ℕ → List ℕ → Option (Taken A)
+line_taken l i rest = cond (line_stands l i rest) (Some (record { to = length (l.write i (l.says i rest)); held = l.says i rest })) None
 
-abbrev pub number_taken : List ℕ → Numbered
+-- a number in its fewest digits and LF, at the start; `number_stands`, in proofs/Takes.antt, judges it by its digits
+abbrev pub number_taken : List ℕ → Option (Taken ℕ)
 number_taken rest =
     let p = said_by 3 0 rest in
     let line = decimal_of p ++ codes "\n" in
-    cond (starts_with line rest) (record { n = length line; number = p }) no_number
+    cond (starts_with line rest) (Some (record { to = length line; held = p })) None
 
-abbrev pub no_setting : Taken
-no_setting = record { n = 0; parameter = 0 }
+abbrev pub setting_taken : Series → ℕ → List ℕ → Option (Taken ℕ)
+setting_taken k i rest = line_taken (setting_lines k) i rest
 
-abbrev pub setting_taken : Series → ℕ → List ℕ → Taken
-setting_taken k i rest =
-    let l = setting_lines k in
-    cond (line_stands l i rest) (record { n = length (l.write i (l.says i rest)); parameter = l.says i rest }) no_setting
-
-abbrev pub no_value : TakenValue
-no_value = record { n = 0; kept = Never }
-
-abbrev pub value_taken : ℕ → List ℕ → TakenValue
-value_taken i rest =
-    let l = value_lines in
-    cond (line_stands l i rest) (record { n = length (l.write i (l.says i rest)); kept = kept_said i rest }) no_value
+abbrev pub value_taken : ℕ → List ℕ → Option (Taken Kept)
+value_taken i rest = line_taken value_lines i rest
 
 -- of a value that was put, what follows the four bytes of its key stands and may be held
 abbrev pub put_stands : ℕ → List ℕ → Bool
@@ -114,38 +100,43 @@ put_stands i rest = let k = put_kept (drop 4 rest) in kept_right i k && starts_w
 abbrev pub setting_start : ℕ → List ℕ
 setting_start n = codes "u=" ++ (name_of "s" n ++ codes ":")
 
-abbrev pub no_entry : TakenEntry
-no_entry = record { n = 0; entry = blank_entry }
+abbrev pub entry_taken : Series → List ℕ → Option (Taken Entry)
+entry_taken k rest = line_taken (entry_lines k) 0 rest
 
-abbrev pub entry_taken : Series → List ℕ → TakenEntry
-entry_taken k rest =
-    let l = entry_lines k in
-    cond (line_stands l 0 rest) (record { n = length (l.write 0 (l.says 0 rest)); entry = l.says 0 rest }) no_entry
+abbrev pub count_taken : List ℕ → Option (Taken ℕ)
+count_taken rest = line_taken count_lines 0 rest
 
-abbrev pub no_count : TakenCount
-no_count = record { n = 0; count = 0 }
+-- what is kept of lines that are right, with the place past them, or the refusal that tells the start of the first wrong one
+abbrev pub kept_as : {A : Type 0} → A → Came → Result (Taken A) SheetRefusal
+kept_as held (Ok at) = Ok (record { to = at; held = held })
+kept_as held (Err at) = Err (Wrong at)
 
-abbrev pub count_taken : List ℕ → TakenCount
-count_taken rest =
-    let l = count_lines in
-    cond (line_stands l 0 rest) (record { n = length (l.write 0 (l.says 0 rest)); count = l.says 0 rest }) no_count
+abbrev pub settings_as : Part ℕ → Result (Taken (List ℕ)) SheetRefusal
+settings_as p = kept_as (padded p.got) p.came
 
--- what the lines of a part held; blank where one is wrong
-abbrev pub settings_as : Part ℕ → Settings
-settings_as p = record { came = p.came; settings = padded p.got }
+abbrev pub values_as : Part Kept → Result (Taken (List Kept)) SheetRefusal
+values_as p = kept_as (p.got ++ drop (length p.got) (replicate values_n None)) p.came
 
-abbrev pub values_as : Part Value → Values
-values_as p = record { came = p.came; values = p.got ++ drop (length p.got) (replicate values_n (value_of Never)) }
+-- entries as they are kept, blank past the last
+abbrev pub entries_filled : List Entry → List Entry
+entries_filled got = got ++ replicate (entries_n - length got) blank_entry
 
-abbrev pub entries_as : Part Entry → Entries
-entries_as p = record { came = p.came; entries = p.got ++ replicate (entries_n - length p.got) blank_entry }
+-- the place past lines that are right, or the refusal
+abbrev pub lines_to : Came → Result ℕ SheetRefusal
+lines_to (Ok at) = Ok at
+lines_to (Err at) = Err (Wrong at)
 
 -- settings as they are kept, and values, of a series
-abbrev pub contents_by : Series → List ℕ → List Value → Contents
+abbrev pub contents_by : Series → List ℕ → List Kept → Contents
 contents_by k settings values = record { series = k; settings = settings; values = values }
 
-abbrev pub list_as : Part Entry → Undo
-list_as p = record { came = p.came; entries = p.got ++ replicate (entries_n - length p.got) blank_entry; count = length p.got }
+-- how many entries are taken, or the refusal
+abbrev pub counted_to : ℕ → Came → Result ℕ SheetRefusal
+counted_to n (Ok at) = Ok n
+counted_to n (Err at) = Err (Wrong at)
+
+abbrev pub list_count : Part Entry → Result ℕ SheetRefusal
+list_count p = counted_to (length p.got) p.came
 
 -- the first n entries laid down in an image, one after the other, and their count
 unfoldable pub entries_laid : Series → List Entry → ℕ → List ℕ → List ℕ
@@ -155,12 +146,20 @@ entries_laid k entries (suc n) image = entry_laid k n (get_or entries n blank_en
 abbrev pub undo_laid : Series → List Entry → ℕ → List ℕ → List ℕ
 undo_laid k entries n image = count_laid k n (entries_laid k entries n image)
 
-abbrev pub first_as : FirstLines → First
-first_as p = record {
-  came = p.came;
+-- the first form's lines as they are kept
+abbrev pub first_held : FirstLines → ℕ → First
+first_held p at = record {
+  to = at;
   settings = padded p.settings;
-  values = p.values ++ drop (length p.values) (replicate values_n (value_of Never));
+  values = p.values ++ drop (length p.values) (replicate values_n None);
 }
+
+abbrev pub first_to : FirstLines → Came → Result First SheetRefusal
+first_to p (Ok at) = Ok (first_held p at)
+first_to p (Err at) = Err (Wrong at)
+
+abbrev pub first_as : FirstLines → Result First SheetRefusal
+first_as p = first_to p p.came
 
 -- a line and as many noughts as the room for its reply has bytes
 abbrev pub lent_of : List ℕ → Lent

@@ -6,15 +6,13 @@ use Rattle.figures.specs.Decimal.{is_digit, decimal_of}
 use Rattle.instrument.specs.Rows.{key_of}
 use Rattle.instrument.specs.Settings.{setting_number, row_at, in_range, held}
 use Rattle.instrument.specs.Values.{index_number, stored_at, get_word, put_kept, kept_right}
-use Rattle.state.specs.Entries.{value_of}
 use Rattle.instrument.specs.declared.settings.Series.{Series}
 use Rattle.instrument.specs.declared.settings.Series.TheVariants.{Tps100, Tps300}
 use Rattle.instrument.specs.declared.settings.Row.{Row}
-use Rattle.instrument.specs.declared.values.Kept.{Kept}
-use Rattle.instrument.specs.declared.values.Kept.TheVariants.{Never, Put}
-use Rattle.instrument.specs.declared.values.Value.{Value}
+use Rattle.instrument.specs.Values.{Kept}
 use Rattle.state.specs.declared.entries.State.{State}
 use Rattle.sheets.specs.Lines.{LinesOf, lines_by}
+use Rattle.std.specs.Prelude.{Some, None}
 
 -- "The sheet begins `series=TPS300`" (request 103)
 abbrev pub series_line : Series → List ℕ
@@ -51,8 +49,8 @@ abbrev pub characters_n : ℕ
 characters_n = 15
 
 abbrev pub characters_of : ℕ → Kept → List ℕ
-characters_of place Never = []
-characters_of place (Put u m d) = take characters_n (get_word place (Put u m d))
+characters_of place None = []
+characters_of place (Some p) = take characters_n (get_word place (Some p))
 
 abbrev pub value_key : ℕ → List ℕ
 value_key place = key_of "v" (index_number (stored_at place))
@@ -62,14 +60,14 @@ kept_line place k = value_key place ++ (characters_of place k ++ codes "\n")
 
 -- nothing where it was never put, otherwise the characters after its key
 abbrev pub kept_said : ℕ → List ℕ → Kept
-kept_said place rest = cond (starts_with (kept_line place Never) rest) Never (put_kept (drop (length (value_key place)) rest))
+kept_said place rest = cond (starts_with (kept_line place None) rest) None (put_kept (drop (length (value_key place)) rest))
 
 -- "then `v` and each index": the rules for the line of a value
-abbrev pub value_lines : LinesOf Value
+abbrev pub value_lines : LinesOf Kept
 value_lines = record {
-  write = λ i v. kept_line i v.kept;
-  may = λ before i v. kept_right i v.kept;
-  says = λ i rest. value_of (kept_said i rest);
+  write = λ i v. kept_line i v;
+  may = λ before i v. kept_right i v;
+  says = λ i rest. kept_said i rest;
 }
 
 unfoldable pub sheet_of : State → List ℕ

@@ -9,10 +9,7 @@ use Rattle.instrument.specs.Settings.{setting_number, row_at, setting_place}
 use Rattle.instrument.specs.Values.{index_number, stored_at, value_place, put_kept}
 use Rattle.state.specs.Entries.{entries_n, entry_of, blank_entry, entry_right}
 use Rattle.instrument.specs.declared.settings.Series.{Series}
-use Rattle.instrument.specs.declared.settings.Found.{Found}
-use Rattle.instrument.specs.declared.settings.Found.TheVariants.{Nothing, At}
-use Rattle.instrument.specs.declared.values.Kept.{Kept}
-use Rattle.instrument.specs.declared.values.Kept.TheVariants.{Never}
+use Rattle.instrument.specs.Values.{Kept}
 use Rattle.state.specs.declared.entries.Item.{Item}
 use Rattle.state.specs.declared.entries.Item.TheVariants.{Free, Setting, Stored}
 use Rattle.state.specs.declared.entries.Former.{Former}
@@ -22,6 +19,7 @@ use Rattle.sheets.specs.Lines.{LinesOf, lines_by}
 use Rattle.sheets.specs.Sheet.{said_by, characters_of, sheet_of}
 use Rattle.sheets.specs.declared.forms.Form.{Form}
 use Rattle.sheets.specs.declared.forms.Form.TheVariants.{One, Two}
+use Rattle.std.specs.Prelude.{Option, Some, None}
 
 -- "starts `form=2`"; the first form has no such line
 abbrev pub form_line : Form → List ℕ
@@ -63,17 +61,17 @@ abbrev pub entry_line : Series → Entry → List ℕ
 entry_line k e = item_key k e.item ++ (former_text e.item e.former ++ codes "\n")
 
 -- what a line says: the letter and the number that follows it name the item, and what stands after the colon was there
-abbrev pub setting_said : Series → Found → List ℕ → Entry
-setting_said k Nothing rest = blank_entry
-setting_said k (At i) rest = entry_of (Setting i) (said_by 3 0 (drop (length (item_key k (Setting i))) rest)) Never
+abbrev pub setting_said : Series → Option ℕ → List ℕ → Entry
+setting_said k None rest = blank_entry
+setting_said k (Some i) rest = entry_of (Setting i) (said_by 3 0 (drop (length (item_key k (Setting i))) rest)) None
 
 abbrev pub kept_there : Series → ℕ → List ℕ → Kept
 kept_there k i rest =
-    cond (starts_with (entry_line k (entry_of (Stored i) 0 Never)) rest) Never (put_kept (drop (length (item_key k (Stored i))) rest))
+    cond (starts_with (entry_line k (entry_of (Stored i) 0 None)) rest) None (put_kept (drop (length (item_key k (Stored i))) rest))
 
-abbrev pub stored_said : Series → Found → List ℕ → Entry
-stored_said k Nothing rest = blank_entry
-stored_said k (At i) rest = entry_of (Stored i) 0 (kept_there k i rest)
+abbrev pub stored_said : Series → Option ℕ → List ℕ → Entry
+stored_said k None rest = blank_entry
+stored_said k (Some i) rest = entry_of (Stored i) 0 (kept_there k i rest)
 
 -- no number has more than three digits
 abbrev pub number_said : List ℕ → ℕ

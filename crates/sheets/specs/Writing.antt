@@ -1,5 +1,5 @@
 -- Writing a sheet, and moving one from a form to the other: the answer, and the room as it is then.
-use Rattle.std.specs.Prelude.{ℕ, ◌≡◌, cond, List, ◌++◌, eqb, leb, length, drop}
+use Rattle.std.specs.Prelude.{ℕ, ◌≡◌, cond, List, ◌++◌, eqb, leb, length, drop, Ok, Err}
 use Rattle.figures.specs.Bytes.{laid, starts_with}
 use Rattle.instrument.specs.declared.settings.Series.{Series}
 use Rattle.instrument.specs.declared.settings.Series.TheVariants.{Tps100, Tps300}
@@ -9,8 +9,9 @@ use Rattle.sheets.specs.Undo.{form_line, sheet_as}
 use Rattle.sheets.specs.Loading.{Loading, wrong, right, loaded_state, loading_as}
 use Rattle.sheets.specs.declared.forms.Form.{Form}
 use Rattle.sheets.specs.declared.forms.Form.TheVariants.{One, Two}
-use Rattle.sheets.specs.declared.answers.Sheeted.{Sheeted}
-use Rattle.sheets.specs.declared.answers.Sheeted.TheVariants as answer
+use Rattle.sheets.specs.Answers.{Sheeted}
+use Rattle.sheets.specs.declared.answers.SheetRefusal.{SheetRefusal}
+use Rattle.sheets.specs.declared.answers.SheetRefusal.TheVariants.{NoState, Room, Wrong, Standing}
 
 pub record Sheet·room : Type 0 where
   pub answer : Sheeted
@@ -21,17 +22,17 @@ abbrev pub Leaves : Sheet·room → Sheeted → List ℕ → Type 0
 Leaves o r room' = (r ≡ o.answer) × (room' ≡ o.room)
 
 -- nothing written
-abbrev pub unwritten : Sheeted → List ℕ → Sheet·room
-unwritten a room = record { answer = a; room = room }
+abbrev pub unwritten : SheetRefusal → List ℕ → Sheet·room
+unwritten r room = record { answer = Err r; room = room }
 
 -- "Order: .. for writing, 31, then 30. Room beyond a written sheet is untouched."
 abbrev pub sheet_in_room : List ℕ → List ℕ → Sheet·room
 sheet_in_room sheet room =
-    cond (leb (length sheet) (length room)) (record { answer = answer.Written (length sheet); room = laid sheet room }) (unwritten answer.Room room)
+    cond (leb (length sheet) (length room)) (record { answer = Ok (length sheet); room = laid sheet room }) (unwritten Room room)
 
 -- "the caller says which is written" (request 106)
 abbrev pub written_sheet : Form → List ℕ → List ℕ → Sheet·room
-written_sheet f image room = cond (is_image image) (sheet_in_room (sheet_as f (state_in image)) room) (unwritten answer.NoState room)
+written_sheet f image room = cond (is_image image) (sheet_in_room (sheet_as f (state_in image)) room) (unwritten NoState room)
 
 abbrev pub WritesSheet : Form → List ℕ → List ℕ → Sheeted → List ℕ → Type 0
 WritesSheet f image room r room' = Leaves (written_sheet f image room) r room'
@@ -48,10 +49,10 @@ other_form Two = One
 -- "Old sheets move to the new form with `undo=0`. The way back gives the old bytes exactly when the count is 0." What loads as a sheet of the one form is
 -- written in the other. "40 at the first wrong line ..; then 41 for the way back with a count above 0, then 30"; 41 tells the start of the `undo=` line.
 abbrev pub moved_by : Form → Series → List ℕ → Loading → Sheet·room
-moved_by f k room (wrong at) = unwritten (answer.Wrong at) room
+moved_by f k room (wrong at) = unwritten (Wrong at) room
 moved_by f k room (right settings values entries) =
     let s = loaded_state k settings values entries in
-    cond (eqb (length entries) 0) (sheet_in_room (sheet_as (other_form f) s) room) (unwritten (answer.Standing (length (form_line Two ++ sheet_of s))) room)
+    cond (eqb (length entries) 0) (sheet_in_room (sheet_as (other_form f) s) room) (unwritten (Standing (length (form_line Two ++ sheet_of s))) room)
 
 -- from the form
 abbrev pub moved_sheet : Form → List ℕ → List ℕ → Sheet·room

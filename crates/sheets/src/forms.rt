@@ -1,12 +1,12 @@
 // The two forms of a sheet: the second starts `form=2` and has the undo list after the first's lines. What the first lines of a sheet name.
-ghost use Rattle.std.specs.Prelude.{◌≡◌, length};
+ghost use Rattle.std.specs.Prelude.{◌≡◌};
 ghost use Rattle.sheets.specs.Undo.{form_line};
 ghost use Rattle.sheets.specs.Loading.{form_in};
 ghost use Rattle.sheets.specs.Writing.{series_named};
 
 use instrument::settings::Series;
 
-#[derive(Clone, Copy)]
+#[derive(Clone, Copy, PartialEq, Eq)]
 pub enum Form {
     One,
     Two,
@@ -15,16 +15,13 @@ pub enum Form {
 // The longest sheet, of either form and series.
 pub const SHEET_MOST: usize = 1864;
 
-// The length of the line that the second form starts with.
-pub(crate) const FORM: usize = 7;
-
-// Gives the length of the line that names the form; the first has none.
-pub(crate) fn form_length(form: Form) -> usize
-    ensures { result ≡ length (form_line form) }
+// Gives the line that names the form; the first has none.
+pub(crate) fn form_line(form: Form) -> &'static [u8]
+    ensures { result.now ≡ form_line form }
 {
     match form {
-        Form::One => 0,
-        Form::Two => FORM,
+        Form::One => b"",
+        Form::Two => b"form=2\n",
     }
 }
 
@@ -32,7 +29,7 @@ pub(crate) fn form_length(form: Form) -> usize
 pub fn form_in(sheet: &[u8]) -> Form
     ensures { result ≡ form_in sheet.now }
 {
-    if figures::starts(sheet, b"form=2\n") {
+    if figures::starts(sheet, form_line(Form::Two)) {
         return Form::Two;
     }
     Form::One
@@ -42,7 +39,7 @@ pub fn form_in(sheet: &[u8]) -> Form
 pub fn series_named(form: Form, sheet: &[u8]) -> Series
     ensures { result ≡ series_named form sheet.now }
 {
-    let at = form_length(form);
+    let at = form_line(form).len();
     if sheet.len() < at {
         return Series::Tps100;
     }

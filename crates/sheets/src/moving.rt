@@ -5,8 +5,8 @@ ghost use Rattle.sheets.specs.Loading.{loading_as};
 ghost use Rattle.sheets.specs.Writing.{other_form, Leaves, moved_by, MovesSheet};
 ghost use Rattle.sheets.specs.Keeping.{is_of};
 
-use crate::answers::Sheeted;
-use crate::forms::{FORM, Form, series_named};
+use crate::answers::{SheetRefusal, Sheeted};
+use crate::forms::{Form, form_in, form_line, series_named};
 use crate::loading::load;
 use crate::writing::write;
 use instrument::settings::Series;
@@ -29,11 +29,7 @@ fn other_form(form: Form) -> Form
 fn is_of(form: Form, sheet: &[u8]) -> bool
     ensures { result ≡ is_of form sheet.now }
 {
-    let two = figures::starts(sheet, b"form=2\n");
-    match form {
-        Form::One => !two,
-        Form::Two => two,
-    }
+    form_in(sheet) == form
 }
 
 // Moves a sheet of the form and series to the other form, by way of an image of that series.
@@ -42,20 +38,14 @@ fn move_by(form: Form, series: Series, image: &mut [u8], sheet: &[u8], room: &mu
     ensures { Leaves (moved_by form series room.old (loading_as form series sheet.now)) result room.new }
 {
     put_factory(series, image);
-    let loaded = load(image, sheet);
-    if let Sheeted::Wrong(at) = loaded {
-        return Sheeted::Wrong(at);
-    }
+    load(image, sheet)?;
     if count_in(series, image) == 0 {
         return write(other_form(form), image, room);
     }
     // Where the `undo=` line starts: after as many bytes as the first form has.
     let mut lines = [0; FIRST_MOST];
-    let written = write(Form::One, image, &mut lines);
-    if let Sheeted::Written(n) = written {
-        return Sheeted::Standing(FORM + n);
-    }
-    Sheeted::NoState
+    let n = write(Form::One, image, &mut lines)?;
+    Err(SheetRefusal::Standing(form_line(Form::Two).len() + n))
 }
 
 // Moves a sheet, of either series, from the form to the other: it takes exactly the sheets of that form. Refused, the room is as it was; room beyond what is
@@ -64,10 +54,9 @@ pub fn move_from(form: Form, sheet: &[u8], room: &mut [u8]) -> Sheeted
     ensures { MovesSheet form sheet.now room.old result room.new }
 {
     if !is_of(form, sheet) {
-        return Sheeted::Wrong(0);
+        return Err(SheetRefusal::Wrong(0));
     }
-    let series = series_named(form, sheet);
-    match series {
+    match series_named(form, sheet) {
         Series::Tps100 => {
             let mut image = [0; IMAGE_100];
             move_by(form, Series::Tps100, &mut image, sheet, room)

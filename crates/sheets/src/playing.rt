@@ -2,7 +2,6 @@
 ghost use Rattle.sheets.specs.Playing.{Prints};
 ghost use Rattle.sheets.specs.Keeping.{Runs};
 
-use crate::answers::Sheeted;
 use crate::forms::Form;
 use crate::writing::write;
 use instrument::settings::Series;
@@ -42,9 +41,5 @@ pub fn play(input: &[u8], room: &mut [u8]) -> usize
     let mut image = [0; IMAGE_100];
     put_factory(Series::Tps100, &mut image);
     run(input, &mut image);
-    let answer = write(Form::One, &image, room);
-    if let Sheeted::Written(n) = answer {
-        return n;
-    }
-    0
+    write(Form::One, &image, room).unwrap_or(0)
 }

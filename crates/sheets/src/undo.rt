@@ -1,343 +1,199 @@
 // The undo list of a sheet of the second form: its lines taken, and the whole list held to what a state may hold.
-ghost use Rattle.std.specs.Prelude.{◌≡◌, true, ◌≤◌, ◌<◌, length, replicate};
+ghost use Rattle.std.specs.Prelude.{◌≡◌, true, ◌≤◌, ◌<◌, length, replicate, IfOk};
 ghost use Rattle.figures.specs.Bytes.{starts_with};
 ghost use Rattle.instrument.specs.Values.{values_n, value_place};
 ghost use Rattle.state.specs.Entries.{entries_n, entry_of, blank_entry, contents_right};
 ghost use Rattle.state.specs.Keeping.{puts_of, goes_back};
 ghost use Rattle.state.specs.declared.entries.Item.TheVariants.{Stored};
 ghost use Rattle.instrument.specs.declared.settings.Series.{Series};
-ghost use Rattle.instrument.specs.declared.settings.Found.TheVariants.{At};
-ghost use Rattle.sheets.specs.Lines.{wrong_at};
 ghost use Rattle.sheets.specs.Undo.{item_key, number_said};
 ghost use Rattle.sheets.specs.Loading.{entries_from, list_from};
-ghost use Rattle.sheets.specs.Keeping.{setting_start, no_entry, entry_taken, no_count, count_taken, entries_as, list_as, contents_by};
+ghost use Rattle.sheets.specs.Keeping.{setting_start, entry_taken, count_taken, lines_to, entries_filled, list_count, contents_by};
 
-use crate::loading::{Came, number_line, put_at, put_stands, said_at};
+use crate::answers::SheetRefusal;
+use crate::loading::{Digits, First, Taken, number_line, put_at, put_stands, said_at};
 use crate::writing::digits_in;
-use figures::casts::place_of;
-use instrument::settings::{Found, SETTINGS, Series, in_range, row_at, seek};
-use instrument::values::{Kept, VALUES, Value, is_put, value_place};
+use instrument::settings::{Series, in_range, row_at, setting_at};
+use instrument::values::{Kept, VALUES, is_put, value_place};
 use state::entries::{ENTRIES, Entry, Former, Item, blank_entry};
 
-// A line's length, 0 where it isn't right, and the entry that it holds.
-#[derive(Clone, Copy)]
-pub struct TakenEntry {
-    pub n: usize,
-    pub entry: Entry,
-}
-
-// The same of the count's line.
-#[derive(Clone, Copy)]
-pub struct TakenCount {
-    pub n: usize,
-    pub count: usize,
-}
-
-// What the entries' lines held; blank where one is wrong.
-#[derive(Clone, Copy)]
-pub struct Entries {
-    pub came: Came,
-    pub entries: [Entry; ENTRIES],
-}
-
-// The undo list: its entries, and how many; none where a line is wrong.
-#[derive(Clone, Copy)]
-pub struct Undo {
-    pub came: Came,
-    pub entries: [Entry; ENTRIES],
-    pub count: usize,
-}
-
-fn no_count() -> TakenCount
-    ensures { result ≡ no_count }
-{
-    TakenCount { n: 0, count: 0 }
-}
-
 // Takes the count's line from the start of the bytes.
-fn take_count(s: &[u8]) -> TakenCount
+fn take_count(s: &[u8]) -> Option<Taken<usize>>
     ensures { result ≡ count_taken s.now }
 {
     if !figures::starts(s, b"undo=") {
-        return no_count();
+        return None;
     }
-    let line = number_line(s, 5);
-    let n = line.n;
-    if n == 0 {
-        return no_count();
-    }
-    let count = line.number as usize;
+    let line = number_line(s, 5)?;
+    let count = line.held as usize;
     if ENTRIES < count {
-        return no_count();
+        return None;
     }
-    TakenCount {
-        n: 5 + n,
-        count: count,
-    }
-}
-
-fn no_entry() -> TakenEntry
-    ensures { result ≡ no_entry }
-{
-    let entry = blank_entry();
-    TakenEntry { n: 0, entry: entry }
+    Some(Taken {
+        to: 5 + line.to,
+        held: count,
+    })
 }
 
 // Takes the rest of the line of a setting, after its number and the colon.
-fn take_former(series: Series, number: u16, s: &[u8], at: usize) -> TakenEntry
+fn take_former(series: Series, number: u16, s: &[u8], at: usize) -> Option<Taken<Entry>>
     requires { (number ≡ number_said s.now) × ((starts_with (setting_start number) s.now ≡ true) × (at ≡ length (setting_start number))) }
     ensures { result ≡ entry_taken series s.now }
 {
-    let found = seek(series, number);
-    let place = match found {
-        Found::Nothing => {
-            return no_entry();
-        }
-        Found::At(place) => place,
-    };
+    let place = setting_at(series, number)?;
     let row = row_at(series, place);
     if row.asked {
-        return no_entry();
+        return None;
     }
-    let line = number_line(s, at);
-    let n = line.n;
-    if n == 0 {
-        return no_entry();
+    let line = number_line(s, at)?;
+    if !in_range(row, line.held) {
+        return None;
     }
-    let parameter = line.number;
-    if !in_range(row, parameter) {
-        return no_entry();
-    }
-    let item = Item::Setting(place as u8);
-    let kept = Kept::Never;
     let former = Former {
-        parameter: parameter as u8,
-        kept: kept,
+        parameter: line.held as u8,
+        kept: None,
     };
-    let entry = Entry {
-        item: item,
-        former: former,
-    };
-    TakenEntry {
-        n: at + n,
-        entry: entry,
-    }
+    Some(Taken {
+        to: at + line.to,
+        held: Entry {
+            item: Item::Setting(place as u8),
+            former,
+        },
+    })
 }
 
 fn stored_entry(place: usize, kept: Kept) -> Entry
     requires { place < values_n }
     ensures { result ≡ entry_of (Stored place) 0 kept }
 {
-    let item = Item::Stored(place as u8);
-    let former = Former {
-        parameter: 0,
-        kept: kept,
-    };
     Entry {
-        item: item,
-        former: former,
+        item: Item::Stored(place as u8),
+        former: Former { parameter: 0, kept },
     }
 }
 
 // Takes the rest of the line of a value, after its index of two digits and the colon.
-fn take_stored(series: Series, place: usize, s: &[u8]) -> TakenEntry
-    requires { (value_place (number_said s.now) ≡ At place) × (starts_with (item_key series (Stored place)) s.now ≡ true) }
+fn take_stored(series: Series, place: usize, s: &[u8]) -> Option<Taken<Entry>>
+    requires { (value_place (number_said s.now) ≡ Some place) × (starts_with (item_key series (Stored place)) s.now ≡ true) }
     ensures { result ≡ entry_taken series s.now }
 {
     if s.len() < 7 {
-        return no_entry();
+        return None;
     }
     if s[6] == b'\n' {
-        let never = Kept::Never;
-        let entry = stored_entry(place, never);
-        return TakenEntry { n: 7, entry: entry };
-    }
-    if s.len() < 22 {
-        return no_entry();
+        return Some(Taken {
+            to: 7,
+            held: stored_entry(place, None),
+        });
     }
     let put = &s[2..];
-    if !put_stands(place, put) {
-        return no_entry();
+    if s.len() < 22 || !put_stands(place, put) {
+        return None;
     }
-    let kept = put_at(put);
-    let entry = stored_entry(place, kept);
-    TakenEntry {
-        n: 22,
-        entry: entry,
-    }
+    Some(Taken {
+        to: 22,
+        held: stored_entry(place, put_at(put)),
+    })
 }
 
 // Takes the line of an entry from the start of the bytes: `u=`, the letter and number of its item, a colon, what was there before, LF.
-fn take_entry(series: Series, s: &[u8]) -> TakenEntry
+fn take_entry(series: Series, s: &[u8]) -> Option<Taken<Entry>>
     ensures { result ≡ entry_taken series s.now }
 {
-    if !figures::starts(s, b"u=") {
-        return no_entry();
+    if !figures::starts(s, b"u=") || s.len() < 4 {
+        return None;
     }
-    if s.len() < 4 {
-        return no_entry();
+    let Digits { number, digits } = said_at(s, 3);
+    let colon = 3 + digits;
+    if digits != digits_in(number) || s.len() <= colon || s[colon] != b':' {
+        return None;
     }
     let letter = s[2];
-    let said = said_at(s, 3);
-    let number = said.number;
-    let digits = said.digits;
-    if digits != digits_in(number) {
-        return no_entry();
-    }
-    let colon = 3 + digits;
-    if s.len() <= colon {
-        return no_entry();
-    }
-    if s[colon] != b':' {
-        return no_entry();
-    }
     if letter == b's' {
         return take_former(series, number as u16, s, colon + 1);
     }
     if letter != b'v' {
-        return no_entry();
+        return None;
     }
-    let found = value_place(number as u16);
-    match found {
-        Found::Nothing => no_entry(),
-        Found::At(place) => take_stored(series, place, s),
-    }
+    take_stored(series, value_place(number as u16)?, s)
 }
 
-fn no_entries() -> [Entry; ENTRIES]
-    ensures { result ≡ replicate entries_n blank_entry }
+// Reads so many lines of entries, from a place on, into entries that are blank, and answers the place past them.
+fn entries_in(
+    series: Series,
+    sheet: &[u8],
+    start: usize,
+    count: usize,
+    entries: &mut [Entry; ENTRIES],
+) -> Result<usize, SheetRefusal>
+    requires within { start ≤ length sheet.now }
+    requires few { count ≤ entries_n }
+    requires blank { entries.old ≡ replicate entries_n blank_entry }
+    ensures to { result ≡ lines_to (entries_from series count sheet.now start).came }
+    ensures held { IfOk result (λ to. entries.new ≡ entries_filled (entries_from series count sheet.now start).got) }
 {
-    let entry = blank_entry();
-    [entry; ENTRIES]
-}
-
-fn wrong_entries(at: usize) -> Entries
-    ensures { result ≡ entries_as (wrong_at at) }
-{
-    let came = Came::Wrong(at);
-    let entries = no_entries();
-    Entries {
-        came: came,
-        entries: entries,
+    let mut to = start;
+    for i in 0..count {
+        let line = take_entry(series, &sheet[to..]).ok_or(SheetRefusal::Wrong(to))?;
+        entries[i] = line.held;
+        to += line.to;
     }
-}
-
-// Reads so many lines of entries, from a place on.
-fn entries_in(series: Series, sheet: &[u8], start: usize, count: usize) -> Entries
-    requires { (start ≤ length sheet.now) × (count ≤ entries_n) }
-    ensures { result ≡ entries_as (entries_from series count sheet.now start) }
-{
-    let mut entries = no_entries();
-    let mut at = start;
-    let mut i = 0;
-    while i < count {
-        let line = take_entry(series, &sheet[at..]);
-        let n = line.n;
-        if n == 0 {
-            return wrong_entries(at);
-        }
-        let entry = line.entry;
-        entries[i] = entry;
-        at += n;
-        i += 1;
-    }
-    let came = Came::To(at);
-    Entries {
-        came: came,
-        entries: entries,
-    }
+    Ok(to)
 }
 
 // Tells which values are put.
-fn puts_of(values: [Value; VALUES]) -> [bool; VALUES]
+fn puts_of(values: [Kept; VALUES]) -> [bool; VALUES]
     ensures { result ≡ puts_of values }
 {
     let mut puts = [false; VALUES];
-    let mut i = 0;
-    while i < VALUES {
-        let value = values[i];
-        let kept = value.kept;
-        puts[i] = is_put(kept);
-        i += 1;
+    for i in 0..VALUES {
+        puts[i] = is_put(values[i]);
     }
     puts
 }
 
 // Tells whether none of the entries, taken back newest first, names a value then never put.
-fn goes_back(values: [Value; VALUES], entries: [Entry; ENTRIES], count: usize) -> bool
+fn goes_back(values: [Kept; VALUES], entries: &[Entry; ENTRIES], count: usize) -> bool
     requires { count ≤ entries_n }
-    ensures { result ≡ goes_back count (puts_of values) entries }
+    ensures { result ≡ goes_back count (puts_of values) entries.now }
 {
     let mut puts = puts_of(values);
-    let mut n = count;
-    while 0 < n {
-        n -= 1;
-        let entry = entries[n];
-        let item = entry.item;
+    for n in (0..count).rev() {
+        let Entry { item, former } = entries[n];
         if let Item::Stored(i) = item {
-            let place = place_of(i);
-            if VALUES <= place {
+            let place = usize::from(i);
+            if VALUES <= place || !puts[place] {
                 return false;
             }
-            if !puts[place] {
-                return false;
-            }
-            let former = entry.former;
-            let kept = former.kept;
-            puts[place] = is_put(kept);
+            puts[place] = is_put(former.kept);
         }
     }
     true
 }
 
-fn wrong_undo(at: usize) -> Undo
-    ensures { result ≡ list_as (wrong_at at) }
-{
-    let came = Came::Wrong(at);
-    let entries = no_entries();
-    Undo {
-        came: came,
-        entries: entries,
-        count: 0,
-    }
-}
-
-// Reads the undo list, from its `undo=` line to the sheet's end, over the values that it is taken back from.
+// Reads the undo list, from its `undo=` line to the sheet's end, into entries that are blank, and answers how many they are. It is read over what the first
+// form's lines hold, from which it is taken back. The entries are lent, so that there is one array of them.
 pub(crate) fn list_in(
     series: Series,
-    settings: [u8; SETTINGS],
-    values: [Value; VALUES],
+    first: &First,
     sheet: &[u8],
-    start: usize,
-) -> Undo
-    requires { (contents_right (contents_by series settings values) ≡ true) × (start ≤ length sheet.now) }
-    ensures { result ≡ list_as (list_from (contents_by series settings values) sheet.now start) }
+    entries: &mut [Entry; ENTRIES],
+) -> Result<usize, SheetRefusal>
+    requires right { contents_right (contents_by series first.now.settings first.now.values) ≡ true }
+    requires within { first.now.to ≤ length sheet.now }
+    requires blank { entries.old ≡ replicate entries_n blank_entry }
+    ensures count { result ≡ list_count (list_from (contents_by series first.now.settings first.now.values) sheet.now first.now.to) }
+    ensures held { IfOk result (λ n. entries.new ≡ entries_filled (list_from (contents_by series first.now.settings first.now.values) sheet.now first.now.to).got) }
 {
-    let line = take_count(&sheet[start..]);
-    let n = line.n;
-    if n == 0 {
-        return wrong_undo(start);
+    let start = first.to;
+    let line = take_count(&sheet[start..]).ok_or(SheetRefusal::Wrong(start))?;
+    let count = line.held;
+    let to = entries_in(series, sheet, start + line.to, count, entries)?;
+    if to != sheet.len() {
+        return Err(SheetRefusal::Wrong(to));
     }
-    let count = line.count;
-    let lines = entries_in(series, sheet, start + n, count);
-    let came = lines.came;
-    let end = match came {
-        Came::Wrong(at) => {
-            return wrong_undo(at);
-        }
-        Came::To(at) => at,
-    };
-    if end != sheet.len() {
-        return wrong_undo(end);
+    if !goes_back(first.values, entries, count) {
+        return Err(SheetRefusal::Wrong(start));
     }
-    let entries = lines.entries;
-    if !goes_back(values, entries, count) {
-        return wrong_undo(start);
-    }
-    let to = Came::To(end);
-    Undo {
-        came: to,
-        entries: entries,
-        count: count,
-    }
+    Ok(count)
 }

@@ -1,21 +1,21 @@
 // The sheet written from an image, in either form: its length first, then line by line into the room, each put where the one before it ended.
 ghost use Rattle.std.specs.Prelude.{◌≡◌, true, ◌++◌, ◌+◌, ◌-◌, ◌%◌, ◌≤◌, ◌<◌, length, take};
 ghost use Rattle.figures.specs.Decimal.{digits_n, decimal_of};
-ghost use Rattle.figures.specs.Rooms.{Puts};
+ghost use Rattle.figures.specs.Rooms.{Fills};
 ghost use Rattle.figures.specs.Text.{codes};
 ghost use Rattle.instrument.specs.Settings.{settings_n};
 ghost use Rattle.instrument.specs.Values.{values_n};
 ghost use Rattle.state.specs.Image.{state_in};
 ghost use Rattle.state.specs.Keeping.{Imaged};
 ghost use Rattle.state.specs.Entries.{entry_right};
-ghost use Rattle.sheets.specs.Sheet.{series_line, setting_lines, kept_line};
-ghost use Rattle.sheets.specs.Undo.{form_line, entry_line, undo_text};
+ghost use Rattle.sheets.specs.Sheet.{series_line, setting_lines};
+ghost use Rattle.sheets.specs.Undo.{entry_line, undo_text};
 ghost use Rattle.sheets.specs.Writing.{WritesSheet};
-ghost use Rattle.sheets.specs.Keeping.{key_length, keys_n, settings_text, values_text, kept_text};
+ghost use Rattle.sheets.specs.Keeping.{Fits, key_length, keys_n, settings_text, values_text, kept_text};
 
-use crate::answers::Sheeted;
-use crate::forms::{Form, form_length};
-use figures::casts::{place_of, wide};
+use crate::answers::{SheetRefusal, Sheeted};
+use crate::forms::{Form, form_line};
+use figures::rooms::Room;
 use instrument::keys::{KEY, key_at};
 use instrument::settings::{Series, settings_of};
 use instrument::values::{Kept, VALUES, get_word, is_put, stored_at};
@@ -78,12 +78,9 @@ fn settings_length(series: Series, image: &[u8]) -> usize
     requires { Imaged series image.now }
     ensures { result ≡ length (settings_text (state_in image.now)) }
 {
-    let count = settings_of(series);
     let mut n = keys_length(series);
-    let mut i = 0;
-    while i < count {
-        n += digits_in(wide(parameter_in(i, image)));
-        i += 1;
+    for i in 0..settings_of(series) {
+        n += digits_in(u64::from(parameter_in(i, image)));
     }
     n
 }
@@ -94,14 +91,12 @@ fn values_length(series: Series, image: &[u8]) -> usize
     ensures { result ≡ length (values_text (state_in image.now)) }
 {
     let mut n = 0;
-    let mut i = 0;
-    while i < VALUES {
+    for i in 0..VALUES {
         n += if is_put(value_in(series, i, image)) {
             20
         } else {
             5
         };
-        i += 1;
     }
     n
 }
@@ -109,53 +104,45 @@ fn values_length(series: Series, image: &[u8]) -> usize
 // Gives the length of an entry's line: `u=`, the item's name, a colon, what was there before, LF.
 fn entry_length(series: Series, entry: Entry) -> usize
     requires { entry_right series entry ≡ true }
-    ensures { (result ≡ length (entry_line series entry)) × (result ≤ 22) }
+    ensures long { result ≡ length (entry_line series entry) }
+    ensures few { result ≤ 22 }
 {
-    let item = entry.item;
-    let former = entry.former;
-    match item {
+    match entry.item {
         Item::Free => 4,
         Item::Setting(i) => {
-            let key = key_at(series, place_of(i));
-            key_length(key) + 3 + digits_in(wide(former.parameter))
+            let key = key_at(series, usize::from(i));
+            key_length(key) + 3 + digits_in(u64::from(entry.former.parameter))
         }
-        Item::Stored(_) => {
-            let kept = former.kept;
-            if is_put(kept) {
-                return 22;
-            }
-            7
-        }
+        Item::Stored(_) if is_put(entry.former.kept) => 22,
+        Item::Stored(_) => 7,
     }
 }
 
 // Gives the length of what follows the values' lines: nothing in the first form, the undo list in the second.
 fn undo_length(form: Form, series: Series, image: &[u8]) -> usize
     requires { Imaged series image.now }
-    ensures { (result ≡ length (undo_text form (state_in image.now))) × (result ≤ 2000) }
+    ensures long { result ≡ length (undo_text form (state_in image.now)) }
+    ensures few { result ≤ 2000 }
 {
     if let Form::One = form {
         return 0;
     }
     let count = count_in(series, image);
     let mut n = 6 + digits_in(count as u64);
-    let mut i = 0;
-    while i < count {
-        let entry = entry_at(series, i, image);
-        n += entry_length(series, entry);
-        i += 1;
+    for i in 0..count {
+        n += entry_length(series, entry_at(series, i, image));
     }
     n
 }
 
-// Puts a text that fits, and answers where the next begins.
-pub(crate) fn lay_text(room: &mut [u8], at: usize, text: &[u8]) -> usize
-    requires { at + length text.now ≤ length room.old }
-    ensures { Puts room.old at text.now result room.new }
+// Puts a text that fits. It is laid into just as many bytes, so that the compiler knows how many it copies.
+fn lay_text(room: &mut Room, text: &[u8])
+    requires { Fits room.old text.now }
+    ensures { Fills room.old text.now room.new }
 {
-    let end = at + text.len();
-    figures::lay(text, &mut room[at..end]);
-    end
+    let end = room.at + text.len();
+    figures::lay(text, &mut room.bytes[room.at..end]);
+    room.at = end;
 }
 
 fn figure(n: u16) -> u8
@@ -165,168 +152,133 @@ fn figure(n: u16) -> u8
 }
 
 // Puts a setting's key, of four or five bytes.
-fn put_key(key: [u8; KEY], room: &mut [u8], at: usize) -> usize
-    requires { (4 ≤ key_length key) × (at + key_length key ≤ length room.old) }
-    ensures { Puts room.old at (take (key_length key) key) result room.new }
+fn put_key(key: [u8; KEY], room: &mut Room)
+    requires long { 4 ≤ key_length key }
+    requires fits { Fits room.old (take (key_length key) key) }
+    ensures { Fills room.old (take (key_length key) key) room.new }
 {
     if key[4] != 0 {
-        return lay_text(room, at, &key[0..5]);
+        lay_text(room, &key[..5]);
+    } else {
+        lay_text(room, &key[..4]);
     }
-    lay_text(room, at, &key[0..4])
 }
 
-// Puts a parameter in its fewest digits and LF, and answers where the next line begins.
-fn put_parameter(parameter: u16, room: &mut [u8], at: usize) -> usize
-    requires { (parameter < 1000) × (at + length (decimal_of parameter ++ codes "\n") ≤ length room.old) }
-    ensures { Puts room.old at (decimal_of parameter ++ codes "\n") result room.new }
+// Puts a parameter in its fewest digits and LF.
+fn put_parameter(parameter: u16, room: &mut Room)
+    requires small { parameter < 1000 }
+    requires fits { Fits room.old (decimal_of parameter ++ codes "\n") }
+    ensures { Fills room.old (decimal_of parameter ++ codes "\n") room.new }
 {
     let ones = figure(parameter);
-    if parameter < 10 {
-        let text = [ones, b'\n'];
-        return lay_text(room, at, &text);
-    }
     let tens = figure(parameter / 10);
-    if parameter < 100 {
-        let text = [tens, ones, b'\n'];
-        return lay_text(room, at, &text);
+    if parameter < 10 {
+        lay_text(room, &[ones, b'\n']);
+    } else if parameter < 100 {
+        lay_text(room, &[tens, ones, b'\n']);
+    } else {
+        lay_text(room, &[figure(parameter / 100), tens, ones, b'\n']);
     }
-    let text = [figure(parameter / 100), tens, ones, b'\n'];
-    lay_text(room, at, &text)
 }
 
-fn small(b: u8) -> u16
-    ensures { (result ≡ b) × (result < 256) }
+// Puts the line of the setting at a place.
+fn put_setting(series: Series, place: usize, parameter: u8, room: &mut Room)
+    requires place { place < settings_n series }
+    requires fits { Fits room.old ((setting_lines series).write place parameter) }
+    ensures { Fills room.old ((setting_lines series).write place parameter) room.new }
 {
-    b as u16
+    put_key(key_at(series, place), room);
+    put_parameter(u16::from(parameter), room);
 }
 
-// Puts the line of the setting at a place, and answers where the next begins.
-fn put_setting(series: Series, place: usize, parameter: u8, room: &mut [u8], at: usize) -> usize
-    requires { (place < settings_n series) × (at + length ((setting_lines series).write place parameter) ≤ length room.old) }
-    ensures { Puts room.old at ((setting_lines series).write place parameter) result room.new }
+// Puts a value's name, the separator, the characters if it was put, and LF.
+fn put_kept(place: usize, separator: u8, kept: Kept, room: &mut Room)
+    requires place { place < values_n }
+    requires fits { Fits room.old (kept_text place separator kept) }
+    ensures { Fills room.old (kept_text place separator kept) room.new }
 {
-    let next = put_key(key_at(series, place), room, at);
-    put_parameter(small(parameter), room, next)
-}
-
-// Puts a value's name, the separator, the characters if it was put, and LF; answers where the next line begins.
-fn put_kept(place: usize, separator: u8, kept: Kept, room: &mut [u8], at: usize) -> usize
-    requires { (place < values_n) × (at + length (kept_text place separator kept) ≤ length room.old) }
-    ensures { Puts room.old at (kept_text place separator kept) result room.new }
-{
-    let row = stored_at(place);
-    let k = row.key;
-    if let Kept::Put(_, _, _) = kept {
+    let k = stored_at(place).key;
+    if is_put(kept) {
         let w = get_word(place, kept);
         let line = [
             k[0], k[1], k[2], separator, w[0], w[1], w[2], w[3], w[4], w[5], w[6], w[7], w[8],
             w[9], w[10], w[11], w[12], w[13], w[14], b'\n',
         ];
-        return lay_text(room, at, &line);
+        lay_text(room, &line);
+    } else {
+        lay_text(room, &[k[0], k[1], k[2], separator, b'\n']);
     }
-    let line = [k[0], k[1], k[2], separator, b'\n'];
-    lay_text(room, at, &line)
-}
-
-// Puts the line of the value at a place, and answers where the next begins.
-fn put_value(place: usize, kept: Kept, room: &mut [u8], at: usize) -> usize
-    requires { (place < values_n) × (at + length (kept_line place kept) ≤ length room.old) }
-    ensures { Puts room.old at (kept_line place kept) result room.new }
-{
-    put_kept(place, b'=', kept, room, at)
 }
 
 // Puts a setting's name, of three or four bytes, after `u=`, and a colon.
-fn put_name(key: [u8; KEY], room: &mut [u8], at: usize) -> usize
-    requires { (4 ≤ key_length key) × (at + 2 + key_length key ≤ length room.old) }
-    ensures { Puts room.old at (codes "u=" ++ (take (key_length key - 1) key ++ codes ":")) result room.new }
+fn put_name(key: [u8; KEY], room: &mut Room)
+    requires long { 4 ≤ key_length key }
+    requires fits { Fits room.old (codes "u=" ++ (take (key_length key - 1) key ++ codes ":")) }
+    ensures { Fills room.old (codes "u=" ++ (take (key_length key - 1) key ++ codes ":")) room.new }
 {
     if key[4] != 0 {
-        let text = [b'u', b'=', key[0], key[1], key[2], key[3], b':'];
-        return lay_text(room, at, &text);
+        lay_text(room, &[b'u', b'=', key[0], key[1], key[2], key[3], b':']);
+    } else {
+        lay_text(room, &[b'u', b'=', key[0], key[1], key[2], b':']);
     }
-    let text = [b'u', b'=', key[0], key[1], key[2], b':'];
-    lay_text(room, at, &text)
 }
 
-// Puts an entry's line, and answers where the next begins.
-fn put_entry(series: Series, entry: Entry, room: &mut [u8], at: usize) -> usize
-    requires { (entry_right series entry ≡ true) × (at + length (entry_line series entry) ≤ length room.old) }
-    ensures { Puts room.old at (entry_line series entry) result room.new }
+// Puts an entry's line.
+fn put_entry(series: Series, entry: Entry, room: &mut Room)
+    requires right { entry_right series entry ≡ true }
+    requires fits { Fits room.old (entry_line series entry) }
+    ensures { Fills room.old (entry_line series entry) room.new }
 {
-    let item = entry.item;
-    let former = entry.former;
+    let Entry { item, former } = entry;
     match item {
-        Item::Free => lay_text(room, at, b"u=:\n"),
+        Item::Free => lay_text(room, b"u=:\n"),
         Item::Setting(i) => {
-            let next = put_name(key_at(series, place_of(i)), room, at);
-            put_parameter(small(former.parameter), room, next)
+            put_name(key_at(series, usize::from(i)), room);
+            put_parameter(u16::from(former.parameter), room);
         }
         Item::Stored(i) => {
-            let kept = former.kept;
-            let next = lay_text(room, at, b"u=");
-            put_kept(place_of(i), b':', kept, room, next)
+            lay_text(room, b"u=");
+            put_kept(usize::from(i), b':', former.kept, room);
         }
     }
 }
 
-// Puts the settings' lines, and answers where the next begins.
-fn put_settings(series: Series, image: &[u8], room: &mut [u8], start: usize) -> usize
-    requires { Imaged series image.now × (start + length (settings_text (state_in image.now)) ≤ length room.old) }
-    ensures { Puts room.old start (settings_text (state_in image.now)) result room.new }
+// Puts the settings' lines.
+fn put_settings(series: Series, image: &[u8], room: &mut Room)
+    requires image { Imaged series image.now }
+    requires fits { Fits room.old (settings_text (state_in image.now)) }
+    ensures { Fills room.old (settings_text (state_in image.now)) room.new }
 {
-    let count = settings_of(series);
-    let mut at = start;
-    let mut i = 0;
-    while i < count {
-        at = put_setting(series, i, parameter_in(i, image), room, at);
-        i += 1;
+    for i in 0..settings_of(series) {
+        put_setting(series, i, parameter_in(i, image), room);
     }
-    at
 }
 
-// Puts the values' lines, and answers where they end.
-fn put_values(series: Series, image: &[u8], room: &mut [u8], start: usize) -> usize
-    requires { Imaged series image.now × (start + length (values_text (state_in image.now)) ≤ length room.old) }
-    ensures { Puts room.old start (values_text (state_in image.now)) result room.new }
+// Puts the values' lines: each has its name and what was put, with `=` between.
+fn put_values(series: Series, image: &[u8], room: &mut Room)
+    requires image { Imaged series image.now }
+    requires fits { Fits room.old (values_text (state_in image.now)) }
+    ensures { Fills room.old (values_text (state_in image.now)) room.new }
 {
-    let mut at = start;
-    let mut i = 0;
-    while i < VALUES {
-        at = put_value(i, value_in(series, i, image), room, at);
-        i += 1;
+    for i in 0..VALUES {
+        put_kept(i, b'=', value_in(series, i, image), room);
     }
-    at
 }
 
-// Puts what follows the values' lines, in a form, and answers where it ends.
-fn put_undo(form: Form, series: Series, image: &[u8], room: &mut [u8], start: usize) -> usize
-    requires { Imaged series image.now × (start + length (undo_text form (state_in image.now)) ≤ length room.old) }
-    ensures { Puts room.old start (undo_text form (state_in image.now)) result room.new }
+// Puts what follows the values' lines, in a form.
+fn put_undo(form: Form, series: Series, image: &[u8], room: &mut Room)
+    requires image { Imaged series image.now }
+    requires fits { Fits room.old (undo_text form (state_in image.now)) }
+    ensures { Fills room.old (undo_text form (state_in image.now)) room.new }
 {
     if let Form::One = form {
-        return start;
+        return;
     }
     let count = count_in(series, image);
-    let number_at = lay_text(room, start, b"undo=");
-    let mut at = put_parameter(count as u16, room, number_at);
-    let mut i = 0;
-    while i < count {
-        let entry = entry_at(series, i, image);
-        at = put_entry(series, entry, room, at);
-        i += 1;
-    }
-    at
-}
-
-// Puts the line that names the form; the first has none.
-fn put_form(form: Form, room: &mut [u8]) -> usize
-    requires { length (form_line form) ≤ length room.old }
-    ensures { Puts room.old 0 (form_line form) result room.new }
-{
-    match form {
-        Form::One => 0,
-        Form::Two => lay_text(room, 0, b"form=2\n"),
+    lay_text(room, b"undo=");
+    put_parameter(count as u16, room);
+    for i in 0..count {
+        put_entry(series, entry_at(series, i, image), room);
     }
 }
 
@@ -335,31 +287,27 @@ fn write_as(form: Form, series: Series, image: &[u8], room: &mut [u8]) -> Sheete
     requires { Imaged series image.now }
     ensures { WritesSheet form image.now room.old result room.new }
 {
+    let named = form_line(form);
     let lines = HEAD + settings_length(series, image) + values_length(series, image);
-    let n = form_length(form) + lines + undo_length(form, series, image);
+    let n = named.len() + lines + undo_length(form, series, image);
     if room.len() < n {
-        return Sheeted::Room;
+        return Err(SheetRefusal::Room);
     }
-    let head_at = put_form(form, room);
-    let head = series_line(series);
-    let settings_at = lay_text(room, head_at, &head);
-    let values_at = put_settings(series, image, room, settings_at);
-    let undo_at = put_values(series, image, room, values_at);
-    put_undo(form, series, image, room, undo_at);
-    Sheeted::Written(n)
+    let mut sheet = Room::new(room);
+    lay_text(&mut sheet, named);
+    lay_text(&mut sheet, &series_line(series));
+    put_settings(series, image, &mut sheet);
+    put_values(series, image, &mut sheet);
+    put_undo(form, series, image, &mut sheet);
+    Ok(n)
 }
 
-// Writes the sheet of a lent image in a form into the room. 31 and 30 leave the room as it was; room beyond the sheet is untouched. The series is named so that
-// the compiler knows the table.
+// Writes the sheet of a lent image in a form into the room. 31 and 30 leave the room as it was; room beyond the sheet is untouched.
 pub fn write(form: Form, image: &[u8], room: &mut [u8]) -> Sheeted
     ensures { WritesSheet form image.now room.old result room.new }
 {
     if !is_image(image) {
-        return Sheeted::NoState;
+        return Err(SheetRefusal::NoState);
     }
-    let series = series_in(image);
-    match series {
-        Series::Tps100 => write_as(form, Series::Tps100, image, room),
-        Series::Tps300 => write_as(form, Series::Tps300, image, room),
-    }
+    write_as(form, series_in(image), image, room)
 }

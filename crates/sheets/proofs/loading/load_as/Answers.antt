@@ -1,33 +1,34 @@
--- `load_as` meets its contract: a wrong line leaves the image, and in the second form the list is laid down. Its returns in the first form are by `Loads`.
-use mathlib.Core.Path.{sym, ap, ◌∙◌}
-use Rattle.sheets.specs.declared.loading.Came.TheVariants.{Wrong}
-use Rattle.sheets.specs.declared.loading.First.{First}
-use Rattle.sheets.specs.declared.undo.Undo.{Undo}
-use Rattle.sheets.proofs.Loads.{undo_came, kept_right, undo_kept, loads_wrong, loads_two}
+-- `load_as` meets its contract: a wrong line leaves the image, and in the second form the list is laid down.
+use Rattle.std.proofs.Common.{arith, rules}
+use Rattle.sheets.proofs.Loads.{loads_astray, first_right, loads_one, loads_surplus, loads_unlisted, count_few, loads_two}
 use Rattle.sheets.proofs.loading.load_as.Goals as goal
 
-pub list_in-undo-requires : goal.list_in-undo-requires
-list_in-undo-requires c =
-    let to = sym (ap (λ (p : First). p.came) c.first_in-first.ensures) ∙ c.in-To.is in
-    kept_right c.form_in-form.result c.args.series c.args.sheet.now _ to c.first_in-first.result c.first_in-first.ensures
+pub returns-in_err-first : goal.returns-in_err-first
+returns-in_err-first c =
+    let wrong = loads_astray c.requires c.args.sheet.now c.form_in-form.ensures _ c.first_in.ensures c.in_err-first.was in
+    search (rules, wrong)
 
-pub returns-in-Wrong-ended : goal.returns-in-Wrong-ended
-returns-in-Wrong-ended c =
-    let f = c.form_in-form.result in
-    let k = c.args.series in
-    let sheet = c.args.sheet.now in
-    let to = sym (ap (λ (p : First). p.came) c.first_in-first.ensures) ∙ c.in-To.is in
-    let read = undo_kept f k sheet _ to c.first_in-first.result c.first_in-first.ensures c.in-Two.is c.list_in-undo.result c.list_in-undo.ensures in
-    loads_wrong c.requires sheet c.form_in-form.ensures _
-    (undo_came f k sheet _ to (Wrong _) (sym (ap (λ (u : Undo). u.came) read) ∙ c.in-Wrong-ended.is))
+pub returns-then-sheet-first : goal.returns-then-sheet-first
+returns-then-sheet-first c = loads_surplus c.requires c.args.sheet.now c.form_in-form.ensures _ c.first_in.ensures _ c.in_ok-first.was c.in-One.is (λ e. omega (arith, e, c.if-sheet-first.true))
 
-pub returns-in_default : goal.returns-in_default
-returns-in_default c =
-    let f = c.form_in-form.result in
-    let k = c.args.series in
-    let sheet = c.args.sheet.now in
-    let to = sym (ap (λ (p : First). p.came) c.first_in-first.ensures) ∙ c.in-To.is in
-    let read = undo_kept f k sheet _ to c.first_in-first.result c.first_in-first.ensures c.in-Two.is c.list_in-undo.result c.list_in-undo.ensures in
-    loads_two c.requires sheet c.form_in-form.ensures _ to c.first_in-first.result c.first_in-first.ensures
-    c.put_contents-in-Two.new.image c.clear-in-Two.new.image c.put_contents-in-Two.ensures c.clear-in-Two.ensures
-    _ (sym (ap (λ (u : Undo). u.came) read) ∙ c.in_default.is) c.list_in-undo.result read c.put_undo.new.image c.put_undo.ensures
+pub list_in-requires-clause-right : goal.list_in-requires-clause-right
+list_in-requires-clause-right c = (first_right c.requires c.args.sheet.now c.form_in-form.ensures _ c.first_in.ensures _ c.in_ok-first.was).0
+
+pub list_in-requires-clause-within : goal.list_in-requires-clause-within
+list_in-requires-clause-within c = (first_right c.requires c.args.sheet.now c.form_in-form.ensures _ c.first_in.ensures _ c.in_ok-first.was).1
+
+pub returns-in_err-count-in-Two : goal.returns-in_err-count-in-Two
+returns-in_err-count-in-Two c =
+    let wrong = loads_unlisted c.requires c.args.sheet.now c.form_in-form.ensures _ c.first_in.ensures _ c.in_ok-first.was c.in-Two.is _ c.list_in.ensures.count c.in_err-count-in-Two.was in
+    search (rules, wrong)
+
+pub put_undo-requires : goal.put_undo-requires
+put_undo-requires c = count_few c.requires c.args.sheet.now c.form_in-form.ensures _ c.first_in.ensures _ c.in_ok-first.was c.in-Two.is _ c.list_in.ensures.count _ c.in_ok-count-in-Two.was
+
+pub returns-else-sheet-first : goal.returns-else-sheet-first
+returns-else-sheet-first c = loads_one c.requires c.args.sheet.now c.form_in-form.ensures _ c.first_in.ensures _ c.in_ok-first.was _ _ c.put_contents.ensures c.clear.ensures c.in-One.is (omega (arith, c.if-sheet-first.false))
+
+pub returns-in_ok-count-in-Two : goal.returns-in_ok-count-in-Two
+returns-in_ok-count-in-Two c =
+    loads_two c.requires c.args.sheet.now c.form_in-form.ensures _ c.first_in.ensures _ c.in_ok-first.was c.in-Two.is _ c.list_in.ensures.count _ c.in_ok-count-in-Two.was _ c.in_ok-count-in-Two.ensures.held _ _ _
+    c.put_contents-in-Two.ensures c.clear-in-Two.ensures c.put_undo.ensures

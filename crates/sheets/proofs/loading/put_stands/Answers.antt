@@ -1,16 +1,13 @@
--- `put_stands` meets its contract: at each return a test says that the bytes don't stand, and at the last they all stand and their parts are judged.
-use Prim.Native.Nat.{ℕ}
-use mathlib.Core.Path.{◌≡◌, sym, ap, ◌∙◌}
-use mathlib.Core.Bool.{cond}
-use borrow.Author.Tests.{eq-eqb, ne_eqb}
-use lib.ListN.{get_or}
-use Rattle.figures.proofs.Tests.{and_on}
+-- `put_stands` meets its contract: the bytes that stand in every line are compared, and where they all stand the parts are judged.
+use Rattle.std.proofs.Common.{◌≡◌, ℕ, List, [], ◌∷◌, get_or, sym, ap, ◌∙◌, cond, not, eqb}
+use borrow.Author.Tests.{eq-eqb, ne_eqb, not-true, not-false}
+use lib.Pointwise.{pointwise}
 use Rattle.units.specs.Information.{sign_byte, sign_of}
 use Rattle.instrument.specs.Values.{stored_at, is_text, kept_right}
 use Rattle.instrument.specs.declared.values.Stored.{Stored}
-use Rattle.sheets.proofs.Takes.{signed_at, put_not, put_is, sign_plus, sign_minus, sign_none}
+use Rattle.sheets.proofs.Takes.{signed_at, all, put_tests, put_off, put_is}
 use Rattle.sheets.proofs.loading.put_stands.Goals as goal
-use Rattle.sheets.proofs.loading.put_stands.Goals.{then-row-eq46, else-row-eq46, then-s-ne43+else-s-ne45, else-s-ne43}
+use Rattle.sheets.proofs.loading.put_stands.Goals.{then-row-eq46, else-row-eq46}
 
 -- a byte of the row's key
 key_byte : (i : ℕ) (row : Stored) → row ≡ stored_at i → (n : ℕ) → get_or (stored_at i).key n 0 ≡ get_or row.key n 0
@@ -23,25 +20,25 @@ mark_text i row m is e q = q ∙ rw (eq-eqb (stored_at i).first 46 (sym (ap (λ 
 mark_number : (i : ℕ) (row : Stored) (m : ℕ) → row ≡ stored_at i → (row.first ≡ 46 → ⊥) → m ≡ 49 → m ≡ cond (is_text i) 46 49
 mark_number i row m is e q = q ∙ rw (ne_eqb (stored_at i).first 46 (λ p. e (ap (λ (r : Stored). r.first) is ∙ p)))
 
-pub returns-then-s-key : goal.returns-then-s-key
-returns-then-s-key c =
-    put_not c.args.place c.requires.0 c.args.s.now c.requires.1 0
-    (ne_eqb _ _ (λ e. c.if-s-key.true (e ∙ key_byte c.args.place c.stored_at-row.result c.stored_at-row.ensures 1)))
+-- a sign stands where it is that of what it says
+sign_is : (b : ℕ) {m n : ℕ} → m ≡ sign_of b → n ≡ sign_byte m → n ≡ sign_byte (sign_of b)
+sign_is b e q = q ∙ ap sign_byte e
 
-pub returns-then-s-key-2 : goal.returns-then-s-key-2
-returns-then-s-key-2 c =
-    put_not c.args.place c.requires.0 c.args.s.now c.requires.1 1
-    (ne_eqb _ _ (λ e. c.if-s-key-2.true (e ∙ key_byte c.args.place c.stored_at-row.result c.stored_at-row.ensures 2)))
+-- the bytes that are compared
+abbrev there : List ℕ → List ℕ
+there s = get_or s 4 0 ∷ get_or s 5 0 ∷ get_or s 6 0 ∷ get_or s 7 0 ∷ get_or s 8 0 ∷ get_or s 10 0 ∷ get_or s 19 0 ∷ []
 
-pub returns-then-s-ne46 : goal.returns-then-s-ne46
-returns-then-s-ne46 c = put_not c.args.place c.requires.0 c.args.s.now c.requires.1 2 (ne_eqb _ _ c.if-s-ne46.true)
+abbrev wanted : ℕ → ℕ → ℕ → ℕ → List ℕ
+wanted one two mark sign = one ∷ two ∷ 46 ∷ 46 ∷ mark ∷ sign ∷ 10 ∷ []
 
-pub returns-then-s-ne46-2 : goal.returns-then-s-ne46-2
-returns-then-s-ne46-2 c = put_not c.args.place c.requires.0 c.args.s.now c.requires.1 3 (ne_eqb _ _ c.if-s-ne46-2.true)
+tested : (i : ℕ) (s : List ℕ) {one two mark sign : ℕ} → one ≡ get_or (stored_at i).key 1 0 → two ≡ get_or (stored_at i).key 2 0
+    → mark ≡ cond (is_text i) 46 49 → sign ≡ sign_byte (sign_of (get_or s 10 0)) → pointwise eqb (there s) (wanted one two mark sign) ≡ all (put_tests i s)
+tested i s one two mark sign = rw (one, two, mark, sign)
 
-pub returns-then-s-mark : goal.returns-then-s-mark
-returns-then-s-mark c =
+pub returns-then-ne : goal.returns-then-ne
+returns-then-ne c =
     let i = c.args.place in
+    let s = c.args.s.now in
     let row = c.stored_at-row.result in
     let is = c.stored_at-row.ensures in
     let mark : c.if-row-eq46.mark ≡ cond (is_text i) 46 49 =
@@ -49,14 +46,9 @@ returns-then-s-mark c =
       | then-row-eq46 w ↦ mark_text i row _ is w.if-row-eq46.true w.mark-is
       | else-row-eq46 w ↦ mark_number i row _ is w.if-row-eq46.false w.mark-is
     ] in
-    put_not i c.requires.0 c.args.s.now c.requires.1 4 (ne_eqb _ _ (λ e. c.if-s-mark.true (e ∙ sym mark)))
-
-pub returns-then-s-ne10 : goal.returns-then-s-ne10
-returns-then-s-ne10 c = put_not c.args.place c.requires.0 c.args.s.now c.requires.1 6 (ne_eqb _ _ c.if-s-ne10.true)
-
-pub returns-then-s-ne45 : goal.returns-then-s-ne45
-returns-then-s-ne45 c =
-    put_not c.args.place c.requires.0 c.args.s.now c.requires.1 5 (ne_eqb _ _ (sign_none _ c.if-s-ne43.true c.if-s-ne45.true))
+    let same = tested i s (sym (key_byte i row is 1)) (sym (key_byte i row is 2)) mark (sign_is (get_or s 10 0) c.sign_of-minus.ensures c.sign_byte-sign.ensures) in
+    let apart : c.ne.result ≡ not (pointwise eqb (there s) (wanted (get_or row.key 1 0) (get_or row.key 2 0) c.if-row-eq46.mark c.sign_byte-sign.result)) = c.ne.ensures in
+    put_off i c.requires.0 s c.requires.1 (not-true _ (sym (apart ∙ ap not same) ∙ c.if-ne.true))
 
 pub returns : goal.returns
 returns c =
@@ -64,24 +56,13 @@ returns c =
     let s = c.args.s.now in
     let row = c.stored_at-row.result in
     let is = c.stored_at-row.ensures in
-    let b = get_or s 10 0 in
     let mark : c.if-row-eq46.mark ≡ cond (is_text i) 46 49 =
     elim c.if-row-eq46.branch [
       | then-row-eq46 w ↦ mark_text i row _ is w.if-row-eq46.true w.mark-is
       | else-row-eq46 w ↦ mark_number i row _ is w.if-row-eq46.false w.mark-is
     ] in
-    let signed : (c.if-s-ne43.minus ≡ sign_of b) × (b ≡ sign_byte (sign_of b)) =
-    elim c.if-s-ne43.branch [
-      | then-s-ne43+else-s-ne45 w ↦ (let e = sign_minus b w.if-s-ne45.false in (w.minus-is ∙ e.0, e.1))
-      | else-s-ne43 w ↦ (let e = sign_plus b w.if-s-ne43.false in (w.minus-is ∙ e.0, e.1))
-    ] in
+    let same = tested i s (sym (key_byte i row is 1)) (sym (key_byte i row is 2)) mark (sign_is (get_or s 10 0) c.sign_of-minus.ensures c.sign_byte-sign.ensures) in
+    let apart : c.ne.result ≡ not (pointwise eqb (there s) (wanted (get_or row.key 1 0) (get_or row.key 2 0) c.if-row-eq46.mark c.sign_byte-sign.result)) = c.ne.ensures in
     c.parts_right.ensures
-    ∙ ap (λ (m : ℕ). kept_right i (signed_at s m)) signed.0
-    ∙ put_is i c.requires.0 s c.requires.1
-    (and_on (eq-eqb _ _ (c.if-s-key.false ∙ sym (key_byte i row is 1)))
-    ∙ and_on (eq-eqb _ _ (c.if-s-key-2.false ∙ sym (key_byte i row is 2)))
-    ∙ and_on (eq-eqb _ _ c.if-s-ne46.false)
-    ∙ and_on (eq-eqb _ _ c.if-s-ne46-2.false)
-    ∙ and_on (eq-eqb _ _ (c.if-s-mark.false ∙ mark))
-    ∙ and_on (eq-eqb _ _ signed.1)
-    ∙ and_on (eq-eqb _ _ c.if-s-ne10.false))
+    ∙ ap (λ (m : ℕ). kept_right i (signed_at s m)) c.sign_of-minus.ensures
+    ∙ put_is i c.requires.0 s c.requires.1 (not-false _ (sym (apart ∙ ap not same) ∙ c.if-ne.false))

@@ -1,13 +1,9 @@
 -- `put_parameter` meets its contract: up to three digits, and LF.
-use Prim.Native.Nat.{ℕ, ◌+◌, ◌/◌, ◌%◌, ◌<◌, ◌≤◌}
-use mathlib.Core.Path.{◌≡◌, refl, ap}
-use mathlib.Core.List.{[], ◌∷◌, ◌++◌}
-use native.Mathlib.Omega.{arith}
-use lib.ListN.{length}
+use Rattle.std.proofs.Common.{◌≡◌, ◌+◌, ◌/◌, ◌%◌, ◌<◌, ◌≤◌, ℕ, [], ◌∷◌, ◌++◌, sym, arith}
 use Rattle.figures.specs.Text.{codes}
 use Rattle.figures.specs.Decimal.{decimal_of}
-use Rattle.figures.proofs.Putting.{puts_as}
-use Rattle.sheets.proofs.Linewise.{one_digit, two_digits, three_digits}
+use Rattle.figures.proofs.Putting.{fills_as}
+use Rattle.sheets.proofs.Linewise.{fits_as, one_digit, two_digits, three_digits}
 use Rattle.sheets.proofs.writing.put_parameter.Goals as goal
 
 module _ (n : ℕ) {ones : ℕ} (e : ones ≡ 48 + n % 10) where
@@ -22,25 +18,25 @@ module _ (n : ℕ) {ones : ℕ} (e : ones ≡ 48 + n % 10) where
   three t u low h = rw (three_digits n low h, u, t, e)
 
 pub lay_text-requires : goal.lay_text-requires
-lay_text-requires c = omega (arith, c.requires.1, ap length (one c.args.parameter c.figure-ones.ensures c.if-parameter-lt10.true))
+lay_text-requires c = fits_as c.requires.fits (one c.args.parameter c.figure-ones.ensures c.if-parameter-lt10.true)
 
 pub returns-then-parameter-lt10 : goal.returns-then-parameter-lt10
-returns-then-parameter-lt10 c = puts_as _ _ _ _ (one c.args.parameter c.figure-ones.ensures c.if-parameter-lt10.true) refl refl c.lay_text.ensures
+returns-then-parameter-lt10 c = fills_as c.lay_text.ensures (sym (one c.args.parameter c.figure-ones.ensures c.if-parameter-lt10.true))
 
 pub lay_text-requires-then-parameter-lt100 : goal.lay_text-requires-then-parameter-lt100
 lay_text-requires-then-parameter-lt100 c =
-    omega (arith, c.requires.1, ap length (two c.args.parameter c.figure-ones.ensures c.figure-tens.ensures (omega arith) c.if-parameter-lt100.true))
+    fits_as c.requires.fits (two c.args.parameter c.figure-ones.ensures c.figure-tens.ensures (omega arith) c.if-parameter-lt100.true)
 
 pub returns-then-parameter-lt100 : goal.returns-then-parameter-lt100
 returns-then-parameter-lt100 c =
-    puts_as _ _ _ _ (two c.args.parameter c.figure-ones.ensures c.figure-tens.ensures (omega arith) c.if-parameter-lt100.true) refl refl
-    c.lay_text-then-parameter-lt100.ensures
+    fills_as c.lay_text-then-parameter-lt100.ensures
+    (sym (two c.args.parameter c.figure-ones.ensures c.figure-tens.ensures (omega arith) c.if-parameter-lt100.true))
 
-pub lay_text-requires-2 : goal.lay_text-requires-2
-lay_text-requires-2 c =
-    omega (arith, c.requires.1, ap length (three c.args.parameter c.figure-ones.ensures c.figure-tens.ensures c.figure.ensures (omega arith) c.requires.0))
+pub lay_text-requires-else-parameter-lt100 : goal.lay_text-requires-else-parameter-lt100
+lay_text-requires-else-parameter-lt100 c =
+    fits_as c.requires.fits (three c.args.parameter c.figure-ones.ensures c.figure-tens.ensures c.figure.ensures (omega arith) c.requires.small)
 
-pub returns : goal.returns
-returns c =
-    puts_as _ _ _ _ (three c.args.parameter c.figure-ones.ensures c.figure-tens.ensures c.figure.ensures (omega arith) c.requires.0) refl refl
-    c.lay_text-2.ensures
+pub returns-else-parameter-lt100 : goal.returns-else-parameter-lt100
+returns-else-parameter-lt100 c =
+    fills_as c.lay_text-else-parameter-lt100.ensures
+    (sym (three c.args.parameter c.figure-ones.ensures c.figure-tens.ensures c.figure.ensures (omega arith) c.requires.small))

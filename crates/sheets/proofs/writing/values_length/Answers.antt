@@ -6,9 +6,7 @@ use native.Mathlib.Omega.{arith}
 use lib.ListN.{length}
 use lib.Seq.{take_all}
 use Rattle.instrument.specs.Values.{values_n, is_put}
-use Rattle.instrument.specs.declared.values.Kept.{Kept}
-use Rattle.instrument.specs.declared.values.Kept.TheVariants.{Never}
-use Rattle.state.specs.Entries.{value_of}
+use Rattle.instrument.specs.Values.{Kept}
 use Rattle.state.specs.Image.{state_in}
 use Rattle.sheets.specs.Lines.{lines_by}
 use Rattle.sheets.specs.Sheet.{kept_line, value_lines}
@@ -17,6 +15,7 @@ use Rattle.sheets.proofs.Linewise.{long_none, long_more, kept_long}
 use Rattle.sheets.proofs.Writes.{values_long, value_read}
 use Rattle.sheets.proofs.writing.values_length.Goals as goal
 use Rattle.sheets.proofs.writing.values_length.Goals.{then-is_put, else-is_put}
+use Rattle.std.specs.Prelude.{None}
 
 -- the length of a value's line
 put_line : (i : ℕ) (v : Kept) {n : ℕ} → i < values_n → is_put v ≡ true → n ≡ 20 → n ≡ length (kept_line i v)
@@ -44,7 +43,7 @@ loop-i-preserved c =
       | else-is_put w ↦ bare_line i v here (sym c.is_put.ensures ∙ w.if-is_put.false) w.n-is
     ] in
     let few : c.if-is_put.n ≤ 20 = elim c.if-is_put.branch [ then-is_put w ↦ omega (arith, w.n-is) | else-is_put w ↦ omega (arith, w.n-is) ] in
-    let more = long_more value_lines values i (value_of Never) (omega (arith, here, values_long im)) in
+    let more = long_more value_lines values i None (omega (arith, here, values_long im)) in
     let line = ap length (value_read im i v here c.value_in.ensures) in
     (omega (arith, long, more, line, c.loop-i.invariant.0), omega (arith, few, c.loop-i.invariant.1))
 

@@ -1,8 +1,7 @@
 -- The loop's invariant of `values_length`: n is the length of the lines before the i-th.
-use Prim.Native.Nat.{◌-◌, ◌*◌, ◌≤◌}
+use Prim.Native.Nat.{◌*◌, ◌≤◌}
 use mathlib.Core.Path.{◌≡◌}
 use lib.ListN.{length, take}
-use Rattle.instrument.specs.Values.{values_n}
 use Rattle.state.specs.Image.{state_in}
 use Rattle.sheets.specs.Lines.{lines_by}
 use Rattle.sheets.specs.Sheet.{value_lines}
@@ -10,6 +9,3 @@ use Rattle.sheets.proofs.writing.values_length.Given as goal
 
 abbrev pub invariant-loop-i : goal.invariant-loop-i
 invariant-loop-i l = (l.n ≡ length (lines_by value_lines 0 (take l.i (state_in l.image).values))) × (l.n ≤ 20 * l.i)
-
-abbrev pub decreases-loop-i : goal.decreases-loop-i
-decreases-loop-i l = values_n - l.i
