@@ -5,96 +5,63 @@
 // row before left it.
 #![tactic(auto)]
 
-ghost use Rattle.std.specs.Prelude.{◌≤◌, length};
-ghost use Rattle.streams.specs.Written.{WritesStart};
-
-use blocks::answers::{Answer, refusal_number, refusal_tells};
+use blocks::answers::{Reading, Refusal, refusal_number, refusal_tells};
 use blocks::judging::{answer_of, start_of};
-use figures::run_before;
 use instrument::settings::Series;
 use lines::machine::{Told, line};
 use lines::verdicts::{Verdict, verdict_byte, verdict_number, verdict_which};
 use state::image::IMAGE_100;
 use state::laying::put_factory;
 use std::io::Write;
-use streams::write_all;
+use streams::telling::{put, put_number};
 use units::kinds::Family;
 use words::reading::{read_word, width_of};
 use words::records::Word;
 
-// Writes a text, as far as that can be done.
-fn put<W: Write>(out: &mut W, text: &[u8])
-    ensures { WritesStart (W.contents out.old) (W.contents out.new) text.now }
-{
-    let _ = write_all(out, text);
-}
-
-fn tell<W: Write>(out: &mut W, what: &[u8], n: u64) {
-    put(out, what);
-    let _ = write!(out, "{n}");
-}
-
 fn put_value<W: Write>(out: &mut W, word: Word) {
-    tell(out, b" ", word.index as u64);
-    if word.minus == 1 {
-        tell(out, b"=-", word.size);
-    } else {
-        tell(out, b"=+", word.size);
-    }
+    put_number(out, b" ", u64::from(word.index));
+    put_number(out, if word.minus == 1 { b"=-" } else { b"=+" }, word.size);
 }
 
-fn put_value_at<W: Write>(out: &mut W, family: Family, block: &[u8], wide: bool, place: usize) {
-    if place <= block.len() {
-        let one = read_word(&block[place..], family, wide);
-        put_value(out, one.word);
-    }
-}
-
-// Shows the values of the n words of a block that was read.
-fn put_values<W: Write>(out: &mut W, family: Family, block: &[u8], wide: bool, n: usize) {
-    let size = width_of(wide) + 8;
-    let mut place = start_of(wide);
-    let mut i = 0;
-    while i < 32 {
-        if i < n {
-            put_value_at(out, family, block, wide, place);
+// Shows the values of a block that was read.
+fn put_values<W: Write>(out: &mut W, family: Family, block: &[u8], reading: Reading) {
+    let wide = reading.wide;
+    if let Some(words) = block.get(start_of(wide)..) {
+        for word in words.chunks(width_of(wide) + 8).take(reading.words) {
+            if let Ok(word) = read_word(word, family, wide) {
+                put_value(out, word);
+            }
         }
-        place += size;
-        i += 1;
     }
 }
 
-fn put_answer<W: Write>(out: &mut W, answer: Answer) {
+fn put_answer<W: Write>(out: &mut W, answer: Result<Reading, Refusal>) {
     match answer {
-        Answer::Refused(refusal) => {
-            tell(out, b" refused=", refusal_number(refusal));
-            tell(out, b" place=", refusal_tells(refusal) as u64);
+        Err(refusal) => {
+            put_number(out, b" refused=", refusal_number(refusal));
+            put_number(out, b" place=", refusal_tells(refusal) as u64);
         }
-        Answer::Read(reading) => {
-            tell(out, b" words=", reading.words as u64);
-            tell(out, b" bytes=", reading.used as u64);
+        Ok(reading) => {
+            put_number(out, b" words=", reading.words as u64);
+            put_number(out, b" bytes=", reading.used as u64);
         }
     }
 }
 
 fn put_verdict<W: Write>(out: &mut W, verdict: Verdict) {
-    tell(out, b" number=", verdict_number(verdict));
-    if verdict_which(verdict) != 0 {
-        tell(out, b" which=", verdict_which(verdict));
-        tell(out, b" byte=", verdict_byte(verdict) as u64);
+    put_number(out, b" number=", verdict_number(verdict));
+    let which = verdict_which(verdict);
+    if which != 0 {
+        put_number(out, b" which=", which);
+        put_number(out, b" byte=", verdict_byte(verdict) as u64);
     }
-}
-
-fn put_accepted<W: Write>(out: &mut W, n: u64) {
-    tell(out, b" accepted=", n);
-    put(out, b"\n");
 }
 
 fn judge_block<W: Write>(out: &mut W, family: Family, block: &[u8]) {
     let answer = answer_of(block, family);
     put_answer(out, answer);
-    if let Answer::Read(reading) = answer {
-        put_values(out, family, block, reading.wide, reading.words);
+    if let Ok(reading) = answer {
+        put_values(out, family, block, reading);
     }
     put(out, b"\n");
 }
@@ -107,9 +74,8 @@ fn answer(image: &mut [u8], text: &[u8]) -> Told {
 
 fn send_line<W: Write>(out: &mut W, image: &mut [u8], text: &[u8]) {
     let told = answer(image, text);
-    let verdict = told.verdict;
-    put_verdict(out, verdict);
-    tell(out, b" reply=", told.count as u64);
+    put_verdict(out, told.verdict);
+    put_number(out, b" reply=", told.count as u64);
     put(out, b"\n");
 }
 
@@ -120,14 +86,10 @@ fn renew(image: &mut [u8]) {
 // Sends the line 64 times and counts how often it is accepted.
 fn send_often(image: &mut [u8], text: &[u8]) -> u64 {
     let mut accepted = 0;
-    let mut i: u64 = 0;
-    while i < 64 {
-        let told = answer(image, text);
-        let verdict = told.verdict;
-        if verdict_number(verdict) == 0 {
+    for _ in 0..64u64 {
+        if answer(image, text).verdict.is_ok() {
             accepted += 1;
         }
-        i += 1;
     }
     accepted
 }
@@ -142,191 +104,145 @@ fn run<W: Write>(out: &mut W, image: &mut [u8], letter: u8, bytes: &[u8]) {
         }
         b'M' => {
             renew(image);
-            put_accepted(out, send_often(image, bytes));
+            put_number(out, b" accepted=", send_often(image, bytes));
+            put(out, b"\n");
         }
         _ => send_line(out, image, bytes),
     }
 }
 
 fn run_row<W: Write>(out: &mut W, image: &mut [u8], row: &[u8]) {
-    let bar = run_before(row, b'|');
-    if bar < 2 {
-        return;
-    }
-    if row.len() <= bar {
-        return;
-    }
-    put(out, &row[2..bar]);
-    run(out, image, row[0], &row[bar + 1..]);
-}
-
-// Tells where the row that starts at a place ends.
-fn row_end(table: &[u8], at: usize) -> usize
-    requires { at ≤ length table.now }
-    ensures { (at ≤ result) × (result ≤ length table.now) }
-{
-    at + run_before(&table[at..], b';')
-}
-
-fn run_rows<W: Write>(out: &mut W, image: &mut [u8], table: &[u8]) {
-    let mut at = 0;
-    while at < table.len() {
-        let end = row_end(table, at);
-        run_row(out, image, &table[at..end]);
-        at = end + 1;
+    if let [letter, _, rest @ ..] = row
+        && let Some(bar) = rest.iter().position(|b| *b == b'|')
+    {
+        put(out, &rest[..bar]);
+        run(out, image, *letter, &rest[bar + 1..]);
     }
 }
 
 // Runs a table on an image of its own, which is no state until a row renews it.
 fn run_table<W: Write>(out: &mut W, table: &[u8]) {
     let mut image = [0; IMAGE_100];
-    run_rows(out, &mut image, table);
+    for row in table.split(|b| *b == b';') {
+        run_row(out, &mut image, row);
+    }
 }
 
-// Runs P1 to P11.
-fn readings<W: Write>(out: &mut W) {
-    run_table(
-        out,
-        b"S P1|110014+00000003 21.324+27952530 22.324+27000430 31..01+00265965 51..1.+0009+000 \r\n;\
-          S P2|\r;\
-          S P3|*11....+000000000PNC0058 \r;\
-          S P4|21.102+39999999 \r;\
-          S P4|21.102+40000000 \r;\
-          S P5|21.104+35959599 \r;\
-          S P5|21.104+00060000 \r;\
-          S P6|82..00-00213159 \r;\
-          S P6|82..00-00000000 \r;\
-          S P7|331106+00010198 \r;\
-          F P8 SET/40/2|SET/40/2\r;\
-          F P8 SET/40/3|SET/40/3\r;\
-          F P8 SET/33/0|SET/33/0\r;\
-          F P9 CONF/70|CONF/70\r;\
-          F P10 GET/I/WI88|GET/I/WI88\r;\
-          F P11 UNDO|UNDO\r;",
-    );
-}
+// P1 to P11.
+const READINGS: &[u8] =
+    b"S P1|110014+00000003 21.324+27952530 22.324+27000430 31..01+00265965 51..1.+0009+000 \r\n;\
+      S P2|\r;\
+      S P3|*11....+000000000PNC0058 \r;\
+      S P4|21.102+39999999 \r;\
+      S P4|21.102+40000000 \r;\
+      S P5|21.104+35959599 \r;\
+      S P5|21.104+00060000 \r;\
+      S P6|82..00-00213159 \r;\
+      S P6|82..00-00000000 \r;\
+      S P7|331106+00010198 \r;\
+      F P8 SET/40/2|SET/40/2\r;\
+      F P8 SET/40/3|SET/40/3\r;\
+      F P8 SET/33/0|SET/33/0\r;\
+      F P9 CONF/70|CONF/70\r;\
+      F P10 GET/I/WI88|GET/I/WI88\r;\
+      F P11 UNDO|UNDO\r;";
 
-// Reads a level's words: a backsight, a difference below zero, a ground height; inches, a unit that doesn't exist, a wide word.
-fn level_words<W: Write>(out: &mut W) {
-    run_table(
-        out,
-        b"L 331106|331106+00010198 \r;\
-          L 573..0|573..0-00000880 \r;\
-          L 83..16|83..16+00187430 \r;\
-          L 331109|331109+00000001 \r;\
-          L 331105|331105+00000001 \r;\
-          S 32..09 of a station|32..09+00000001 \r;\
-          L wide|*331106+0000000000010198 \r;",
-    );
-}
+// A level's words: a backsight, a difference below zero, a ground height; inches, a unit that doesn't exist, a wide word.
+const LEVEL_WORDS: &[u8] = b"L 331106|331106+00010198 \r;\
+      L 573..0|573..0-00000880 \r;\
+      L 83..16|83..16+00187430 \r;\
+      L 331109|331109+00000001 \r;\
+      L 331105|331105+00000001 \r;\
+      S 32..09 of a station|32..09+00000001 \r;\
+      L wide|*331106+0000000000010198 \r;";
 
-// Reads words whose index is just inside or just outside what a level has.
-fn level_edges<W: Write>(out: &mut W) {
-    run_table(
-        out,
-        b"L 330|330..0+00000001 \r;\
-          L 336|336..0+00000001 \r;\
-          L 374|374..0+00000001 \r;\
-          L 521|521...+00000001 \r;\
-          L 329|329..0+00000001 \r;\
-          L 337|337..0+00000001 \r;\
-          L 373|373..0+00000001 \r;\
-          L 375|375..0+00000001 \r;\
-          L 520|520..0+00000001 \r;\
-          L 570|570..0+00000001 \r;\
-          L 575|575..0+00000001 \r;\
-          L 420...|420...+00000001 \r;\
-          L 32100.|32100.+00000001 \r;",
-    );
-}
+// Words whose index is just inside or just outside what a level has.
+const LEVEL_EDGES: &[u8] = b"L 330|330..0+00000001 \r;\
+      L 336|336..0+00000001 \r;\
+      L 374|374..0+00000001 \r;\
+      L 521|521...+00000001 \r;\
+      L 329|329..0+00000001 \r;\
+      L 337|337..0+00000001 \r;\
+      L 373|373..0+00000001 \r;\
+      L 375|375..0+00000001 \r;\
+      L 520|520..0+00000001 \r;\
+      L 570|570..0+00000001 \r;\
+      L 575|575..0+00000001 \r;\
+      L 420...|420...+00000001 \r;\
+      L 32100.|32100.+00000001 \r;";
 
-// Reads 003's listing of a level.
-fn level_listing<W: Write>(out: &mut W) {
-    run_table(
-        out,
-        b"L block 1|410001+00000020 42....+10842V02 \r\n;\
-          L block 2|410002+00000021 42....+00007330 \r\n;\
-          L block 3|410003+00000022 42....+00261001 \r\n;\
-          L block 4|410004+?......1 \r\n;\
-          L block 5|110005+00003000 83..16+00187430 \r\n;\
-          L block 6|110006+00003000 32..00+00016380 331106+00010198 \r\n;\
-          L block 7|110007+00004000 32..00+00017260 332106+00007177 \r\n;\
-          L block 8|110008+00004000 573..0-00000880 574..0+00033650 83..06+00190451 \r\n;\
-          L block 9|110009+00004000 32..00+00019390 331106+00007600 \r\n;\
-          L block 13|110013+00004001 32..00+00019490 332106+00006824 \r\n;\
-          L block 14|110014+00004001 573..0-00000850 574..0+00116940 83..06+00190458 \r\n;\
-          L block 15|110015+00004001 32..00+00018220 331106+00006660 \r\n;\
-          L block 16|110016+00003000 32..00+00015370 332106+00009686 \r\n;\
-          L block 17|110017+00003000 573..0+00002000 574..0+00150530 83..06+00187432 \r\n;",
-    );
-}
+// 003's listing of a level.
+const LEVEL_LISTING: &[u8] = b"L block 1|410001+00000020 42....+10842V02 \r\n;\
+      L block 2|410002+00000021 42....+00007330 \r\n;\
+      L block 3|410003+00000022 42....+00261001 \r\n;\
+      L block 4|410004+?......1 \r\n;\
+      L block 5|110005+00003000 83..16+00187430 \r\n;\
+      L block 6|110006+00003000 32..00+00016380 331106+00010198 \r\n;\
+      L block 7|110007+00004000 32..00+00017260 332106+00007177 \r\n;\
+      L block 8|110008+00004000 573..0-00000880 574..0+00033650 83..06+00190451 \r\n;\
+      L block 9|110009+00004000 32..00+00019390 331106+00007600 \r\n;\
+      L block 13|110013+00004001 32..00+00019490 332106+00006824 \r\n;\
+      L block 14|110014+00004001 573..0-00000850 574..0+00116940 83..06+00190458 \r\n;\
+      L block 15|110015+00004001 32..00+00018220 331106+00006660 \r\n;\
+      L block 16|110016+00003000 32..00+00015370 332106+00009686 \r\n;\
+      L block 17|110017+00003000 573..0+00002000 574..0+00150530 83..06+00187432 \r\n;";
 
-// Reads minus nought: a level's difference, an angle in seconds, the halves of a pair, a wide word; then an angle out of its range; then minus
-// nought is put over nought and taken back.
-fn noughts<W: Write>(out: &mut W) {
-    run_table(
-        out,
-        b"L 573..0 minus nought|573..0-00000000 \r;\
-          S 21.104 minus nought|21.104-00000000 \r;\
-          S 51..1. minus nought|51..1.-0000-000 \r;\
-          S wide minus nought|*82..00-0000000000000000 \r;\
-          S minus 400 gon|21.102-40000000 \r;\
-          F PUT of nought|PUT/83...0+00000000 \r;\
-          I PUT of minus nought|PUT/83...0-00000000 \r;\
-          I GET|GET/I/WI83\r;\
-          I UNDO|UNDO\r;",
-    );
-}
+// Minus nought: a level's difference, an angle in seconds, the halves of a pair, a wide word; then an angle out of its range; then minus
+// nought put over nought and taken back.
+const NOUGHTS: &[u8] = b"L 573..0 minus nought|573..0-00000000 \r;\
+      S 21.104 minus nought|21.104-00000000 \r;\
+      S 51..1. minus nought|51..1.-0000-000 \r;\
+      S wide minus nought|*82..00-0000000000000000 \r;\
+      S minus 400 gon|21.102-40000000 \r;\
+      F PUT of nought|PUT/83...0+00000000 \r;\
+      I PUT of minus nought|PUT/83...0-00000000 \r;\
+      I GET|GET/I/WI83\r;\
+      I UNDO|UNDO\r;";
 
-// Shows the byte that each refusal of a word tells, 5 to 10 and 15, and then what a line is refused for: no keyword, a keyword with a wrong
+// The byte that each refusal of a word tells, 5 to 10 and 15, and then what a line is refused for: no keyword, a keyword with a wrong
 // remainder, a PUT word by each of its rules.
-fn told<W: Write>(out: &mut W) {
-    run_table(
-        out,
-        b"S 1A....|1A....+00000001 \r;\
-          S 14....|14....+00000001 \r;\
-          S 110.14|110.14+00000001 \r;\
-          S text with a minus|11....-00000001 \r;\
-          S the height 000A5320|110002+00000102 81..10+01251340 82..10+01907815 83..10+000A5320 \r\n;\
-          S a pair's inner sign|51..1.+0009.000 \r;\
-          S no blank, wide|*83..10+0000000000045320,\r;\
-          S 400 gon|21.102+40000000 \r;\
-          L 33x106|33x106+00010198 \r;\
-          L 331006|331006+00010198 \r;\
-          F set/30/1|set/30/1\r;\
-          F UNDO1|UNDO1\r;\
-          F SETTLE|SETTLE\r;\
-          F GET/M/WI11|GET/M/WI11\r;\
-          F PUT with a mode|PUT/83..10+00000001 \r;\
-          F PUT of unit 2|PUT/83...2+00000001 \r;\
-          F PUT without sign|PUT/83...0 00000001 \r;\
-          F PUT of 000A5320|PUT/83...0+000A5320 \r;\
-          F PUT without blank|PUT/83...0+00000001,\r;\
-          F PUT of 400 gon|PUT/21...2+40000000 \r;",
-    );
-}
+const TOLD: &[u8] = b"S 1A....|1A....+00000001 \r;\
+      S 14....|14....+00000001 \r;\
+      S 110.14|110.14+00000001 \r;\
+      S text with a minus|11....-00000001 \r;\
+      S the height 000A5320|110002+00000102 81..10+01251340 82..10+01907815 83..10+000A5320 \r\n;\
+      S a pair's inner sign|51..1.+0009.000 \r;\
+      S no blank, wide|*83..10+0000000000045320,\r;\
+      S 400 gon|21.102+40000000 \r;\
+      L 33x106|33x106+00010198 \r;\
+      L 331006|331006+00010198 \r;\
+      F set/30/1|set/30/1\r;\
+      F UNDO1|UNDO1\r;\
+      F SETTLE|SETTLE\r;\
+      F GET/M/WI11|GET/M/WI11\r;\
+      F PUT with a mode|PUT/83..10+00000001 \r;\
+      F PUT of unit 2|PUT/83...2+00000001 \r;\
+      F PUT without sign|PUT/83...0 00000001 \r;\
+      F PUT of 000A5320|PUT/83...0+000A5320 \r;\
+      F PUT without blank|PUT/83...0+00000001,\r;\
+      F PUT of 400 gon|PUT/21...2+40000000 \r;";
 
-// Fills the undo list, and sends the longest GET and one that is longer.
-fn longest<W: Write>(out: &mut W) {
-    run_table(
-        out,
-        b"M 64 times SET/30/1|SET/30/1\r;\
-          I one more|SET/30/1\r;\
-          I UNDO|UNDO\r;\
-          I SET/30/1 again|SET/30/1\r;\
-          F PUT|PUT/88...0+00001550 \r;\
-          I GET with 19 indexes|GET/I/WI88/WI88/WI88/WI88/WI88/WI88/WI88/WI88/WI88/WI88/WI88/WI88/WI88/WI88/WI88/WI88/WI88/WI88/WI88\r;\
-          I GET with 20 indexes|GET/I/WI88/WI88/WI88/WI88/WI88/WI88/WI88/WI88/WI88/WI88/WI88/WI88/WI88/WI88/WI88/WI88/WI88/WI88/WI88/WI88\r;",
-    );
-}
+// An undo list filled, and the longest GET and one that is longer.
+const LONGEST: &[u8] = b"M 64 times SET/30/1|SET/30/1\r;\
+      I one more|SET/30/1\r;\
+      I UNDO|UNDO\r;\
+      I SET/30/1 again|SET/30/1\r;\
+      F PUT|PUT/88...0+00001550 \r;\
+      I GET with 19 indexes|GET/I/WI88/WI88/WI88/WI88/WI88/WI88/WI88/WI88/WI88/WI88/WI88/WI88/WI88/WI88/WI88/WI88/WI88/WI88/WI88\r;\
+      I GET with 20 indexes|GET/I/WI88/WI88/WI88/WI88/WI88/WI88/WI88/WI88/WI88/WI88/WI88/WI88/WI88/WI88/WI88/WI88/WI88/WI88/WI88/WI88\r;";
 
+// What can't be written is passed over.
 fn main(rt: HostRuntime) {
     let mut out = rt.stdout();
-    readings(&mut out);
-    level_words(&mut out);
-    level_edges(&mut out);
-    level_listing(&mut out);
-    noughts(&mut out);
-    told(&mut out);
-    longest(&mut out);
+    for table in [
+        READINGS,
+        LEVEL_WORDS,
+        LEVEL_EDGES,
+        LEVEL_LISTING,
+        NOUGHTS,
+        TOLD,
+        LONGEST,
+    ] {
+        run_table(&mut out, table);
+    }
 }

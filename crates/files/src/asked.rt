@@ -2,29 +2,27 @@
 ghost use Rattle.std.specs.Prelude.{◌≡◌};
 ghost use Rattle.files.specs.Asked.{asked_by};
 
+use figures::same;
+use std::env::Env;
+use streams::arguments::{argument, count};
 use units::kinds::Family;
 
-// A file of the family, or the usage.
-#[derive(Clone, Copy)]
-pub enum Asked {
-    Usage,
-    File(Family),
-}
-
-// Tells what is asked by the number of arguments, the program's own name counted, and the first of the others.
-pub fn asked_by(count: usize, word: &[u8]) -> Asked
+// Tells which family's file is asked for by the number of arguments, the program's own name counted, and the first of the others; None asks for the usage.
+pub fn asked_by(count: usize, word: &[u8]) -> Option<Family>
     ensures { result ≡ asked_by count word.now }
 {
     if count < 2 {
-        let family = Family::Station;
-        return Asked::File(family);
+        return Some(Family::Station);
     }
-    if 2 < count {
-        return Asked::Usage;
+    if count == 2 && same(word, b"level") {
+        return Some(Family::Level);
     }
-    if figures::same(word, b"level") {
-        let family = Family::Level;
-        return Asked::File(family);
-    }
-    Asked::Usage
+    None
+}
+
+// Reads the arguments; a first one with more bytes than `level` asks for nothing that there is.
+pub fn ask(env: &impl Env) -> Option<Family> {
+    let mut word = [0; 5];
+    let word = argument(env, 1, &mut word).unwrap_or(b"");
+    asked_by(count(env), word)
 }

@@ -6,8 +6,5 @@ ghost use Rattle.files.specs.Counting.{more_of};
 pub fn more(n: u64) -> u64
     ensures { result ≡ more_of n }
 {
-    if n < u64::MAX {
-        return n + 1;
-    }
-    n
+    n.saturating_add(1)
 }

@@ -3,7 +3,7 @@
 use Prim.Native.Nat.{ℕ, suc, ◌+◌, ◌<◌, ◌≤◌, min}
 use mathlib.Core.Path.{◌≡◌, refl, sym, ap, ◌∙◌}
 use mathlib.Core.Bool.{Bool, true, false, cond}
-use mathlib.Core.List.{List, [], ◌∷◌, ◌++◌, append_assoc, append-nil}
+use mathlib.Core.List.{List, [], ◌∷◌, ◌++◌, append-nil}
 use native.Mathlib.Nat.{min-le_left, le-min}
 use native.Mathlib.Numerals.{add-one}
 use native.Mathlib.Omega.{arith}
@@ -31,7 +31,8 @@ use Rattle.mend.specs.declared.turns.Turn.{Turn}
 use Rattle.mend.specs.Lines.{line_after, lines_from}
 use Rattle.mend.specs.Turns.{no_counts, counted, joined, tells, block_put, told_put, Fed, goes_on, starts_next}
 use Rattle.mend.specs.Turns.{last_line, Standing, standing, next, after_bytes, begun}
-use Rattle.mend.specs.Put.{Put, both, put_from, put_of, handed, closing, put_by, handed_from, handed_next, Due}
+use Rattle.mend.specs.Laws.{put_on}
+use Rattle.mend.specs.Put.{Put, both, put_from, put_of, closing, put_by, handed_from, handed_next, Due}
 
 line_out : (c : Counts) (text : List ℕ) (n : ℕ) → length text ≡ 3920 → n ≤ 3800
     → take (min (n + length (last_line c)) (length text)) (put_at text n (last_line c)) ≡ take n text ++ last_line c
@@ -206,16 +207,6 @@ put f s h =
 
 -- part after part, whatever the parts are
 
-both_assoc : (p q r : Put) → both (both p q) r ≡ both p (both q r)
-both_assoc p q r =
-    let b = append_assoc p.blocks q.blocks r.blocks in
-    let t = append_assoc p.told q.told r.told in λ i. record { blocks = b i; told = t i }
-
-pub put_on : (f : Family) (l rest : List ℕ) (s : Standing) → put_by f s (l ++ rest) ≡ both (handed_from f s l) (put_by f (after_bytes f s l) rest)
-unfolding put_by handed_from after_bytes
-put_on f [] rest s = refl
-put_on f (b ∷ l) rest s = ap (both (handed f s b)) (put_on f l rest (next f s b)) ∙ sym (both_assoc (handed f s b) _ _)
-
 pub next_out : (f : Family) (s : Standing) (rest : List ℕ) → (after : Put) × (put_by f s rest ≡ both (handed_next f s rest) after)
 unfolding put_by
 next_out f s [] =
@@ -225,10 +216,10 @@ next_out f s [] =
 next_out f s (b ∷ l) = (put_by f (next f s b) l, refl)
 
 -- what is due comes, in what is put out for its listing, right after what the bytes before it hand over
-pub due_put : (f : Family) (out : List ℕ) (n : ℕ) (text : List ℕ) (m : ℕ) (due : Due f out n text m) → length (due.0 ++ due.1) < largest
+pub due_put : (f : Family) (block text : List ℕ) (due : Due f block text) → length (due.0 ++ due.1) < largest
     → (after : Put)
-    × (put_of f (due.0 ++ due.1) ≡ both (handed_from f begun due.0) (both (record { blocks = take n out; told = take m text }) after))
-due_put f out n text m due h =
+    × (put_of f (due.0 ++ due.1) ≡ both (handed_from f begun due.0) (both (record { blocks = block; told = text }) after))
+due_put f block text due h =
     let file = due.0 in
     let rest = due.1 in
     let all = next_out f (after_bytes f begun file) rest in

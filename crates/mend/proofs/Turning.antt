@@ -25,6 +25,7 @@ use Rattle.mend.specs.declared.turns.Turn.{Turn}
 use Rattle.mend.specs.declared.turns.Last.{Last}
 use Rattle.mend.specs.Turns.{counted, joined, line_in, tells, block_put, told_put, Fed, goes_on, starts_next, fed, Feeds, last_line}
 use Rattle.mend.specs.Turns.{finished, finished_out, finished_text, Closes, Standing, next, after_bytes, begun, standing, Reached}
+use Rattle.mend.specs.Laws.{after_append}
 use Rattle.mend.specs.Put.{handed, closing, Due}
 
 -- a line that was told, and counted by what became of it
@@ -168,11 +169,6 @@ pub after_none : (f : Family) (s : Standing) (bytes : List ℕ) (i : ℕ) → le
 unfolding after_bytes
 after_none f s bytes i h = rw (drop_of_length-le bytes h)
 
-pub after_append : (f : Family) (l m : List ℕ) (s : Standing) → after_bytes f s (l ++ m) ≡ after_bytes f (after_bytes f s l) m
-unfolding after_bytes
-after_append f [] m s = refl
-after_append f (b ∷ l) m s = after_append f l m (next f s b)
-
 after_kept : (f : Family) (l : List ℕ) (s : Standing) → s.progress.kept ≤ length s.room
     → (after_bytes f s l).progress.kept ≤ length (after_bytes f s l).room
 unfolding after_bytes
@@ -201,14 +197,14 @@ module _ (f : Family) (room : List ℕ) (g : Progress) (out text : List ℕ) (at
   reached_next b r room' out' text' h = reached_on (b ∷ []) room' r.progress out' text' (turn_next f here b r room' out' text' h)
 
   pub byte_due : (b : ℕ) (r : Turn) (room' out' text' : List ℕ) → Feeds f room g b out text r room' out' text'
-      → Due f out' r.bytes text' r.count
+      → Due f (take r.bytes out') (take r.count text')
   byte_due b r room' out' text' h = (
     at.0,
     b ∷ [],
     (λ i. record { blocks = take (h.0 i).bytes (h.1.1.0 i); told = take (h.0 i).count (h.1.1.1 i) }) ∙ ap (λ s. handed f s b) (sym at.1),
   )
 
-  pub end_due : (r : Last) (out' text' : List ℕ) → Closes f room g out text r out' text' → Due f out' r.bytes text' r.count
+  pub end_due : (r : Last) (out' text' : List ℕ) → Closes f room g out text r out' text' → Due f (take r.bytes out') (take r.count text')
   end_due r out' text' h = (
     at.0,
     [],

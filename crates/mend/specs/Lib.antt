@@ -1,3 +1,5 @@
 pub mod Lines
 pub mod Turns
 pub mod Put
+pub mod Mending
+pub mod Laws

@@ -1,7 +1,7 @@
 -- What is put out for a listing: on standard output the block of each line that reads, mended or as it was, and nothing else; on standard error what is told of
 -- each line, and the counts at the end.
 use Rattle.std.specs.Prelude.{ℕ, suc, min, ◌+◌, ◌≡◌, ◌⊎◌, List, [], ◌∷◌, ◌++◌, length, take, Option}
-use Rattle.std.specs.Io.KnownBytes.{Appends, Consumes, IsAtEnd}
+use Rattle.std.specs.Io.KnownBytes.{Appends}
 use Rattle.figures.specs.Rooms.{put_at}
 use Rattle.units.specs.declared.kinds.Family.{Family}
 use Rattle.errata.specs.Errata.{block_of, told_of, fate_of}
@@ -53,13 +53,12 @@ abbrev pub handed_next : Family → Standing → List ℕ → Put
 handed_next f s [] = closing f s
 handed_next f s (b ∷ l) = handed f s b
 
--- the first n bytes of the one room and m of the other are what is handed over next, somewhere in some listing
-abbrev pub Due : Family → List ℕ → ℕ → List ℕ → ℕ → Type 0
-Due f out n text m = (file rest : List ℕ) × (record { blocks = take n out; told = take m text } ≡ handed_next f (after_bytes f begun file) rest)
+-- the block and what is told are what is handed over next, somewhere in some listing
+abbrev pub Due : Family → List ℕ → List ℕ → Type 0
+Due f block text = (file rest : List ℕ) × (record { blocks = block; told = text } ≡ handed_next f (after_bytes f begun file) rest)
 
--- the first n bytes of the one room and m of the other
-abbrev pub put_in : List ℕ → ℕ → List ℕ → ℕ → Put
-put_in out n text m = record { blocks = take n out; told = take m text }
+abbrev pub put_in : List ℕ → List ℕ → Put
+put_in block text = record { blocks = block; told = text }
 
 -- all of it was written, where the writers' bytes are known
 abbrev pub Wrote : (told told' blocks blocks' : Option (List ℕ)) → Put → Type 0
@@ -77,12 +76,3 @@ abbrev pub BreaksOff : Family → Standing → List ℕ → (told told' blocks b
 BreaksOff f s file told told' blocks blocks' =
     (seen rest : List ℕ) × (file ≡ seen ++ rest) × ((p : Put) × IsStart p (handed_next f (after_bytes f s seen) rest)
     × Wrote told told' blocks blocks' (both (handed_from f s seen) p))
-
--- a turn that goes on: some bytes were read, and what they hand over was written
-abbrev pub GoesFurther : Family → Standing → Standing → (unread unread' told told' blocks blocks' : Option (List ℕ)) → Type 0
-GoesFurther f s s' unread unread' told told' blocks blocks' =
-    (bytes : List ℕ) × Consumes unread unread' bytes × (after_bytes f s bytes ≡ s') × Wrote told told' blocks blocks' (handed_from f s bytes)
-
--- the last turn: there was nothing more to read, and what the listing's end puts out was written
-abbrev pub Ends : Family → Standing → (unread unread' told told' blocks blocks' : Option (List ℕ)) → Type 0
-Ends f s unread unread' told told' blocks blocks' = Consumes unread unread' [] × IsAtEnd unread' × Wrote told told' blocks blocks' (closing f s)

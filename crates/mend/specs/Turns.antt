@@ -1,5 +1,5 @@
 -- A listing read byte by byte: the line that comes in is kept, and mended when it has ended.
-use Rattle.std.specs.Prelude.{ℕ, ◌+◌, min, ◌≡◌, true, cond, List, [], ◌∷◌, eqb, length, take, replicate}
+use Rattle.std.specs.Prelude.{ℕ, ◌+◌, min, ◌≡◌, cond, List, [], ◌∷◌, eqb, length, take, replicate}
 use Rattle.figures.specs.Rooms.{put_at, Puts}
 use Rattle.files.specs.Counting.{more_of}
 use Rattle.pieces.specs.Pieces.{is_joined}
@@ -13,7 +13,6 @@ use Rattle.mend.specs.declared.turns.Counts.{Counts}
 use Rattle.mend.specs.declared.turns.Progress.{Progress}
 use Rattle.mend.specs.declared.turns.Turn.{Turn}
 use Rattle.mend.specs.declared.turns.Last.{Last}
-use Rattle.mend.specs.declared.Next.{Next}
 
 abbrev pub no_counts : Counts
 no_counts = record { lines = 0; unchanged = 0; mended = 0; refused = 0 }
@@ -137,11 +136,6 @@ standing room g out text = record { progress = g; room = room; out = out; text =
 abbrev pub Reached : Family → List ℕ → Progress → List ℕ → List ℕ → Type 0
 Reached f room g out text = (file : List ℕ) × (after_bytes f begun file ≡ standing room g out text)
 
--- where the reading goes on, all of these bytes were taken
-abbrev pub Takes : Family → List ℕ → Progress → List ℕ → List ℕ → List ℕ → Next → List ℕ → List ℕ → List ℕ → Type 0
-Takes f room g bytes out text r room' out' text' =
-    r.on ≡ true → after_bytes f (standing room g out text) bytes ≡ standing room' r.progress out' text'
-
--- the bytes are those of one read, and no contract can say more of them
-abbrev pub GoesOn : Family → List ℕ → Progress → List ℕ → List ℕ → Next → List ℕ → List ℕ → List ℕ → Type 0
-GoesOn f room g out text r room' out' text' = (bytes : List ℕ) × Takes f room g bytes out text r room' out' text'
+-- all of these bytes were taken
+abbrev pub Takes : Family → List ℕ → Progress → List ℕ → List ℕ → List ℕ → Progress → List ℕ → List ℕ → List ℕ → Type 0
+Takes f room g bytes out text g' room' out' text' = after_bytes f (standing room g out text) bytes ≡ standing room' g' out' text'

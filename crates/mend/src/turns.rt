@@ -6,7 +6,7 @@ ghost use Rattle.mend.specs.Lines.{line_after};
 ghost use Rattle.mend.specs.Turns.{started, counted, joined, tells, block_put, told_put, Feeds, finished, finished_out, finished_text, Closes};
 
 use errata::{ENOUGH, Fate, tally};
-use figures::rooms::put;
+use figures::rooms::Room;
 use files::counting::more;
 use pieces::{Mark, joins};
 use units::kinds::Family;
@@ -55,17 +55,15 @@ pub struct Last {
 pub(crate) fn start() -> Progress
     ensures { result ≡ started }
 {
-    let counts = Counts {
-        lines: 0,
-        unchanged: 0,
-        mended: 0,
-        refused: 0,
-    };
-    let mark = Mark::Open;
     Progress {
-        mark: mark,
+        mark: Mark::Open,
         kept: 0,
-        counts: counts,
+        counts: Counts {
+            lines: 0,
+            unchanged: 0,
+            mended: 0,
+            refused: 0,
+        },
     }
 }
 
@@ -73,18 +71,11 @@ pub(crate) fn start() -> Progress
 fn after(mark: Mark, b: u8) -> Mark
     ensures { result ≡ line_after mark b }
 {
-    match mark {
-        Mark::Open => {
-            if b == 13 {
-                return Mark::Cr;
-            }
-            if b == 10 {
-                return Mark::Whole;
-            }
-            Mark::Open
-        }
-        Mark::Cr => Mark::Whole,
-        Mark::Whole => Mark::Whole,
+    match (mark, b) {
+        (Mark::Open, b'\r') => Mark::Cr,
+        (Mark::Open, b'\n') => Mark::Whole,
+        (Mark::Open, _) => Mark::Open,
+        (Mark::Cr | Mark::Whole, _) => Mark::Whole,
     }
 }
 
@@ -92,25 +83,22 @@ fn after(mark: Mark, b: u8) -> Mark
 fn count(c: Counts, fate: Fate) -> Counts
     ensures { result ≡ counted more_of c fate }
 {
-    let lines = more(c.lines);
+    let all = Counts {
+        lines: more(c.lines),
+        ..c
+    };
     match fate {
         Fate::Refused => Counts {
-            lines: lines,
-            unchanged: c.unchanged,
-            mended: c.mended,
             refused: more(c.refused),
+            ..all
         },
         Fate::Unchanged => Counts {
-            lines: lines,
             unchanged: more(c.unchanged),
-            mended: c.mended,
-            refused: c.refused,
+            ..all
         },
         Fate::Mended => Counts {
-            lines: lines,
-            unchanged: c.unchanged,
             mended: more(c.mended),
-            refused: c.refused,
+            ..all
         },
     }
 }
@@ -119,14 +107,15 @@ fn count(c: Counts, fate: Fate) -> Counts
 fn join(room: &mut [u8], progress: Progress, b: u8) -> Progress
     ensures { (result ≡ joined (length room.old) progress b) × (room.new ≡ put_at room.old progress.kept (b ∷ [])) }
 {
-    let kept = put(room, progress.kept, &[b]);
-    let mark = progress.mark;
-    let next = after(mark, b);
-    let counts = progress.counts;
+    let mut kept = Room {
+        bytes: room,
+        at: progress.kept,
+    };
+    kept.put(&[b]);
     Progress {
-        mark: next,
-        kept: kept,
-        counts: counts,
+        mark: after(progress.mark, b),
+        kept: kept.at,
+        ..progress
     }
 }
 
@@ -135,19 +124,14 @@ fn tell(family: Family, room: &[u8], progress: Progress, out: &mut [u8], text: &
     requires { progress.kept ≤ length room.now }
     ensures { (result ≡ tells family room.now progress (length out.old) (length text.old)) × ((out.new ≡ block_put family room.now progress out.old) × (text.new ≡ told_put family room.now progress text.old)) }
 {
-    let kept = progress.kept;
-    let counts = progress.counts;
-    let told = errata::tell(family, more(counts.lines), &room[..kept], out, text);
-    let fate = told.fate;
-    let mark = Mark::Open;
-    let all = count(counts, fate);
-    let next = Progress {
-        mark: mark,
-        kept: 0,
-        counts: all,
-    };
+    let number = more(progress.counts.lines);
+    let told = errata::tell(family, number, &room[..progress.kept], out, text);
     Turn {
-        progress: next,
+        progress: Progress {
+            mark: Mark::Open,
+            kept: 0,
+            counts: count(progress.counts, told.fate),
+        },
         bytes: told.bytes,
         count: told.count,
     }
@@ -165,22 +149,17 @@ pub(crate) fn feed(
     requires { progress.kept ≤ length room.old }
     ensures { Feeds family room.old progress b out.old text.old result room.new out.new text.new }
 {
-    let mark = progress.mark;
-    if joins(mark, b) {
-        let next = join(room, progress, b);
+    if joins(progress.mark, b) {
         return Turn {
-            progress: next,
+            progress: join(room, progress, b),
             bytes: 0,
             count: 0,
         };
     }
     let turn = tell(family, room, progress, out, text);
-    let ended = turn.progress;
-    let next = join(room, ended, b);
     Turn {
-        progress: next,
-        bytes: turn.bytes,
-        count: turn.count,
+        progress: join(room, turn.progress, b),
+        ..turn
     }
 }
 
@@ -191,7 +170,7 @@ fn finish(family: Family, room: &[u8], progress: Progress, out: &mut [u8], text:
 {
     if progress.kept == 0 {
         return Turn {
-            progress: progress,
+            progress,
             bytes: 0,
             count: 0,
         };
@@ -211,8 +190,7 @@ pub(crate) fn close(
     ensures { Closes family room.now progress out.old text.old result out.new text.new }
 {
     let turn = finish(family, room, progress, out, text);
-    let end = turn.progress;
-    let all = end.counts;
+    let all = turn.progress.counts;
     let n = turn.count;
     let line = tally(
         all.lines,

@@ -2,74 +2,59 @@
 // `back` the second to the first. What is refused, and where, goes to standard error, with the line that is in the way.
 #![tactic(auto)]
 
-ghost use Rattle.streams.specs.Written.{WritesStart};
+ghost use Rattle.std.specs.Prelude.{◌≤◌, length};
 
-use figures::pointing::put_shown;
-use figures::{run_before, same};
-use sheets::answers::{Sheeted, sheet_number, sheet_tells};
+use figures::rooms::Room;
+use figures::run_before;
+use sheets::answers::SheetRefusal;
 use sheets::forms::{Form, SHEET_MOST};
 use sheets::moving::move_from;
 use std::io::{Read, Write};
-use std::num::wrapping_add_usize;
 use streams::arguments::{argument, count};
-use streams::{fill, write_all};
+use streams::fill;
+use streams::telling::{put, put_number};
 
 // The most that is shown of a line.
 const LINE: usize = 80;
 
-// Writes a text, as far as that can be done.
-fn put<E: Write>(err: &mut E, text: &[u8])
-    ensures { WritesStart (E.contents err.old) (E.contents err.new) text.now }
-{
-    let _ = write_all(err, text);
-}
-
-fn put_number<E: Write>(err: &mut E, n: usize) {
-    let _ = write!(err, "{n}");
-}
+const USAGE: &[u8] =
+    b"usage: move < SHEET > FILE\n       back < SHEET > FILE\ndocs/REFUSALS.md says what the number of each refusal means.\n";
 
 // Counts the lines that end in some bytes.
-fn lines_in(s: &[u8]) -> usize {
-    let mut lines = 0;
-    let mut i = 0;
-    while i < s.len() {
-        if s[i] == b'\n' {
-            lines = wrapping_add_usize(lines, 1);
-        }
-        i += 1;
-    }
-    lines
+fn lines_in(s: &[u8]) -> usize
+    ensures in_bounds { result ≤ length s.now }
+{
+    s.iter().filter(|b| **b == b'\n').count()
 }
 
 // Shows the first line of some bytes, as much of it as a sheet's has; where there are none, nothing.
 fn put_line<E: Write>(err: &mut E, rest: &[u8]) {
-    if rest.len() == 0 {
+    if rest.is_empty() {
         return;
     }
     let n = run_before(rest, b'\n');
-    let mut room = [0u8; LINE];
-    let end = put_shown(&mut room, 0, &rest[..n]);
-    if room.len() < end {
-        return;
+    let mut bytes = [0u8; LINE];
+    let mut room = Room::new(&mut bytes);
+    room.put_shown(&rest[..n]);
+    let end = room.at;
+    if let Some(shown) = bytes.get(..end) {
+        put(err, shown);
+        put(err, b"\n");
     }
-    put(err, &room[..end]);
-    put(err, b"\n");
 }
 
-fn refused<E: Write>(err: &mut E, word: &[u8], answer: Sheeted, sheet: &[u8]) {
-    let place = sheet_tells(answer);
+// Tells what is refused, and where.
+fn refused<E: Write>(err: &mut E, word: &[u8], refusal: SheetRefusal, sheet: &[u8]) {
+    let place = refusal.tells();
     put(err, word);
-    put(err, b": refused=");
-    let number = sheet_number(answer);
-    let _ = write!(err, "{number}");
-    put(err, b" place=");
-    put_number(err, place);
+    put_number(err, b": refused=", refusal.number());
+    put_number(err, b" place=", place as u64);
     if sheet.len() < place {
         put(err, b"\n");
         return;
     }
-    put(err, b" line=");
-    put_number(err, wrapping_add_usize(lines_in(&sheet[..place]), 1));
+    let line = lines_in(&sheet[..place]) + 1;
+    put_number(err, b" line=", line as u64);
     put(err, b"\n");
     put_line(err, &sheet[place..]);
 }
@@ -85,44 +70,30 @@ fn run<R: Read, W: Write, E: Write>(
     let mut sheet = [0u8; SHEET_MOST + 1];
     let (n, _) = fill(input, &mut sheet);
     let mut moved = [0u8; SHEET_MOST];
-    let answer = move_from(form, &sheet[..n], &mut moved);
-    match answer {
-        Sheeted::Written(m) => {
-            if m <= SHEET_MOST {
-                let _ = write_all(output, &moved[..m]);
-            }
-        }
-        _ => refused(err, word, answer, &sheet[..n]),
+    match move_from(form, &sheet[..n], &mut moved) {
+        Ok(m) if m <= SHEET_MOST => put(output, &moved[..m]),
+        Ok(_) => {}
+        Err(refusal) => refused(err, word, refusal, &sheet[..n]),
     }
 }
 
+// What can't be written is passed over; where a read fails, what came before it is taken for the sheet.
 fn main(rt: HostRuntime) {
-    let mut word = [0u8; 4];
-    let n = argument(&rt, 1, &mut word);
-    if count(&rt) == 2 {
-        if same(&word[..n], b"move") {
-            run(
-                &mut rt.stdin(),
-                &mut rt.stdout(),
-                &mut rt.stderr(),
-                &word,
-                Form::One,
-            );
-            return;
-        }
-        if same(&word[..n], b"back") {
-            run(
-                &mut rt.stdin(),
-                &mut rt.stdout(),
-                &mut rt.stderr(),
-                &word,
-                Form::Two,
-            );
-            return;
-        }
+    let mut room = [0; 4];
+    let word = argument(&rt, 1, &mut room).unwrap_or(b"");
+    let asked = match word {
+        b"move" => Some(Form::One),
+        b"back" => Some(Form::Two),
+        _ => None,
+    };
+    match asked {
+        Some(form) if count(&rt) == 2 => run(
+            &mut rt.stdin(),
+            &mut rt.stdout(),
+            &mut rt.stderr(),
+            word,
+            form,
+        ),
+        _ => put(&mut rt.stderr(), USAGE),
     }
-    put(
-        &mut rt.stderr(),
-        b"usage: move < SHEET > FILE\n       back < SHEET > FILE\ndocs/REFUSALS.md says what the number of each refusal means.\n",
-    );
 }

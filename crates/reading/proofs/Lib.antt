@@ -1,5 +1,4 @@
 pub mod Turning
 pub mod Kept
 pub mod Printed
-pub mod Writing
-pub mod Reading
+pub mod Laws

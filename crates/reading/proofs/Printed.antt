@@ -2,7 +2,7 @@
 use Prim.Native.Nat.{ℕ, suc, ◌+◌, ◌<◌, ◌≤◌, min}
 use mathlib.Core.Path.{◌≡◌, refl, sym, ap, ◌∙◌}
 use mathlib.Core.Bool.{Bool, true, false, cond}
-use mathlib.Core.List.{List, [], ◌∷◌, ◌++◌, append_assoc, append-nil}
+use mathlib.Core.List.{List, [], ◌∷◌, ◌++◌, append-nil}
 use native.Mathlib.Nat.{min-le_left, le-min}
 use native.Mathlib.Omega.{arith}
 use borrow.Author.Tests.{eq-eqb, ne_eqb}
@@ -27,7 +27,8 @@ use Rattle.reading.specs.declared.turns.Progress.{Progress}
 use Rattle.reading.specs.declared.turns.Turn.{Turn}
 use Rattle.reading.specs.Turns.{is_taken, joined, reported, told_text, Fed, goes_on, starts_next}
 use Rattle.reading.specs.Turns.{last_line, Standing, next, after_bytes, begun}
-use Rattle.reading.specs.Printed.{reports_from, printed_of, handed, closing, printed_from, handed_from, handed_next, Due}
+use Rattle.reading.specs.Printed.{reports_from, printed_of, closing, printed_from, handed_from, handed_next, Due}
+use Rattle.reading.specs.Laws.{printed_on}
 use Rattle.reading.proofs.Kept.{report_kept, accepted_kept}
 
 line_fits : (g : Progress) → length (last_line g) ≤ 87
@@ -187,20 +188,15 @@ printed f s h =
 
 -- part after part, whatever the parts are
 
-pub printed_on : (f : Family) (l rest : List ℕ) (s : Standing) → printed_from f s (l ++ rest) ≡ handed_from f s l ++ printed_from f (after_bytes f s l) rest
-unfolding printed_from handed_from after_bytes
-printed_on f [] rest s = refl
-printed_on f (b ∷ l) rest s = ap (λ m. handed f s b ++ m) (printed_on f l rest (next f s b)) ∙ sym (append_assoc (handed f s b) _ _)
-
 next_out : (f : Family) (s : Standing) (rest : List ℕ) → (after : List ℕ) × (printed_from f s rest ≡ handed_next f s rest ++ after)
 unfolding printed_from
 next_out f s [] = ([], sym (append-nil _))
 next_out f s (b ∷ l) = (printed_from f (next f s b) l, refl)
 
 -- what is due comes, in what is printed of its file, right after what the bytes before it hand over
-pub due_printed : (f : Family) (text : List ℕ) (n : ℕ) (due : Due f text n) → length (due.0 ++ due.1) < largest
-    → (after : List ℕ) × (printed_of f (due.0 ++ due.1) ≡ handed_from f begun due.0 ++ (take n text ++ after))
-due_printed f text n due h =
+pub due_printed : (f : Family) (text : List ℕ) (due : Due f text) → length (due.0 ++ due.1) < largest
+    → (after : List ℕ) × (printed_of f (due.0 ++ due.1) ≡ handed_from f begun due.0 ++ (text ++ after))
+due_printed f text due h =
     let file = due.0 in
     let rest = due.1 in
     let out = next_out f (after_bytes f begun file) rest in

@@ -1,15 +1,13 @@
 -- Laws of the turns: what is reported of a piece that has ended, what a byte leaves, and where many bytes lead.
-use Prim.Native.Nat.{ℕ, ◌+◌, ◌-◌, ◌<◌, ◌≤◌, min}
-use mathlib.Core.Path.{◌≡◌, refl, sym, ap, subst, ◌∙◌}
+use Prim.Native.Nat.{ℕ, ◌+◌, ◌-◌, ◌≤◌, min}
+use mathlib.Core.Path.{◌≡◌, sym, ap, subst, ◌∙◌}
 use mathlib.Core.Bool.{Bool, true, false, cond}
 use mathlib.Core.List.{List, [], ◌∷◌, ◌++◌}
 use native.Mathlib.Nat.{zero-add, min-le_right}
-use native.Mathlib.Numerals.{add-one}
 use native.Mathlib.Omega.{arith}
 use borrow.Rule.Slice.PartMut.{put_mid, mid_of}
 use lib.Dec.{eqb}
-use lib.ListN.{length, get_or, take, drop, drop_of_length-le}
-use lib.Seq.{drop-cons}
+use lib.ListN.{length, take}
 use Rattle.units.specs.declared.kinds.Family.{Family}
 use Rattle.pieces.specs.Pieces.{is_joined}
 use Rattle.pieces.specs.declared.Mark.TheVariants.{Open}
@@ -24,6 +22,7 @@ use Rattle.reading.specs.declared.turns.Turn.{Turn}
 use Rattle.reading.specs.Turns.{is_taken, joined, reported, told_text, Fed, goes_on, starts_next, fed, Feeds}
 use Rattle.reading.specs.Turns.{last_line, finished, finished_text, Closes, Standing, next, after_bytes, begun, Reached}
 use Rattle.reading.specs.Printed.{handed, closing, Due}
+use Rattle.reading.specs.Laws.{after_append}
 
 -- a report that was put, and the counts after it
 
@@ -140,20 +139,6 @@ module _ (f : Family) (s : Standing) (b : ℕ) (r : Turn) (room text : List ℕ)
 
 -- byte after byte
 
-pub after_more : (f : Family) (s : Standing) (bytes : List ℕ) (i : ℕ) → i < length bytes
-    → after_bytes f s (drop i bytes) ≡ after_bytes f (next f s (get_or bytes i 0)) (drop (i + 1) bytes)
-unfolding after_bytes
-after_more f s bytes i h = rw (drop-cons bytes i 0 h, add-one i)
-
-pub after_none : (f : Family) (s : Standing) (bytes : List ℕ) (i : ℕ) → length bytes ≤ i → after_bytes f s (drop i bytes) ≡ s
-unfolding after_bytes
-after_none f s bytes i h = rw (drop_of_length-le bytes h)
-
-pub after_append : (f : Family) (l m : List ℕ) (s : Standing) → after_bytes f s (l ++ m) ≡ after_bytes f (after_bytes f s l) m
-unfolding after_bytes
-after_append f [] m s = refl
-after_append f (b ∷ l) m s = after_append f l m (next f s b)
-
 after_kept : (f : Family) (l : List ℕ) (s : Standing) → s.progress.kept ≤ length s.room
     → (after_bytes f s l).progress.kept ≤ length (after_bytes f s l).room
 unfolding after_bytes
@@ -179,8 +164,8 @@ module _ (f : Family) (room : List ℕ) (g : Progress) (text : List ℕ) (at : R
   unfolding after_bytes
   reached_next b r room' text' h = reached_on (b ∷ []) room' r.progress text' (turn_next f here b r room' text' h)
 
-  pub byte_due : (b : ℕ) (r : Turn) (room' text' : List ℕ) → Feeds f room g b text r room' text' → Due f text' r.count
+  pub byte_due : (b : ℕ) (r : Turn) (room' text' : List ℕ) → Feeds f room g b text r room' text' → Due f (take r.count text')
   byte_due b r room' text' h = (at.0, b ∷ [], (λ i. take (h.0 i).count (h.1.1 i)) ∙ ap (λ s. handed f s b) (sym at.1))
 
-  pub end_due : (r : ℕ) (text' : List ℕ) → Closes f room g text r text' → Due f text' r
+  pub end_due : (r : ℕ) (text' : List ℕ) → Closes f room g text r text' → Due f (take r text')
   end_due r text' h = (at.0, [], (λ i. take (h.0 i) (h.1 i)) ∙ ap (closing f) (sym at.1))

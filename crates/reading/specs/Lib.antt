@@ -1,2 +1,4 @@
 pub mod Turns
 pub mod Printed
+pub mod Printing
+pub mod Laws

@@ -1,6 +1,5 @@
 -- What is printed of a file: the report of each of its pieces, and the counts at its end.
-use Rattle.std.specs.Prelude.{ℕ, ◌+◌, min, ◌≡◌, cond, List, [], ◌∷◌, ◌++◌, length, take, Option}
-use Rattle.std.specs.Io.KnownBytes.{Appends, Consumes, IsAtEnd}
+use Rattle.std.specs.Prelude.{ℕ, ◌+◌, min, ◌≡◌, cond, List, [], ◌∷◌, ◌++◌, length, take}
 use Rattle.pieces.specs.Pieces.{pieces}
 use Rattle.figures.specs.Rooms.{put_at}
 use Rattle.reports.specs.Piece.{report_of, tally_text}
@@ -43,15 +42,6 @@ abbrev pub handed_next : Family → Standing → List ℕ → List ℕ
 handed_next f s [] = closing f s
 handed_next f s (b ∷ l) = handed f s b
 
--- the text's first n bytes are what is handed over next, somewhere in some file
-abbrev pub Due : Family → List ℕ → ℕ → Type 0
-Due f text n = (file rest : List ℕ) × (take n text ≡ handed_next f (after_bytes f begun file) rest)
-
--- a turn that goes on: some bytes were read, and what they hand over was written
-abbrev pub GoesFurther : Family → Standing → Standing → (unread unread' written written' : Option (List ℕ)) → Type 0
-GoesFurther f s s' unread unread' written written' =
-    (bytes : List ℕ) × Consumes unread unread' bytes × (after_bytes f s bytes ≡ s') × Appends written written' (handed_from f s bytes)
-
--- the last turn: there was nothing more to read, and what the file's end puts out was written
-abbrev pub Ends : Family → Standing → (unread unread' written written' : Option (List ℕ)) → Type 0
-Ends f s unread unread' written written' = Consumes unread unread' [] × IsAtEnd unread' × Appends written written' (closing f s)
+-- the text is what is handed over next, somewhere in some file
+abbrev pub Due : Family → List ℕ → Type 0
+Due f text = (file rest : List ℕ) × (text ≡ handed_next f (after_bytes f begun file) rest)

@@ -1,5 +1,5 @@
 -- A file read byte by byte: the piece that comes in is kept, and reported when it has ended.
-use Rattle.std.specs.Prelude.{ℕ, ◌+◌, min, ◌≡◌, Bool, true, cond, List, [], ◌∷◌, eqb, length, take, replicate}
+use Rattle.std.specs.Prelude.{ℕ, ◌+◌, min, ◌≡◌, Bool, cond, List, [], ◌∷◌, eqb, length, take, replicate}
 use Rattle.blocks.specs.Judging.{judged}
 use Rattle.pieces.specs.Pieces.{is_joined, mark_after}
 use Rattle.units.specs.declared.kinds.Family.{Family}
@@ -9,7 +9,6 @@ use Rattle.files.specs.Counting.{more_of}
 use Rattle.reports.specs.Piece.{report_of, is_read, tally_text}
 use Rattle.reading.specs.declared.turns.Progress.{Progress}
 use Rattle.reading.specs.declared.turns.Turn.{Turn}
-use Rattle.reading.specs.declared.Next.{Next}
 
 abbrev pub is_taken : Family → List ℕ → Bool
 is_taken f piece = is_read (judged f piece 32).answer
@@ -123,11 +122,6 @@ begun = record { progress = started; room = replicate 800 0; text = replicate 53
 abbrev pub Reached : Family → List ℕ → Progress → List ℕ → Type 0
 Reached f room g text = (file : List ℕ) × (after_bytes f begun file ≡ record { progress = g; room = room; text = text })
 
--- where the reading goes on, all of these bytes were taken
-abbrev pub Takes : Family → List ℕ → Progress → List ℕ → List ℕ → Next → List ℕ → List ℕ → Type 0
-Takes f room g bytes text r room' text' =
-    r.on ≡ true → after_bytes f (record { progress = g; room = room; text = text }) bytes ≡ record { progress = r.progress; room = room'; text = text' }
-
--- the bytes are those of one read, and no contract can say more of them
-abbrev pub GoesOn : Family → List ℕ → Progress → List ℕ → Next → List ℕ → List ℕ → Type 0
-GoesOn f room g text r room' text' = (bytes : List ℕ) × Takes f room g bytes text r room' text'
+-- all of these bytes were taken
+abbrev pub Takes : Family → List ℕ → Progress → List ℕ → List ℕ → Progress → List ℕ → List ℕ → Type 0
+Takes f room g bytes text g' room' text' = after_bytes f (standing_at room g text) bytes ≡ standing_at room' g' text'

@@ -3,7 +3,7 @@ ghost use Rattle.std.specs.Prelude.{◌≡◌, ◌∷◌, [], ◌≤◌, length}
 ghost use Rattle.figures.specs.Rooms.{put_at};
 ghost use Rattle.reading.specs.Turns.{started, joined, reported, told_text, Feeds, finished, finished_text, Closes};
 
-use figures::rooms::put;
+use figures::rooms::Room;
 use files::counting::more;
 use pieces::{Mark, after, joins};
 use reports::piece::{ENOUGH, report, tally};
@@ -54,17 +54,16 @@ pub(crate) fn start() -> Progress
 fn join(room: &mut [u8], progress: Progress, b: u8) -> Progress
     ensures { (result ≡ joined (length room.old) progress b) × (room.new ≡ put_at room.old progress.kept (b ∷ [])) }
 {
-    let kept = put(room, progress.kept, &[b]);
-    let mark = progress.mark;
-    let next = after(mark, b);
+    let mut kept = Room {
+        bytes: room,
+        at: progress.kept,
+    };
+    kept.put(&[b]);
     Progress {
-        mark: next,
-        kept: kept,
-        place: progress.place,
+        mark: after(progress.mark, b),
+        kept: kept.at,
         next: more(progress.next),
-        blocks: progress.blocks,
-        accepted: progress.accepted,
-        refused: progress.refused,
+        ..progress
     }
 }
 
@@ -73,9 +72,8 @@ fn tell(family: Family, room: &[u8], progress: Progress, text: &mut [u8]) -> Tur
     requires { progress.kept ≤ length room.now }
     ensures { (result ≡ reported family room.now progress (length text.old)) × (text.new ≡ told_text family room.now progress text.old) }
 {
-    let kept = progress.kept;
     let blocks = more(progress.blocks);
-    let reported = report(family, blocks, progress.place, &room[..kept], text);
+    let reported = report(family, blocks, progress.place, &room[..progress.kept], text);
     let mut accepted = progress.accepted;
     let mut refused = progress.refused;
     if reported.accepted {
@@ -89,9 +87,9 @@ fn tell(family: Family, room: &[u8], progress: Progress, text: &mut [u8]) -> Tur
             kept: 0,
             place: progress.next,
             next: progress.next,
-            blocks: blocks,
-            accepted: accepted,
-            refused: refused,
+            blocks,
+            accepted,
+            refused,
         },
         count: reported.count,
     }
@@ -108,20 +106,16 @@ pub(crate) fn feed(
     requires { progress.kept ≤ length room.old }
     ensures { Feeds family room.old progress b text.old result room.new text.new }
 {
-    let mark = progress.mark;
-    if joins(mark, b) {
-        let next = join(room, progress, b);
+    if joins(progress.mark, b) {
         return Turn {
-            progress: next,
+            progress: join(room, progress, b),
             count: 0,
         };
     }
     let turn = tell(family, room, progress, text);
-    let ended = turn.progress;
-    let next = join(room, ended, b);
     Turn {
-        progress: next,
-        count: turn.count,
+        progress: join(room, turn.progress, b),
+        ..turn
     }
 }
 
@@ -131,10 +125,7 @@ fn finish(family: Family, room: &[u8], progress: Progress, text: &mut [u8]) -> T
     ensures { (result ≡ finished family room.now progress (length text.old)) × (text.new ≡ finished_text family room.now progress text.old) }
 {
     if progress.kept == 0 {
-        return Turn {
-            progress: progress,
-            count: 0,
-        };
+        return Turn { progress, count: 0 };
     }
     tell(family, room, progress, text)
 }

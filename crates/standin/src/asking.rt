@@ -1,65 +1,39 @@
 // What the arguments ask for.
-use figures::{same, starts};
 use std::env::Env;
 use streams::arguments::{argument, count};
 
-// Whether reasons are told, and which argument names the file that the state is kept in and which what to start from; 0 where none does.
+// Whether reasons are told, and which argument names the file that the state is kept in and which what to start from.
 #[derive(Clone, Copy)]
 pub(crate) struct Asked {
     pub(crate) why: bool,
-    pub(crate) keep: usize,
-    pub(crate) name: usize,
-    pub(crate) right: bool,
+    pub(crate) keep: Option<usize>,
+    pub(crate) name: Option<usize>,
 }
 
-pub(crate) fn wrong() -> Asked {
-    Asked {
+// Reads the arguments, in any order; None asks for the usage. A name that starts with two hyphens is no file, but ./--NAME is.
+pub(crate) fn ask<V: Env>(env: &V) -> Option<Asked> {
+    let mut asked = Asked {
         why: false,
-        keep: 0,
-        name: 0,
-        right: false,
-    }
-}
-
-// Reads the arguments, in any order. A name that starts with two hyphens is no file, but ./--NAME is.
-pub(crate) fn ask<V: Env>(env: &V) -> Asked {
-    let count = count(env);
-    let mut why = false;
-    let mut keep = 0;
-    let mut name = 0;
-    let mut i = 1;
-    while i < count {
+        keep: None,
+        name: None,
+    };
+    let mut places = 1..count(env);
+    while let Some(i) = places.next() {
+        // No option is longer; of a longer argument the start is there.
         let mut word = [0u8; 7];
-        let n = argument(env, i, &mut word);
-        if same(&word[..n], b"--why") {
-            if why {
-                return wrong();
-            }
-            why = true;
-        } else if same(&word[..n], b"--keep") {
-            if keep != 0 {
-                return wrong();
-            }
-            i += 1;
-            if count <= i {
-                return wrong();
-            }
-            keep = i;
+        let text = argument(env, i, &mut word).unwrap_or(b"");
+        let why = matches!(text, b"--why");
+        let keep = matches!(text, b"--keep");
+        let option = word.starts_with(b"--");
+        if why && !asked.why {
+            asked.why = true;
+        } else if keep && asked.keep.is_none() {
+            asked.keep = Some(places.next()?);
+        } else if !option && asked.name.is_none() {
+            asked.name = Some(i);
         } else {
-            if starts(&word, b"--") {
-                return wrong();
-            }
-            if name != 0 {
-                return wrong();
-            }
-            name = i;
+            return None;
         }
-        i += 1;
     }
-    Asked {
-        why: why,
-        keep: keep,
-        name: name,
-        right: true,
-    }
+    Some(asked)
 }

@@ -1,10 +1,6 @@
 // The file that --keep names: the state's sheet of the second form, on the disk before a reply goes out. A new file is written beside it, synced and renamed
 // over it, so that at any moment the file holds a whole sheet.
-ghost use Rattle.std.specs.Prelude.{◌≡◌, ◌≤◌, length, take};
-
-use crate::paths::{failed, path_text, too_long};
-use figures::{lay, same};
-use sheets::answers::Sheeted;
+use crate::paths::{PATH, failed, path_text, too_long, went};
 use sheets::forms::{Form, SHEET_MOST};
 use sheets::writing::write;
 use std::fs::{File, Files, OpenFile, OpenOptions};
@@ -12,29 +8,23 @@ use std::io::Write;
 use std::{fs, io};
 use streams::write_all;
 
-// A path and what the new file's name has after it.
-const NAME: usize = 4100;
+// What the new file's name has after the path.
+const NEW: &[u8] = b".new";
 
-// Gives the length of the path up to its last slash: the folder that the file lies in.
-fn folder(path: &[u8]) -> usize
-    ensures in_bounds { result ≤ length path.now }
-    ensures prefix { result ≡ length (take result path.now) }
-{
-    let mut n = path.len();
-    while 0 < n {
-        if path[n - 1] == b'/' {
-            return n;
-        }
-        n -= 1;
+// A path and what the new file's name has after it.
+const NAME: usize = PATH + NEW.len();
+
+// Gives the folder that the file lies in.
+fn folder(path: &[u8]) -> &[u8] {
+    match path.iter().rposition(|b| *b == b'/') {
+        Some(slash) => &path[..slash + 1],
+        None => b".",
     }
-    0
 }
 
 // Has the folder's list of names on the disk, once a file was renamed in it.
 fn sync_folder<F: Files>(files: &F, path: &[u8]) -> io::Result<()> {
-    let n = folder(path);
-    let name = if n == 0 { "." } else { path_text(&path[..n])? };
-    let list = File::open(files, name)?;
+    let list = File::open(files, path_text(folder(path))?)?;
     list.sync_all()
 }
 
@@ -67,28 +57,19 @@ fn rename<F: Files>(files: &F, from: &[u8], to: &[u8]) -> io::Result<()> {
 fn save<F: Files, E: Write>(files: &F, err: &mut E, path: &[u8], sheet: &[u8]) -> bool {
     let mut name = [0u8; NAME];
     let n = path.len();
-    if NAME - 4 < n {
+    let Some(new) = name.get_mut(..n.saturating_add(NEW.len())) else {
         failed(err, path, too_long());
         return false;
-    }
-    lay(path, &mut name);
-    lay(b".new", &mut name[n..]);
-    let new = &name[..n + 4];
-    if let Err(error) = write_new(files, new, sheet) {
-        failed(err, new, error);
+    };
+    new[..n].copy_from_slice(path);
+    new[n..].copy_from_slice(NEW);
+    let written = went(err, new, write_new(files, new, sheet))
+        && went(err, path, rename(files, new, path));
+    if !written {
         remove(files, new);
         return false;
     }
-    if let Err(error) = rename(files, new, path) {
-        failed(err, path, error);
-        remove(files, new);
-        return false;
-    }
-    if let Err(error) = sync_folder(files, path) {
-        failed(err, path, error);
-        return false;
-    }
-    true
+    went(err, path, sync_folder(files, path))
 }
 
 // Has the state in the file where the last sheet that went there isn't its own, and answers whether it is there.
@@ -97,26 +78,19 @@ pub(crate) fn keep<F: Files, E: Write>(
     err: &mut E,
     path: &[u8],
     image: &[u8],
-    last: &mut [u8],
+    last: &mut [u8; SHEET_MOST],
 ) -> bool {
     let mut sheet = [0u8; SHEET_MOST];
-    let answer = write(Form::Two, image, &mut sheet);
-    let n = match answer {
-        Sheeted::Written(n) => n,
-        _ => 0,
+    let n = match write(Form::Two, image, &mut sheet) {
+        Ok(n) if 0 < n && n <= SHEET_MOST => n,
+        _ => return false,
     };
-    if n == 0 {
-        return false;
-    }
-    if SHEET_MOST < n {
-        return false;
-    }
-    if same(&sheet, last) {
+    if sheet == *last {
         return true;
     }
     if !save(files, err, path, &sheet[..n]) {
         return false;
     }
-    lay(&sheet, last);
+    *last = sheet;
     true
 }

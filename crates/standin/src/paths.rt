@@ -5,8 +5,10 @@ ghost use Rattle.std.specs.IoError.{raw_os_error};
 use std::io;
 use std::io::{Error, Write};
 use std::str::from_utf8;
-use streams::telling::tell_error;
-use streams::write_all;
+use streams::telling::{put, tell_error};
+
+// Room for the longest path that the system takes.
+pub(crate) const PATH: usize = 4096;
 
 // Linux's numbers of errors: no such file, a path that is too long, bytes that are no text.
 const ENOENT: i32 = 2;
@@ -32,14 +34,22 @@ pub(crate) fn path_text(path: &[u8]) -> io::Result<&str>
     ensures text { IfOk result (λ text. text.now ≡ path.now) }
     ensures no_text { IfErr result (λ error. raw_os_error error ≡ Some (pos 84)) }
 {
-    match from_utf8(path) {
-        Ok(text) => Ok(text),
-        Err(_) => Err(Error::from_raw_os_error(EILSEQ)),
-    }
+    from_utf8(path).map_err(|_| Error::from_raw_os_error(EILSEQ))
 }
 
 // Tells what failed, and why.
 pub(crate) fn failed<E: Write>(err: &mut E, what: &[u8], error: Error) {
-    let _ = write_all(err, b"standin: ");
+    put(err, b"standin: ");
     let _ = tell_error(err, what, error);
+}
+
+// Tells what failed, where something did, and answers whether nothing did.
+pub(crate) fn went<E: Write>(err: &mut E, what: &[u8], done: io::Result<()>) -> bool {
+    match done {
+        Ok(()) => true,
+        Err(error) => {
+            failed(err, what, error);
+            false
+        }
+    }
 }

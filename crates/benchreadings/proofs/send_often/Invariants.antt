@@ -1,9 +1,6 @@
--- The count is at most the number of turns.
-use Rattle.std.proofs.Common.{◌≡◌, ◌≤◌, ◌-◌, length}
+-- No more lines are accepted than were sent.
+use Rattle.std.proofs.Common.{◌≤◌}
 use Rattle.benchreadings.proofs.send_often.Given as goal
 
-abbrev pub invariant-loop-i : goal.invariant-loop-i
-invariant-loop-i l = (length l.image ≡ length l.initial.image) × (l.i ≤ 64) × (l.accepted ≤ l.i)
-
-abbrev pub decreases-loop-i : goal.decreases-loop-i
-decreases-loop-i l = 64 - l.i
+abbrev pub invariant-loop : goal.invariant-loop
+invariant-loop l = l.accepted ≤ l.counter

@@ -11,10 +11,10 @@ whole l = sym (take_all (length l) l (le_refl _))
 pub returns-in_err-write_all-clause-start : goal.returns-in_err-write_all-clause-start
 returns-in_err-write_all-clause-start g c =
     let s = c.write_all.ensures.start in
-    (record { blocks = []; told = take s.0 (take c.args.m c.args.text.now) }, (s.0, 0, refl, refl, inr refl), (s.1, Appends-nil _))
+    (record { blocks = []; told = take s.0 (c.args.text.now) }, (s.0, 0, refl, refl, inr refl), (s.1, Appends-nil _))
 
 pub returns-clause-start : goal.returns-clause-start
 returns-clause-start g c =
     let s = c.write_all-2.ensures.start in
-    let told = take c.args.m c.args.text.now in
-    (record { blocks = take s.0 (take c.args.n c.args.out.now); told = told }, (length told, s.0, whole told, refl, inl refl), (c.in_ok-write_all.ensures.whole, s.1))
+    let told = c.args.text.now in
+    (record { blocks = take s.0 (c.args.block.now); told = told }, (length told, s.0, whole told, refl, inl refl), (c.in_ok-write_all.ensures.whole, s.1))

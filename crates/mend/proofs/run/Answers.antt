@@ -1,51 +1,39 @@
--- It stands where the listing's bytes so far lead, and what they put out is written.
-use Rattle.std.proofs.Common.{ap, sym, replicate}
-use borrow.Author.Tests.{not-false, not-true}
+-- The mender begins at the listing's start, and what it wrote is what is put out for the listing.
+use Rattle.std.proofs.Common.{rules, [], ap, sym, replicate}
+use Rattle.files.proofs.Taking.{on_ok_too, on_err_too, on_either}
 use Rattle.mend.specs.declared.turns.Progress.{Progress}
-use Rattle.mend.specs.Turns.{begun, standing}
-use Rattle.mend.proofs.Failing.{on_err}
-use Rattle.mend.proofs.Reading.{kept_of, reading_start, reading_next, reading_end, reading_broken, whole_starts, broken_starts}
+use Rattle.mend.specs.Turns.{begun, after_bytes, standing}
+use Rattle.mend.proofs.Laws.{whole_written, broken_written, whole_starts, broken_starts}
 use Rattle.mend.proofs.run.Goals as goal
 
-pub loop-init : goal.loop-init
+pub feed_file-requires : goal.feed_file-requires
+unfolding begun after_bytes
+feed_file-requires g c = ([], ap (λ (p : Progress). standing (replicate 800 0) p (replicate 771 0) (replicate 3920 0)) (sym c.start.ensures))
+
+pub returns-clause-whole : goal.returns-clause-whole
 unfolding begun
-loop-init g c =
-    reading_start _ _ _ _ _ (ap (λ (p : Progress). standing (replicate 800 0) p (replicate 771 0) (replicate 3920 0)) (sym c.start-progress.ensures))
-
-pub turn-requires : goal.turn-requires
-turn-requires g c = (c.loop.invariant.file, c.loop.invariant.led)
-
-pub returns-in_err-next-clause-broken : goal.returns-in_err-next-clause-broken
-returns-in_err-next-clause-broken g c = on_err _ (reading_broken _ _ _ _ _ _ _ _ c.loop.invariant _ _ c.in_err-next.ensures.broken)
-
-pub returns-in_err-next-clause-told : goal.returns-in_err-next-clause-told
-returns-in_err-next-clause-told g c =
-    (broken_starts _ _ _ _ _ _ (reading_broken _ _ _ _ _ _ _ _ c.loop.invariant _ _ c.in_err-next.ensures.broken)).0
-
-pub returns-in_err-next-clause-blocks : goal.returns-in_err-next-clause-blocks
-returns-in_err-next-clause-blocks g c =
-    (broken_starts _ _ _ _ _ _ (reading_broken _ _ _ _ _ _ _ _ c.loop.invariant _ _ c.in_err-next.ensures.broken)).1
-
-pub returns-then-not-next-clause-whole : goal.returns-then-not-next-clause-whole
-returns-then-not-next-clause-whole g c =
-    reading_end _ _ _ _ _ _ _ _ c.loop.invariant _ _ _ (c.in_ok-next.ensures.ends (not-true c.in_ok-next.next.on c.if-not-next.true))
-
-pub returns-then-not-next-clause-told : goal.returns-then-not-next-clause-told
-returns-then-not-next-clause-told g c =
-    (whole_starts _ _ _ _ _ _ (reading_end _ _ _ _ _ _ _ _ c.loop.invariant _ _ _ (c.in_ok-next.ensures.ends (not-true c.in_ok-next.next.on c.if-not-next.true)))).0
-
-pub returns-then-not-next-clause-blocks : goal.returns-then-not-next-clause-blocks
-returns-then-not-next-clause-blocks g c =
-    (whole_starts _ _ _ _ _ _ (reading_end _ _ _ _ _ _ _ _ c.loop.invariant _ _ _ (c.in_ok-next.ensures.ends (not-true c.in_ok-next.next.on c.if-not-next.true)))).1
-
-pub loop-preserved : goal.loop-preserved
-loop-preserved g c = reading_next _ _ _ _ _ _ _ _ c.loop.invariant _ _ _ _ (c.in_ok-next.ensures.further (not-false c.in_ok-next.next.on c.if-not-next.false))
+returns-clause-whole g c =
+    let begins = ap (λ (p : Progress). standing (replicate 800 0) p (replicate 771 0) (replicate 3920 0)) c.start.ensures in
+    let all = on_ok_too c.feed_file.result (whole_written _ _ _ _ _ _ _ begins) c.feed_file.ensures.whole in search rules
 
 pub returns-clause-broken : goal.returns-clause-broken
-returns-clause-broken g c = reading_broken _ _ _ _ _ _ _ _ c.loop.invariant _ _ (kept_of c.args.family _ _ _ _)
+unfolding begun
+returns-clause-broken g c =
+    let begins = ap (λ (p : Progress). standing (replicate 800 0) p (replicate 771 0) (replicate 3920 0)) c.start.ensures in
+    let all = on_err_too c.feed_file.result (broken_written _ _ _ _ _ _ _ begins) c.feed_file.ensures.breaks in search rules
 
 pub returns-clause-told : goal.returns-clause-told
-returns-clause-told g c = (broken_starts _ _ _ _ _ _ (reading_broken _ _ _ _ _ _ _ _ c.loop.invariant _ _ (kept_of c.args.family _ _ _ _))).0
+unfolding begun
+returns-clause-told g c =
+    let begins = ap (λ (p : Progress). standing (replicate 800 0) p (replicate 771 0) (replicate 3920 0)) c.start.ensures in
+    let all = on_either c.feed_file.result c.feed_file.ensures.whole c.feed_file.ensures.breaks
+    (λ p. (whole_starts _ _ _ _ _ _ (whole_written _ _ _ _ _ _ _ begins p)).0)
+    (λ p. (broken_starts _ _ _ _ _ _ (broken_written _ _ _ _ _ _ _ begins p)).0) in search rules
 
 pub returns-clause-blocks : goal.returns-clause-blocks
-returns-clause-blocks g c = (broken_starts _ _ _ _ _ _ (reading_broken _ _ _ _ _ _ _ _ c.loop.invariant _ _ (kept_of c.args.family _ _ _ _))).1
+unfolding begun
+returns-clause-blocks g c =
+    let begins = ap (λ (p : Progress). standing (replicate 800 0) p (replicate 771 0) (replicate 3920 0)) c.start.ensures in
+    let all = on_either c.feed_file.result c.feed_file.ensures.whole c.feed_file.ensures.breaks
+    (λ p. (whole_starts _ _ _ _ _ _ (whole_written _ _ _ _ _ _ _ begins p)).1)
+    (λ p. (broken_starts _ _ _ _ _ _ (broken_written _ _ _ _ _ _ _ begins p)).1) in search rules

@@ -1,29 +1,25 @@
--- It stands where the file's bytes so far lead, and what they put out is written.
-use Rattle.std.proofs.Common.{ap, sym, replicate}
-use borrow.Author.Tests.{not-false, not-true}
+-- The printer begins at the file's start, and what it wrote is what is printed of the file.
+use Rattle.std.proofs.Common.{rules, [], ap, sym, replicate}
+use Rattle.files.proofs.Taking.{on_ok_too, on_either}
 use Rattle.reading.specs.declared.turns.Progress.{Progress}
-use Rattle.reading.specs.Turns.{begun, standing_at}
-use Rattle.reading.proofs.Reading.{reading_start, reading_next, reading_end, reading_failed, reading_cut}
+use Rattle.reading.specs.Turns.{begun, after_bytes, standing_at}
+use Rattle.reading.proofs.Laws.{whole_written, start_written, whole_started}
 use Rattle.reading.proofs.run.Goals as goal
 
-pub loop-init : goal.loop-init
+pub feed_file-requires : goal.feed_file-requires
+unfolding begun after_bytes
+feed_file-requires g c = ([], ap (λ (p : Progress). standing_at (replicate 800 0) p (replicate 5367 0)) (sym c.start.ensures))
+
+pub returns-clause-whole : goal.returns-clause-whole
 unfolding begun
-loop-init g c = reading_start _ _ _ _ (ap (λ (p : Progress). standing_at (replicate 800 0) p (replicate 5367 0)) (sym c.start-progress.ensures))
-
-pub turn-requires : goal.turn-requires
-turn-requires g c = (c.loop.invariant.file, c.loop.invariant.led)
-
-pub returns-in_err-next-clause-start : goal.returns-in_err-next-clause-start
-returns-in_err-next-clause-start g c = reading_failed _ _ _ _ _ _ c.loop.invariant _ c.turn.ensures.start
-
-pub returns-then-not-next-clause-whole : goal.returns-then-not-next-clause-whole
-returns-then-not-next-clause-whole g c = reading_end _ _ _ _ _ _ c.loop.invariant _ _ (c.in_ok-next.ensures.ends (not-true c.in_ok-next.next.on c.if-not-next.true))
-
-pub returns-then-not-next-clause-start : goal.returns-then-not-next-clause-start
-returns-then-not-next-clause-start g c = reading_failed _ _ _ _ _ _ c.loop.invariant _ c.turn.ensures.start
-
-pub loop-preserved : goal.loop-preserved
-loop-preserved g c = reading_next _ _ _ _ _ _ c.loop.invariant _ _ _ (c.in_ok-next.ensures.further (not-false c.in_ok-next.next.on c.if-not-next.false))
+returns-clause-whole g c =
+    let begins = ap (λ (p : Progress). standing_at (replicate 800 0) p (replicate 5367 0)) c.start.ensures in
+    let all = on_ok_too c.feed_file.result (whole_written _ _ _ _ _ begins) c.feed_file.ensures.whole in search rules
 
 pub returns-clause-start : goal.returns-clause-start
-returns-clause-start g c = reading_cut _ _ _ _ _ _ c.loop.invariant
+unfolding begun
+returns-clause-start g c =
+    let begins = ap (λ (p : Progress). standing_at (replicate 800 0) p (replicate 5367 0)) c.start.ensures in
+    let all = on_either c.feed_file.result c.feed_file.ensures.whole c.feed_file.ensures.breaks
+    (λ p. whole_started _ _ _ _ (whole_written _ _ _ _ _ begins p))
+    (λ p. start_written _ _ _ _ _ begins p) in search rules

@@ -1,0 +1,26 @@
+-- A byte is fed, and what it hands over is written.
+use Rattle.files.proofs.Taking.{on_ok, on_ok_too, on_err}
+use Rattle.mend.proofs.Turning.{reached_kept, reached_next, byte_due}
+use Rattle.mend.proofs.Laws.{part_byte, start_byte}
+use Rattle.mend.proofs.MenderSink.feed.Goals as goal
+
+pub feed-turn-requires : goal.feed-turn-requires
+feed-turn-requires g c = let s = c.args.self.now in reached_kept s.family s.room s.progress s.out s.text c.requires
+
+pub print-requires : goal.print-requires
+print-requires g c = let s = c.args.self.now in byte_due s.family s.room s.progress s.out s.text c.requires _ _ _ _ _ c.feed-turn.ensures
+
+pub returns-clause-stands : goal.returns-clause-stands
+returns-clause-stands g c =
+    let s = c.args.self.now in
+    on_ok c.print.result (reached_next s.family s.room s.progress s.out s.text c.requires _ _ _ _ _ c.feed-turn.ensures)
+
+pub returns-clause-takes : goal.returns-clause-takes
+returns-clause-takes g c =
+    let s = c.args.self.now in
+    on_ok_too c.print.result (part_byte s.family s.room s.progress s.out s.text c.args.b _ _ _ _ 0 0 0 0 _ _ _ _ c.feed-turn.ensures) c.print.ensures.whole
+
+pub returns-clause-breaks : goal.returns-clause-breaks
+returns-clause-breaks g c =
+    let s = c.args.self.now in
+    on_err c.print.result (start_byte s.family s.room s.progress s.out s.text c.args.b _ _ _ _ 0 0 0 0 _ _ _ _ c.feed-turn.ensures c.print.ensures.start)
