@@ -73,11 +73,22 @@ class Crate:
 
     def __init__(self, root, crate):
         self.functions, self.constants, self.items = {}, {}, {}
+        texts, homes = {}, {}
         for path in sorted(glob.glob(os.path.join(root, "crates", crate, "src", "*.rt"))):
             module = os.path.basename(path)[:-3]
-            text = open(path, encoding="utf-8").read()
+            text = texts[module] = open(path, encoding="utf-8").read()
+            prefix = crate if module in ("lib", "main") else f"{crate}::{module}"
+            homes.update((name, f"{prefix}::{name}") for name in re.findall(r"^(?:pub(?:\([a-z]+\))? )?(?:struct|enum) (\w+)", text, re.M))
+        for module, text in texts.items():
             prefix = crate if module in ("lib", "main") else f"{crate}::{module}"
             spans = []
+            for block in re.finditer(r"^impl(?:<[^>]*>)? (?:(\w+)(<[^>]*>)? for )?(\w+)(?:<[^>]*>)? \{\n.*?^\}", text, re.M | re.S):
+                # of a type's own methods the name is TYPE::METHOD, of a trait's TYPE and the trait with its arguments in one, wherever the type's module is
+                owner = homes.get(block.group(3), f"{prefix}::{block.group(3)}") + (block.group(1) or "") + re.sub(r"\W", "", block.group(2) or "")
+                for m in re.finditer(r"^    (?:pub(?:\([a-z]+\))? )?fn (\w+)", block.group(0), re.M):
+                    start = block.start() + m.start()
+                    spans.append((start, text.index("\n    }", start) + 6, f"{owner}::{m.group(1)}"))
+                    self.functions[spans[-1][2]] = text[spans[-1][0] : spans[-1][1]]
             for m in re.finditer(r"^(?:pub(?:\([a-z]+\))? )?(?:extern \"C\" )?fn (\w+)", text, re.M):
                 spans.append((m.start(), text.index("\n}", m.start()) + 2, f"{prefix}::{m.group(1)}"))
                 self.functions[spans[-1][2]] = text[spans[-1][0] : spans[-1][1]]
