@@ -30,6 +30,9 @@ within_bounds low high b e =
 pub bounds_within : (low high b : ℕ) → low ≤ b → b ≤ high → within low high b ≡ true
 bounds_within low high b hl hh = rw (le-leb low b hl, le-leb b high hh)
 
+pub below_within : (low high b : ℕ) → b < low → within low high b ≡ false
+below_within low high b h = rw (lt-leb low b h)
+
 pub above_within : (low high b : ℕ) → low ≤ b → high < b → within low high b ≡ false
 above_within low high b hl hh = rw (le-leb low b hl, lt-leb b high hh)
 
@@ -85,6 +88,21 @@ run_most p (b ∷ s) = by (p b) (run_most p s)
     by : (t : Bool) → run_of p s ≤ length s → cond t (suc (run_of p s)) 0 ≤ suc (length s)
     by true h = omega arith
     by false h = omega arith
+
+pub run_here : (p : ℕ → Bool) (s : List ℕ) (i : ℕ) → i < length s → p (get_or s i 0) ≡ false → run_of p (drop i s) ≡ 0
+unfolding run_of
+run_here p s i h e = rw (drop-cons s i 0 h, e)
+
+-- what a byte at a place says of the run from there
+pub run_below : (low high : ℕ) (s : List ℕ) (i : ℕ) → i < length s → get_or s i 0 < low → run_of (within low high) (drop i s) ≡ 0
+run_below low high s i h below = run_here (within low high) s i h (below_within low high _ below)
+
+pub run_above : (low high : ℕ) (s : List ℕ) (i : ℕ) → i < length s → low ≤ get_or s i 0 → high < get_or s i 0 → run_of (within low high) (drop i s) ≡ 0
+run_above low high s i h from above = run_here (within low high) s i h (above_within low high _ from above)
+
+pub run_on : (low high : ℕ) (s : List ℕ) (i : ℕ) → i < length s → low ≤ get_or s i 0 → get_or s i 0 ≤ high
+    → i + run_of (within low high) (drop i s) ≡ i + 1 + run_of (within low high) (drop (i + 1) s)
+run_on low high s i h from to = run_more (within low high) s i h (bounds_within low high _ from to)
 
 -- it is the whole where every byte is so, and otherwise shorter
 

@@ -7,7 +7,8 @@ use lib.ListN.{length}
 use Rattle.figures.specs.Promises.{Determined}
 use Rattle.figures.specs.Bytes.{within, every, run_of, is_other, laid, starts_with, same_bytes}
 use Rattle.figures.specs.Decimal.{is_digit, number_in, digits_of, decimal_of}
-use Rattle.figures.specs.Rooms.{put_at, Puts}
+use Rattle.figures.specs.Rooms.{put_at, Puts, Fills}
+use Rattle.figures.specs.declared.rooms.Room.{Room}
 use Rattle.figures.specs.Pointing.{shown, caret_text}
 use Rattle.std.specs.Prelude.{Option}
 
@@ -71,3 +72,16 @@ put_shown_determined i = put_determined (i.0, i.1, map shown i.2)
 
 pub put_caret_determined : Determined (List ℕ × ℕ × ℕ) (ℕ × List ℕ) (λ i o. Puts i.0 i.1 (caret_text i.2) o.0 o.1)
 put_caret_determined i = put_determined (i.0, i.1, caret_text i.2)
+
+-- all that there is of a room: its place, its bytes, and which lent ones they are
+abbrev pub Alike : Room → Room → Type 0
+Alike a b = (a.at ≡ b.at) × ((a.bytes.now ≡ b.bytes.now) × (a.bytes.ghost_name ≡ b.bytes.ghost_name))
+
+-- so of each of a `Room`'s methods, whatever it puts
+pub fills_determined : (old : Room) (text : List ℕ) (a b : Room) → Fills old text a → Fills old text b → Alike a b
+fills_determined old text a b p q = (p.puts.0 ∙ sym q.puts.0, (p.puts.1 ∙ sym q.puts.1, p.same ∙ sym q.same))
+
+-- the lent bytes go in
+pub new_determined : (s : List ℕ) (n : ℕ) (a b : Room) → (a.bytes.now ≡ s) × ((a.at ≡ 0) × (a.bytes.ghost_name ≡ n))
+    → (b.bytes.now ≡ s) × ((b.at ≡ 0) × (b.bytes.ghost_name ≡ n)) → Alike a b
+new_determined s n a b p q = (p.1.0 ∙ sym q.1.0, (p.0 ∙ sym q.0, p.1.1 ∙ sym q.1.1))

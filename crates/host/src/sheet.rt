@@ -4,16 +4,17 @@ ghost use Rattle.sheets.specs.declared.forms.Form.TheVariants.{One, Two};
 ghost use Rattle.host.specs.Machine.{told_sheet, WritesSheetC, LoadsC, MovesC};
 
 use crate::answers::pack;
-use sheets::answers::{Sheeted, sheet_number, sheet_tells};
+use sheets::answers::{Answered, sheet_number, sheet_tells};
 use sheets::forms::Form;
 use sheets::loading::load;
 use sheets::moving::move_from;
 use sheets::writing::write;
 
 // Gives the answer of a sheet.
-pub fn told_sheet(answer: Sheeted) -> u64
-    ensures { result ≡ told_sheet answer }
+pub fn told_sheet<A: Answered>(answer: A) -> u64
+    ensures { result ≡ told_sheet (A.sheeted answer) }
 {
+    let answer = answer.sheeted();
     pack(sheet_number(answer), sheet_tells(answer))
 }
 
@@ -45,7 +46,7 @@ pub extern "C" fn gsi_sheet_write_2(image: &[u8], sheet: &mut [u8]) -> u64
 pub extern "C" fn gsi_sheet_load(image: &mut [u8], sheet: &[u8]) -> u64
     ensures { LoadsC image.old sheet.now result image.new }
 {
-    told_sheet(load(image, sheet).map(|()| 0))
+    told_sheet(load(image, sheet))
 }
 
 fn move_told(form: Form, sheet: &[u8], moved: &mut [u8]) -> u64

@@ -62,9 +62,10 @@ pub fn settings_of(series: Series) -> usize
     }
 }
 
-// Finds the place of the setting of that number.
+// Finds a place as `setting_at` does, in the table of a series that the compiler knows.
+#[inline(always)]
 #[tactic(auto, using(crate::proofs::Ranges::seek_here, crate::proofs::Ranges::seek_further, crate::proofs::Ranges::seek_none))]
-pub fn setting_at(series: Series, number: u16) -> Option<usize>
+fn seek(series: Series, number: u16) -> Option<usize>
     ensures { result ≡ setting_place series number }
 {
     for i in 0..settings_of(series) {
@@ -73,6 +74,16 @@ pub fn setting_at(series: Series, number: u16) -> Option<usize>
         }
     }
     None
+}
+
+// Finds the place of the setting of that number. The series is named, here and below, so that the compiler knows the table: otherwise a line takes a third longer.
+pub fn setting_at(series: Series, number: u16) -> Option<usize>
+    ensures { result ≡ setting_place series number }
+{
+    match series {
+        Series::Tps100 => seek(Series::Tps100, number),
+        Series::Tps300 => seek(Series::Tps300, number),
+    }
 }
 
 // Gives the parameters of the factory, with noughts past the series' last.
@@ -101,9 +112,10 @@ pub fn in_range(row: Row, parameter: u64) -> bool
         && !is_gap(row.gaps, parameter)
 }
 
-// Tells whether there is a byte for each setting of the series, and each is a parameter that its setting has.
+// Judges parameters as `in_ranges` does, by the table of a series that the compiler knows.
+#[inline(always)]
 #[tactic(auto, using(crate::proofs::Ranges::ranges_else, crate::proofs::Ranges::ranges_off, crate::proofs::Ranges::ranges_on, crate::proofs::Ranges::ranges_done))]
-pub fn in_ranges(series: Series, s: &[u8]) -> bool
+fn each_in_range(series: Series, s: &[u8]) -> bool
     ensures { result ≡ in_ranges (rows_of series) s.now }
 {
     if s.len() != settings_of(series) {
@@ -115,4 +127,14 @@ pub fn in_ranges(series: Series, s: &[u8]) -> bool
         }
     }
     true
+}
+
+// Tells whether there is a byte for each setting of the series, and each is a parameter that its setting has.
+pub fn in_ranges(series: Series, s: &[u8]) -> bool
+    ensures { result ≡ in_ranges (rows_of series) s.now }
+{
+    match series {
+        Series::Tps100 => each_in_range(Series::Tps100, s),
+        Series::Tps300 => each_in_range(Series::Tps300, s),
+    }
 }

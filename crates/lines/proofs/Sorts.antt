@@ -53,6 +53,14 @@ accepted_number v = by (case_of v)
         go (Ok u) q = absurd (clash (cc))
         go (Err r) q = rw (q, ne_eqb n 0 (omega arith))
 
+pub verdict_small : (v : Verdict) → verdict_number v ≤ 39
+verdict_small v = by (case_of v)
+  where
+    by : Case v → verdict_number v ≤ 39
+    by (is_accepted_lem e) = rw e (omega arith)
+    by (is_word x at e) = rw e (omega arith)
+    by (is_number n e low high) = rw e high
+
 -- what holds of each fault with its byte, and of nothing told, holds of what a verdict tells
 pub of_word_lem : {A : Type 0} (of : Fault → ℕ → A) (other : A) (P : A → Type 0) (v : Verdict) → ((x : Fault) (at : ℕ) → v ≡ Err (Word x at) → P (of x at)) → P other
     → P (of_word of other v)

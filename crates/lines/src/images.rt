@@ -2,14 +2,16 @@
 ghost use Rattle.std.specs.Prelude.{◌≡◌, ◌<◌, get_or};
 ghost use Rattle.instrument.specs.Settings.{settings_n};
 ghost use Rattle.instrument.specs.Values.{values_n};
-ghost use Rattle.state.specs.Entries.{entries_n, value_held, blank_entry};
+ghost use Rattle.state.specs.Entries.{value_held};
 ghost use Rattle.state.specs.Image.{state_in};
 ghost use Rattle.state.specs.Keeping.{Imaged};
 
 use instrument::settings::Series;
 use instrument::values::Kept;
-use state::entries::Entry;
-use state::image::{count_in, entry_at, parameter_in, value_in};
+use state::entries::State;
+use state::image::{
+    COUNT_AT, ENTRIES_AT, REST, count_in, parameter_in, state_of, value_in, values_at,
+};
 
 // The bytes, which are judged, and their series.
 #[derive(Clone, Copy)]
@@ -46,12 +48,21 @@ impl<'a> Image<'a> {
         value_in(self.series, place, self.bytes)
     }
 
-    // Gives an entry.
-    #[tactic(auto, using(state::proofs::Places::entry_read))]
-    pub(crate) fn entry(self, n: usize) -> Entry
-        requires { n < entries_n }
-        ensures { result ≡ get_or (state_in self.entry.bytes.now).undo n blank_entry }
+    // Takes the state out of the image.
+    #[tactic(auto, using(state::proofs::Places::state_read))]
+    pub(crate) fn state(self) -> State
+        ensures { result ≡ state_in self.entry.bytes.now }
     {
-        entry_at(self.series, n, self.bytes)
+        let values = values_at(self.series);
+        let count = values + COUNT_AT;
+        let entries = values + ENTRIES_AT;
+        let end = values + REST;
+        state_of(
+            self.series,
+            &self.bytes[1..values],
+            &self.bytes[values..count],
+            &self.bytes[entries..end],
+            self.count(),
+        )
     }
 }

@@ -1,4 +1,4 @@
-// What an accepted SET, PUT or UNDO does: what it alters is laid down in the image, with the entry that keeps what stood there.
+// What an accepted SET, PUT or UNDO does: the state is taken out of the image and altered, and what is altered is laid down.
 ghost use Rattle.std.specs.Prelude.{◌≡◌, ◌<◌, Ok};
 ghost use Rattle.state.specs.Entries.{entries_n};
 ghost use Rattle.state.specs.Image.{image_of, state_in};
@@ -27,22 +27,20 @@ fn set(series: Series, place: usize, parameter: u8, image: &mut [u8])
         series,
         bytes: image,
     };
-    let n = lent.count();
-    let former = Former {
-        parameter: lent.parameter(place),
-        kept: None,
-    };
-    put_parameter(place, parameter, image);
-    put_entry(
-        series,
-        n,
-        Entry {
-            item: Item::Setting(place as u8),
-            former,
+    let mut s = lent.state();
+    let n = s.count;
+    s.undo[n] = Entry {
+        item: Item::Setting(place as u8),
+        former: Former {
+            parameter: s.settings[place],
+            kept: None,
         },
-        image,
-    );
-    put_count(series, n + 1, image);
+    };
+    s.settings[place] = parameter;
+    s.count = n + 1;
+    put_parameter(place, s.settings[place], image);
+    put_entry(series, n, s.undo[n], image);
+    put_count(series, s.count, image);
 }
 
 // Stores the value, and keeps the former one in an entry.
@@ -54,22 +52,20 @@ fn put(series: Series, place: usize, kept: Kept, image: &mut [u8])
         series,
         bytes: image,
     };
-    let n = lent.count();
-    let former = Former {
-        parameter: 0,
-        kept: lent.value(place),
-    };
-    put_value(series, place, kept, image);
-    put_entry(
-        series,
-        n,
-        Entry {
-            item: Item::Stored(place as u8),
-            former,
+    let mut s = lent.state();
+    let n = s.count;
+    s.undo[n] = Entry {
+        item: Item::Stored(place as u8),
+        former: Former {
+            parameter: 0,
+            kept: s.values[place],
         },
-        image,
-    );
-    put_count(series, n + 1, image);
+    };
+    s.values[place] = kept;
+    s.count = n + 1;
+    put_value(series, place, s.values[place], image);
+    put_entry(series, n, s.undo[n], image);
+    put_count(series, s.count, image);
 }
 
 // Lays an item's former content down again.
@@ -92,11 +88,14 @@ fn undo(series: Series, image: &mut [u8])
         series,
         bytes: image,
     };
-    let n = lent.count() - 1;
-    let entry = lent.entry(n);
+    let mut s = lent.state();
+    let n = s.count - 1;
+    let entry = s.undo[n];
+    s.undo[n] = blank_entry();
+    s.count = n;
     put_back(series, entry.item, entry.former, image);
-    put_entry(series, n, blank_entry(), image);
-    put_count(series, n, image);
+    put_entry(series, n, s.undo[n], image);
+    put_count(series, s.count, image);
 }
 
 fn run_set(series: Series, number: u64, parameter: u64, image: &mut [u8])

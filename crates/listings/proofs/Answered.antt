@@ -1,11 +1,11 @@
 -- The outcome of mending by what the walk gave and what the reader answered of it.
 use Prim.Native.Nat.{ℕ, ◌≤◌}
-use mathlib.Core.Path.{◌≡◌, sym, ap, ◌∙◌}
+use mathlib.Core.Path.{◌≡◌, refl, sym, ap, ◌∙◌}
 use mathlib.Core.List.{List}
 use native.Mathlib.Omega.{arith}
-use lib.ListN.{length, take, replicate}
-use lib.Seq.{length-take-le}
-use Rattle.figures.proofs.Bytes.{laid_start}
+use lib.ListN.{length, take, drop, replicate}
+use lib.Seq.{length-take-le, drop_at}
+use Rattle.figures.proofs.Bytes.{laid_start, laid_fits}
 use Rattle.units.specs.declared.kinds.Family.{Family}
 use Rattle.blocks.specs.Judging.{judged}
 use Rattle.blocks.specs.Judging.{Answer}
@@ -26,6 +26,13 @@ module _ (s : List ℕ) (walked : Walked) (bytes : List ℕ) (w : Walks s (repli
 
   pub walked_fits : walked.bytes ≤ length bytes
   walked_fits = omega (arith, walked_most, ap length w.1 ∙ room_length (mended s).bytes)
+
+  pub walked_past : (length bytes ≡ 771) × (drop walked.bytes bytes ≡ drop walked.bytes (replicate 771 0))
+  walked_past =
+      let m = (mended s).bytes in
+      let room : List ℕ = replicate 771 0 in
+      let fits : length m ≤ length room = omega (arith, mended_most s, room_size) in
+      (ap length w.1 ∙ room_length m, rw (w.1, size, laid_fits m room fits) (drop_at m (drop (length m) room) (length m) refl))
 
   pub walked_size : walked.bytes ≡ length (take walked.bytes bytes)
   walked_size = sym (length-take-le walked.bytes bytes walked_fits)

@@ -1,3 +1,4 @@
+pub mod Added
 pub mod Seen
 pub mod Turns
 pub mod Sizes

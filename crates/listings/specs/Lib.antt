@@ -3,3 +3,4 @@ pub mod Mending
 pub mod Outcome
 pub mod Telling
 pub mod Keeping
+pub mod Kept

@@ -21,22 +21,28 @@ pub struct Edit {
     pub kind: u32,
 }
 
-// A block's edits, first to last.
-#[derive(Drop)]
+// A block's edits, first to last; those past the count are noughts.
+#[derive(Clone, Copy)]
 pub struct Edits {
     list: [Edit; EDITS],
     n: usize,
 }
 
 impl Model for Edits {
-    ghost use Rattle.std.specs.Prelude.{◌≤◌, List, take};
+    ghost use Rattle.std.specs.Prelude.{◌≡◌, ◌≤◌, ◌++◌, List, length, take, drop};
+    ghost use Rattle.listings.specs.Edits.{no_edits};
     ghost use Rattle.listings.specs.declared.edits.Edit.{Edit};
+    ghost use Rattle.listings.specs.Kept.{kept_long, given_back};
 
     ghost Value = { List Edit };
 
     ghost view = { λ e. take e.n e.list };
 
-    ghost invariant = { λ e. e.n ≤ 34 };
+    ghost invariant = { λ e. (e.n ≤ 34) × ((length e.list ≡ 34) × (drop e.n e.list ≡ drop e.n no_edits)) };
+
+    ghost inverse = { λ es. record { list = es ++ drop (length es) no_edits; n = length es } };
+
+    ghost inverse_ok = { λ e h i. record { list = given_back e.n 34 e.list no_edits h.0 h.1.0 h.1.1 i; n = kept_long e.n 34 e.list h.0 h.1.0 i } };
 }
 
 impl Edits {
@@ -50,14 +56,18 @@ impl Edits {
         }
     }
 
-    // Adds an edit if it is due. One that isn't is written past the count, so that this decides no branch.
+    // Adds an edit if it is due. One that isn't is kept as the noughts that stand past the count, so that this decides no branch.
     pub(crate) fn add_if(&mut self, due: bool, place: usize, kind: u32)
         requires { (length self.old < 34) × (place ≤ 800) }
         ensures { self.new ≡ self.old ++ edits_if due place kind }
     {
-        self.list[self.n] = Edit {
-            place: place as u32,
-            kind,
+        self.list[self.n] = if due {
+            Edit {
+                place: place as u32,
+                kind,
+            }
+        } else {
+            Edit { place: 0, kind: 0 }
         };
         self.n += usize::from(due);
     }

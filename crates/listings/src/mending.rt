@@ -3,7 +3,7 @@ ghost use Rattle.std.specs.Prelude.{◌≡◌};
 ghost use Rattle.listings.specs.Mending.{mended};
 ghost use Rattle.listings.specs.Keeping.{MendsBy};
 
-use crate::unjudged::Unjudged;
+pub use crate::unjudged::Unjudged;
 use crate::walking::{Walked, walk};
 use blocks::answers::Refusal;
 use blocks::judging::answer_of;

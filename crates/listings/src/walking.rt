@@ -13,7 +13,7 @@ use words::reading::width_of;
 const WORDS: usize = 32;
 
 // How many bytes were put, and the edits.
-#[derive(Drop)]
+#[derive(Clone, Copy)]
 pub struct Walked {
     pub bytes: usize,
     pub edits: Edits,

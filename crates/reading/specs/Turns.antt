@@ -16,6 +16,10 @@ is_taken f piece = is_read (judged f piece 32).answer
 abbrev pub started : Progress
 started = record { mark = Open; kept = 0; place = 0; next = 0; blocks = 0; accepted = 0; refused = 0 }
 
+-- how far the file is read, and how many bytes of report there are
+abbrev pub turn_of : Progress → ℕ → Turn
+turn_of g n = record { progress = g; count = n }
+
 -- the piece's next byte comes in, and is kept where there is a place for it
 abbrev pub joined : ℕ → Progress → ℕ → Progress
 joined size g b = record {

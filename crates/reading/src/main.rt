@@ -53,15 +53,14 @@ impl<'a, W: Write> Sink for Printer<'a, W> {
     ghost Breaks = { λ s l t. PrintsStart (printing s.family s.room s.progress s.text s.writer.ghost_name (W.contents s.writer.now)) l (printing t.family t.room t.progress t.text t.writer.ghost_name (W.contents t.writer.now)) };
 
     fn feed(&mut self, b: u8) -> io::Result<()> {
-        let turn = feed(
+        let count = feed(
             self.family,
             &mut self.room,
-            self.progress,
+            &mut self.progress,
             b,
             &mut self.text,
         );
-        self.progress = turn.progress;
-        print(self.writer, self.family, &self.text[..turn.count])
+        print(self.writer, self.family, &self.text[..count])
     }
 
     fn close(&mut self) -> io::Result<()> {

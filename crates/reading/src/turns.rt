@@ -1,7 +1,7 @@
 // A file read byte by byte: the piece that comes in is kept, and reported when it has ended.
 ghost use Rattle.std.specs.Prelude.{◌≡◌, ◌∷◌, [], ◌≤◌, length};
 ghost use Rattle.figures.specs.Rooms.{put_at};
-ghost use Rattle.reading.specs.Turns.{started, joined, reported, told_text, Feeds, finished, finished_text, Closes};
+ghost use Rattle.reading.specs.Turns.{started, turn_of, joined, reported, told_text, Feeds, finished, finished_text, Closes};
 
 use figures::rooms::Room;
 use files::counting::more;
@@ -51,72 +51,56 @@ pub(crate) fn start() -> Progress
 }
 
 // Takes the piece's next byte.
-fn join(room: &mut [u8], progress: Progress, b: u8) -> Progress
-    ensures { (result ≡ joined (length room.old) progress b) × (room.new ≡ put_at room.old progress.kept (b ∷ [])) }
+fn join(room: &mut [u8], progress: &mut Progress, b: u8)
+    ensures { (progress.new ≡ joined (length room.old) progress.old b) × (room.new ≡ put_at room.old progress.old.kept (b ∷ [])) }
 {
     let mut kept = Room {
         bytes: room,
         at: progress.kept,
     };
     kept.put(&[b]);
-    Progress {
-        mark: after(progress.mark, b),
-        kept: kept.at,
-        next: more(progress.next),
-        ..progress
-    }
+    progress.kept = kept.at;
+    progress.mark = after(progress.mark, b);
+    progress.next = more(progress.next);
 }
 
 // Puts the report of the piece, which has ended.
-fn tell(family: Family, room: &[u8], progress: Progress, text: &mut [u8]) -> Turn
-    requires { progress.kept ≤ length room.now }
-    ensures { (result ≡ reported family room.now progress (length text.old)) × (text.new ≡ told_text family room.now progress text.old) }
+fn tell(family: Family, room: &[u8], progress: &mut Progress, text: &mut [u8]) -> usize
+    requires { progress.old.kept ≤ length room.now }
+    ensures { (turn_of progress.new result ≡ reported family room.now progress.old (length text.old)) × (text.new ≡ told_text family room.now progress.old text.old) }
 {
     let blocks = more(progress.blocks);
     let reported = report(family, blocks, progress.place, &room[..progress.kept], text);
-    let mut accepted = progress.accepted;
-    let mut refused = progress.refused;
     if reported.accepted {
-        accepted = more(accepted);
+        progress.accepted = more(progress.accepted);
     } else {
-        refused = more(refused);
+        progress.refused = more(progress.refused);
     }
-    Turn {
-        progress: Progress {
-            mark: Mark::Open,
-            kept: 0,
-            place: progress.next,
-            next: progress.next,
-            blocks,
-            accepted,
-            refused,
-        },
-        count: reported.count,
-    }
+    progress.mark = Mark::Open;
+    progress.kept = 0;
+    progress.place = progress.next;
+    progress.blocks = blocks;
+    reported.count
 }
 
 // Takes the next byte of the file. Where it starts a piece, the report of the one before is put.
 pub(crate) fn feed(
     family: Family,
     room: &mut [u8],
-    progress: Progress,
+    progress: &mut Progress,
     b: u8,
     text: &mut [u8],
-) -> Turn
-    requires { progress.kept ≤ length room.old }
-    ensures { Feeds family room.old progress b text.old result room.new text.new }
+) -> usize
+    requires { progress.old.kept ≤ length room.old }
+    ensures { Feeds family room.old progress.old b text.old (turn_of progress.new result) room.new text.new }
 {
     if joins(progress.mark, b) {
-        return Turn {
-            progress: join(room, progress, b),
-            count: 0,
-        };
+        join(room, progress, b);
+        return 0;
     }
-    let turn = tell(family, room, progress, text);
-    Turn {
-        progress: join(room, turn.progress, b),
-        ..turn
-    }
+    let n = tell(family, room, progress, text);
+    join(room, progress, b);
+    n
 }
 
 // Comes to the end of the file. Where that ends a piece, the report of the piece is put.
@@ -127,7 +111,12 @@ fn finish(family: Family, room: &[u8], progress: Progress, text: &mut [u8]) -> T
     if progress.kept == 0 {
         return Turn { progress, count: 0 };
     }
-    tell(family, room, progress, text)
+    let mut after = progress;
+    let count = tell(family, room, &mut after, text);
+    Turn {
+        progress: after,
+        count,
+    }
 }
 
 // Closes the file: puts the report of a last piece without CR and, after it, the last line.

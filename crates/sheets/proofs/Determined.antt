@@ -8,7 +8,7 @@ use lib.ListN.{length}
 use Rattle.figures.specs.Promises.{Determined}
 use Rattle.figures.specs.Bytes.{laid}
 use Rattle.figures.proofs.Determined.{by_equation, by_two}
-use Rattle.sheets.specs.Answers.{Sheeted, LoadAnswer, refusal_number, refusal_tells, sheet_number, sheet_tells}
+use Rattle.sheets.specs.Answers.{Sheeted, LoadAnswer, refusal_number, refusal_tells, sheet_number, sheet_tells, told_of_load}
 use Rattle.sheets.specs.Writing.{written_sheet, WritesSheet, series_named, moved_sheet, MovesSheet}
 use Rattle.sheets.specs.Loading.{form_in, loaded, Loads}
 use Rattle.sheets.specs.Playing.{printed, Prints}
@@ -27,6 +27,9 @@ sheet_number_determined = by_equation Sheeted ℕ sheet_number
 
 pub sheet_tells_determined : Determined Sheeted ℕ (λ i r. r ≡ sheet_tells i)
 sheet_tells_determined = by_equation Sheeted ℕ sheet_tells
+
+pub told_of_load_determined : Determined LoadAnswer Sheeted (λ i r. r ≡ told_of_load i)
+told_of_load_determined = by_equation LoadAnswer Sheeted told_of_load
 
 -- an image and a sheet go in; the answer and the image come out
 pub load_determined : Determined (List ℕ × List ℕ) (LoadAnswer × List ℕ) (λ i o. Loads i.0 i.1 o.0 o.1)

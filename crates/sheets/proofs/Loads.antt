@@ -418,3 +418,35 @@ module _ {k : Series} {image : List ℕ} (im : Imaged k image) (sheet : List ℕ
               ∙ ap (undo_laid k (entries_filled got) (length got)) (emptied one two e1 e2)
               ∙ undo_laid_lem k (padded p.settings) p.values (contents_right_lem f k sheet r.to read.came) got (undo_few f (contents_in f k sheet) sheet r.to)
               (replicate (entries_n - length got) blank_entry))
+
+-- the first form's returns, as the code comes to them: what stands after its lines is the first wrong line, and else the image is that of what they hold
+module _ (image sheet : List ℕ) (right : is_image image ≡ true) (one : form_in sheet ≡ One) where
+  abbrev k : Series
+  k = series_in image
+
+  im : Imaged k image
+  im = record { is = right; series = refl }
+
+  surplus : (at : ℕ) → (first_lines (form_in sheet) k sheet).came ≡ Ok at → (at ≡ length sheet → ⊥) → Loads image sheet (Err (Wrong at)) image
+  surplus at to past =
+      loads_wrong im sheet refl at refl
+      (undo_came (form_in sheet) k sheet at to (Err at) (follows_wrong one (contents_in (form_in sheet) k sheet) sheet at past))
+
+  pub surplus_told : (at : ℕ) → (first_lines (form_in sheet) k sheet).came ≡ Ok at → (at ≡ length sheet → ⊥)
+      → Err (Wrong at) ≡ (loaded image sheet).answer
+  surplus_told at to past = (surplus at to past).0
+
+  pub surplus_left : ((first_lines (form_in sheet) k sheet).came ≡ Ok (length sheet) → ⊥) → image ≡ (loaded image sheet).image
+  surplus_left past = by (first_lines (form_in sheet) k sheet).came refl
+    where
+      by : (m : Came) → (first_lines (form_in sheet) k sheet).came ≡ m → image ≡ (loaded image sheet).image
+      by (Err at) e = (loads_wrong im sheet refl at refl (first_wrong (form_in sheet) k sheet at e)).1
+      by (Ok at) e = (surplus at e (λ q. past (e ∙ ap (λ (n : ℕ). Ok n) q))).1
+
+  pub loads_first : (first_lines (form_in sheet) k sheet).came ≡ Ok (length sheet) → (last : List ℕ)
+      → let r = first_held (first_lines (form_in sheet) k sheet) (length sheet) in last ≡ cleared k (contents_laid k r.settings r.values image)
+      → Loads image sheet (Ok tt) last
+  loads_first to last e =
+      let p = first_lines (form_in sheet) k sheet in
+      let r = first_held p (length sheet) in
+      loads_one im sheet refl (first_as p) refl r (ap (first_to p) to) (contents_laid k r.settings r.values image) last refl e one refl

@@ -1,5 +1,7 @@
 // The file that --keep names: the state's sheet of the second form, on the disk before a reply goes out. A new file is written beside it, synced and renamed
 // over it, so that at any moment the file holds a whole sheet.
+ghost use Rattle.std.specs.Prelude.{◌≡◌, ◌≤◌, ◌⊎◌, ℕ, length, take, codes};
+
 use crate::paths::{PATH, failed, path_text, too_long, went};
 use sheets::forms::{Form, SHEET_MOST};
 use sheets::writing::write;
@@ -15,7 +17,9 @@ const NEW: &[u8] = b".new";
 const NAME: usize = PATH + NEW.len();
 
 // Gives the folder that the file lies in.
-fn folder(path: &[u8]) -> &[u8] {
+fn folder(path: &[u8]) -> &[u8]
+    ensures { (result.now ≡ codes ".") ⊎ ((n : ℕ) × ((n ≤ length path.now) × (result.now ≡ take n path.now))) }
+{
     match path.iter().rposition(|b| *b == b'/') {
         Some(slash) => &path[..slash + 1],
         None => b".",

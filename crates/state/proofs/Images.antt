@@ -74,6 +74,20 @@ entry_back e h = by e.item
     by (Setting i) = ap (entry_of (Setting i) e.former.parameter) back
     by (Stored i) = ap (entry_of (Stored i) e.former.parameter) back
 
+-- a value that was put has eight characters
+abbrev pub Eights : Kept → Type 0
+Eights None = Unit {0}
+Eights (Some p) = length p.eight ≡ 8
+
+-- so it, an entry and a state are given back by their bytes, whether they are any state's or not
+pub kept_whole : (k : Kept) → Eights k → (length (kept_bytes k) ≡ 11) × (kept_in (kept_bytes k) ≡ k)
+unfolding kept_bytes
+kept_whole None h = (refl, refl)
+kept_whole (Some p) h = (refl, ap (put_of p.unit p.minus) (eight_whole p.eight h))
+
+pub entry_whole : (e : Entry) → Eights e.former.kept → (length (entry_bytes e) ≡ 14) × (entry_in (entry_bytes e) ≡ e)
+entry_whole e h = (entry_long e, entry_back e (kept_whole e.former.kept h).1)
+
 -- each value of a state may be read again, and each entry that stands
 
 values_back_lem : (k : ℕ) (vs : List Kept) → values_right k vs ≡ true → (i : ℕ) → i < length vs → Back (get_or vs i None)
@@ -309,6 +323,16 @@ imaged s hs values undo rv re =
             count = (count_part h l v e lv le ∙ hl) i;
           }),
     )
+
+pub imaged_whole : (s : State) → Shaped s → ((i : ℕ) → i < length s.values → Eights (get_or s.values i None))
+    → ((i : ℕ) → i < length s.undo → Eights (get_or s.undo i blank_entry).former.kept)
+    → (length (image_of s) ≡ image_n s.series) × (state_in (image_of s) ≡ s)
+imaged_whole s hs vs es =
+    let values : values_in (values_bytes s.values) ≡ s.values =
+    rw hs.values_long at (rows_flat kept_bytes kept_in 11 kept_long s.values None (λ i lt. (kept_whole (get_or s.values i None) (vs i lt)).1)) in
+    let entries : entries_in (entries_bytes s.undo) ≡ s.undo =
+    rw hs.undo_long at (rows_flat entry_bytes entry_in 14 entry_long s.undo blank_entry (λ i lt. (entry_whole (get_or s.undo i blank_entry) (es i lt)).1)) in
+    imaged s hs s.values s.undo values entries
 
 pub image_long_of : (s : State) → Shaped s → length (image_of s) ≡ image_n s.series
 image_long_of s h = (imaged s h (values_in (values_bytes s.values)) (entries_in (entries_bytes s.undo)) refl refl).0

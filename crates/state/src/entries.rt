@@ -51,10 +51,21 @@ pub fn blank_entry() -> Entry
     }
 }
 
-// Tells whether a SET can leave the parameter at the place.
-pub(crate) fn settable(series: Series, place: usize, parameter: u8) -> bool
+// Judges a parameter as `settable` does, by the table of a series that the compiler knows.
+#[inline(always)]
+fn settable_in(series: Series, place: usize, parameter: u8) -> bool
     ensures { result ≡ settable series place parameter }
 {
     let row = row_at(series, place);
     place < settings_of(series) && !row.asked && in_range(row, u64::from(parameter))
+}
+
+// Tells whether a SET can leave the parameter at the place. The series is named so that the compiler knows the table.
+pub(crate) fn settable(series: Series, place: usize, parameter: u8) -> bool
+    ensures { result ≡ settable series place parameter }
+{
+    match series {
+        Series::Tps100 => settable_in(Series::Tps100, place, parameter),
+        Series::Tps300 => settable_in(Series::Tps300, place, parameter),
+    }
 }

@@ -1,12 +1,13 @@
 -- The promises of this crate's public functions determine what comes out.
 use mathlib.Core.Path.{◌≡◌, sym, ◌∙◌}
 use mathlib.Core.Bool.{Bool, cond}
+use mathlib.Core.List.{List}
 use Prim.Native.Nat.{ℕ, ◌≤◌}
 use Rattle.std.specs.Prelude.{Option}
 use Rattle.figures.specs.Promises.{Determined}
 use Rattle.figures.proofs.Determined.{by_equation}
 use Rattle.units.specs.Kinds.{Indexed, station_kind, kind_of, is_textual, named_by, index_at}
-use Rattle.units.specs.Information.{info_marks, info_right, first_wrong, lead_of, sign_byte, sign_at}
+use Rattle.units.specs.Information.{info_marks, info_marks_in, info_right, info_right_in, first_wrong, lead_of, sign_byte, sign_at}
 use Rattle.units.specs.Counts.{angle_at, angle_of, length_of, constant_of, value_at, first_of, second_of}
 use Rattle.units.specs.declared.kinds.Family.{Family}
 use Rattle.units.specs.declared.kinds.Kind.{Kind}
@@ -48,6 +49,16 @@ info_at_by i = first_wrong (info_marks i.0 i.1.0 i.1.1.0 i.1.1.1.0 i.1.1.1.1.0 i
 
 pub info_at_determined : Determined Information ℕ (λ i r. (r ≡ info_at_by i) × (r ≤ 3))
 info_at_determined i a b p q = p.0 ∙ sym q.0
+
+-- the same of the four bytes as a list, as the functions have them
+abbrev Informed : Type 0
+Informed = Family × (ℕ × (Kind × List ℕ))
+
+pub info_right_in_determined : Determined Informed Bool (λ i r. r ≡ info_right_in i.0 i.1.0 i.1.1.0 i.1.1.1)
+info_right_in_determined = by_equation Informed Bool (λ i. info_right_in i.0 i.1.0 i.1.1.0 i.1.1.1)
+
+pub info_at_in_determined : Determined Informed ℕ (λ i r. (r ≡ first_wrong (info_marks_in i.0 i.1.0 i.1.1.0 i.1.1.1)) × (r ≤ 3))
+info_at_in_determined i a b p q = p.0 ∙ sym q.0
 
 pub lead_of_determined : Determined (ℕ × ℕ) ℕ (λ i r. r ≡ lead_of i.0 i.1)
 lead_of_determined = by_equation (ℕ × ℕ) ℕ (λ i. lead_of i.0 i.1)

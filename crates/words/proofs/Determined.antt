@@ -6,12 +6,14 @@ use Prim.Native.Nat.{ℕ}
 use Rattle.figures.specs.Promises.{Determined}
 use Rattle.figures.proofs.Determined.{by_equation}
 use Rattle.words.specs.Records.{width, blank, record_of, is_right, typed_of}
-use Rattle.words.specs.Reading.{OneWord, fault_number, word_of}
+use Rattle.words.specs.Reading.{OneWord, fault_number, wrong_at, wrong_index, word_of}
 use Rattle.words.specs.Keeping.{parted_at}
 use Rattle.units.specs.declared.kinds.Family.{Family}
 use Rattle.units.specs.declared.counts.Count.{Count}
 use Rattle.words.specs.declared.records.Word.{Word}
 use Rattle.words.specs.declared.reading.Fault.{Fault}
+use Rattle.words.specs.declared.reading.Wrong.{Wrong}
+use Rattle.units.specs.declared.kinds.Unindexed.{Unindexed}
 
 pub blank_word_determined : Determined (Unit {0}) Word (λ i r. r ≡ blank)
 blank_word_determined = by_equation (Unit {0}) Word (λ i. blank)
@@ -30,6 +32,12 @@ count_determined = by_equation (Word × Family) Count (λ i. typed_of i.1 i.0)
 
 pub fault_number_determined : Determined Fault ℕ (λ i r. r ≡ fault_number i)
 fault_number_determined = by_equation Fault ℕ fault_number
+
+pub new_determined : Determined (Fault × ℕ) Wrong (λ i r. r ≡ wrong_at i.0 i.1)
+new_determined = by_equation (Fault × ℕ) Wrong (λ i. wrong_at i.0 i.1)
+
+pub from_determined : Determined Unindexed Wrong (λ i r. r ≡ wrong_index i)
+from_determined = by_equation Unindexed Wrong wrong_index
 
 pub width_of_determined : Determined Bool ℕ (λ i r. r ≡ width i)
 width_of_determined = by_equation Bool ℕ width
