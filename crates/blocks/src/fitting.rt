@@ -1,4 +1,5 @@
-// Whether a word is right, as a yes or no; what is wrong with it, and where, `read_word` tells.
+// Whether a word is right, as a yes or no; what is wrong with it, and where, `read_word` tells. It is compiled in place where the words of a block are run through
+// (docs/BENCHMARK.md).
 ghost use Rattle.std.specs.Prelude.{◌≡◌, true, ◌≤◌, is_ok, length};
 ghost use Rattle.figures.specs.Bytes.{every, within};
 ghost use Rattle.words.specs.Reading.{word_size, data_in, data_right, word_of};
@@ -35,6 +36,7 @@ fn pair_right(s: &[u8]) -> bool
 }
 
 // Tells whether the data of a word of that kind are right.
+#[inline(always)]
 fn spelt_at(kind: Kind, s: &[u8], wide: bool) -> bool
     requires { word_size wide ≤ length s.now }
     ensures { result ≡ data_right kind (data_in wide s.now) }
@@ -48,6 +50,7 @@ fn spelt_at(kind: Kind, s: &[u8], wide: bool) -> bool
 }
 
 // Tells whether a word of that kind whose data are right has a value: an angle has one within its range, and any other always.
+#[inline(always)]
 fn ranged_at(kind: Kind, s: &[u8], wide: bool) -> bool
     requires { (word_size wide ≤ length s.now) × (data_right kind (data_in wide s.now) ≡ true) }
     ensures { Ranges kind wide s.now result }
@@ -59,6 +62,7 @@ fn ranged_at(kind: Kind, s: &[u8], wide: bool) -> bool
 }
 
 // Tells whether the word of the family that stands at the start of s is right.
+#[inline(always)]
 pub(crate) fn fits(s: &[u8], family: Family, wide: bool) -> bool
     ensures { result ≡ is_ok (word_of family wide s.now) }
 {

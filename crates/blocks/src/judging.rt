@@ -111,6 +111,7 @@ fn opened(s: &[u8]) -> Result<bool, Refusal>
 }
 
 // Counts the words from a place on that are right, up to so many.
+#[inline(always)]
 fn run_of(s: &[u8], family: Family, wide: bool, start: usize, most: usize) -> usize
     requires { start ≤ length s.now }
     ensures { Runs family wide start most s.now result }

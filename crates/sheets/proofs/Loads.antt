@@ -248,6 +248,13 @@ module _ (f : Form) (k : Series) (sheet : List ℕ) where
         let all = values_filled first.values (first_taken f k sheet at came).named.values_long in
         λ j. contents_by k (padded first.settings) (all j)
 
+    pub kept_right : let r = first_held first at in (contents_right (contents_by k r.settings r.values) ≡ true) × (at ≤ length sheet)
+    kept_right = (ap contents_right first_kept ∙ contents_right_lem, parted_within (first_taken f k sheet at came).parted)
+
+    -- the list over them is the second form's
+    pub undo_kept : f ≡ Two → let r = first_held first at in list_from (contents_by k r.settings r.values) sheet at ≡ undo_in f k sheet at
+    undo_kept two = ap (λ (c : Contents). list_from c sheet at) first_kept ∙ sym (follows_two two (contents_in f k sheet) sheet at)
+
 -- entries laid down one by one: none, one more, and all of them in an image that has none
 
 pub laid_none : (k : Series) (entries : List Entry) (image : List ℕ) → image ≡ entries_laid k entries 0 image
@@ -300,7 +307,7 @@ module _ {k : Series} {image : List ℕ} (im : Imaged k image) (sheet : List ℕ
       ∙ ap (λ (g : Form). loaded_by k image (loading_as g k sheet)) (sym form)
       ∙ ap (loaded_by k image) e
 
-  loads_wrong : (at : ℕ) {e : SheetRefusal} → e ≡ Wrong at → loading_as f k sheet ≡ wrong at → Loads image sheet (Err e) image
+  pub loads_wrong : (at : ℕ) {e : SheetRefusal} → e ≡ Wrong at → loading_as f k sheet ≡ wrong at → Loads image sheet (Err e) image
   loads_wrong at tells e =
       (ap (λ (r : SheetRefusal). Err r) tells ∙ ap (λ (l : Loaded·image). l.answer) (sym (by (wrong at) e)), ap (λ (l : Loaded·image). l.image) (sym (by (wrong at) e)))
 
@@ -338,7 +345,7 @@ module _ {k : Series} {image : List ℕ} (im : Imaged k image) (sheet : List ℕ
       contents_read = ap (λ (x : First). contents_by k x.settings x.values) read.held ∙ first_kept f k sheet r.to read.came
 
       pub first_right : (contents_right (contents_by k r.settings r.values) ≡ true) × (r.to ≤ length sheet)
-      first_right = (ap contents_right contents_read ∙ contents_right_lem f k sheet r.to read.came, parted_within (first_taken f k sheet r.to read.came).parted)
+      first_right = rw read.held (kept_right f k sheet r.to read.came)
 
       abbrev list : Part Entry
       list = undo_in f k sheet r.to
@@ -364,6 +371,16 @@ module _ {k : Series} {image : List ℕ} (im : Imaged k image) (sheet : List ℕ
             loads_by r.to (ap (λ (q : Part Entry). q.came) so) two
             (emptied ∙ ap (λ (q : Part Entry). image_of (loaded_state k p.settings p.values q.got)) (sym so))
 
+        -- whatever the form is
+        pub loads_listed : (end : ℕ) → list.came ≡ Ok end → (three : List ℕ) → three ≡ undo_laid k (entries_filled list.got) (length list.got) two
+            → Loads image sheet (Ok tt) three
+        loads_listed end ended three e3 =
+            let got = list.got in
+            loads_by end ended three
+            (e3 ∙ ap (undo_laid k (entries_filled got) (length got)) emptied
+            ∙ undo_laid_lem k (padded p.settings) p.values (contents_right_lem f k sheet r.to read.came) got (undo_few f (contents_in f k sheet) sheet r.to)
+            (replicate (entries_n - length got) blank_entry))
+
       pub loads_surplus : f ≡ One → (r.to ≡ length sheet → ⊥) → Loads image sheet (Err (Wrong r.to)) image
       loads_surplus one past =
           loads_wrong r.to refl (undo_came f k sheet r.to read.came (Err r.to) (follows_wrong one (contents_in f k sheet) sheet r.to past))
@@ -371,7 +388,7 @@ module _ {k : Series} {image : List ℕ} (im : Imaged k image) (sheet : List ℕ
       -- the list, in the second form
       module _ (two_lem : f ≡ Two) (told : Result ℕ SheetRefusal) (listed : told ≡ list_count (list_from (contents_by k r.settings r.values) sheet r.to)) where
         over : list_from (contents_by k r.settings r.values) sheet r.to ≡ list
-        over = ap (λ (c : Contents). list_from c sheet r.to) contents_read ∙ sym (follows_two two_lem (contents_in f k sheet) sheet r.to)
+        over = ap (λ (x : First). list_from (contents_by k x.settings x.values) sheet r.to) read.held ∙ undo_kept f k sheet r.to read.came two_lem
 
         list_read : told ≡ list_count list
         list_read = listed ∙ ap list_count over
@@ -411,13 +428,8 @@ module _ {k : Series} {image : List ℕ} (im : Imaged k image) (sheet : List ℕ
               → (one two three : List ℕ) → one ≡ contents_laid k r.settings r.values image → two ≡ cleared k one
               → three ≡ undo_laid k entries n two → Loads image sheet (Ok tt) three
           loads_two entries are one two three e1 e2 e3 =
-              let got = list.got in
-              let filled : entries ≡ entries_filled got = are ∙ ap (λ (p : Part Entry). entries_filled p.got) over in
-              loads_by list_held.end list_held.came three
-              (e3 ∙ (λ j. undo_laid k (filled j) (list_held.count j) two)
-              ∙ ap (undo_laid k (entries_filled got) (length got)) (emptied one two e1 e2)
-              ∙ undo_laid_lem k (padded p.settings) p.values (contents_right_lem f k sheet r.to read.came) got (undo_few f (contents_in f k sheet) sheet r.to)
-              (replicate (entries_n - length got) blank_entry))
+              let filled : entries ≡ entries_filled list.got = are ∙ ap (λ (p : Part Entry). entries_filled p.got) over in
+              loads_listed one two e1 e2 list_held.end list_held.came three (e3 ∙ (λ j. undo_laid k (filled j) (list_held.count j) two))
 
 -- the first form's returns, as the code comes to them: what stands after its lines is the first wrong line, and else the image is that of what they hold
 module _ (image sheet : List ℕ) (right : is_image image ≡ true) (one : form_in sheet ≡ One) where

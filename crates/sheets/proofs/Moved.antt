@@ -75,6 +75,13 @@ module _ (f : Form) (k : Series) (sheet : List ℕ) (of : is_of f sheet ≡ true
       ∙ ap (loaded_by k i) e in
       (l.0 ∙ ap (λ (o : Loaded·image). o.answer) so, l.1 ∙ ap (λ (o : Loaded·image). o.image) so)
 
+  pub told_wrong : {at : ℕ} → r ≡ Err (Wrong at) → loading_as f k sheet ≡ wrong at
+  told_wrong {at} e = by (loading_as f k sheet) refl
+    where
+      by : (m : Loading) → loading_as f k sheet ≡ m → m ≡ wrong at
+      by (wrong a) q = let t = loads_by (wrong a) q in cc
+      by (right settings values entries) q = let t = loads_by (right settings values entries) q in absurd (clash (cc))
+
   -- a refusal tells the wrong line, and is what moving comes to
   pub moved_refused : {e : SheetRefusal} → r ≡ Err e → (room : List ℕ) → Leaves (moved_by f k room (loading_as f k sheet)) (Err e) room
   moved_refused {e} is room = by (loading_as f k sheet) refl

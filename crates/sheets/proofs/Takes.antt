@@ -361,6 +361,20 @@ module _ (i : ℕ) (there : i < values_n) (s : List ℕ) (long : 20 ≤ length s
   pub put_off : all (put_tests i s) ≡ false → false ≡ put_stands i s
   put_off e = sym (put_as ∙ rw (e, and-false))
 
+  pub put_not : (n : ℕ) → get_or (put_tests i s) n true ≡ false → false ≡ put_stands i s
+  put_not n e = put_off (all_not (put_tests i s) n e)
+
   -- where they all stand, it is left whether what it holds may be held
   pub put_is : all (put_tests i s) ≡ true → kept_right i (kept_at s) ≡ put_stands i s
   put_is e = sym (put_as ∙ rw (e, and-true))
+
+-- a sign that stands there: plus, minus, or none
+
+pub sign_plus : (b : ℕ) → b ≡ 43 → (0 ≡ sign_of b) × (b ≡ sign_byte (sign_of b))
+sign_plus b e = rw e (refl, refl)
+
+pub sign_minus : (b : ℕ) → b ≡ 45 → (1 ≡ sign_of b) × (b ≡ sign_byte (sign_of b))
+sign_minus b e = rw e (refl, refl)
+
+pub sign_none : (b : ℕ) → (b ≡ 43 → ⊥) → (b ≡ 45 → ⊥) → b ≡ sign_byte (sign_of b) → ⊥
+sign_none b p m e = m (e ∙ rw (ne_eqb b 43 p))

@@ -388,16 +388,19 @@ back_stored n puts u h is =
     back_turn n puts u h ∙ ap (λ (i : Item). back_right puts i && goes_back (n - 1) (puts_back puts i e.former.kept) u) is
 
 -- any other changes nothing
+
+pub item_other : (puts : List Bool) (i : Item) (k : Kept) → ((j : ℕ) → i ≡ Stored j → ⊥) → (back_right puts i ≡ true) × (puts_back puts i k ≡ puts)
+item_other puts Free k not = (refl, refl)
+item_other puts (Setting i) k not = (refl, refl)
+item_other puts (Stored i) k not = absurd (not i refl)
+
 pub back_other : (n : ℕ) (puts : List Bool) (u : List Entry) → 0 < n
     → let e = get_or u (n - 1) blank_entry in
     ((i : ℕ) → e.item ≡ Stored i → ⊥) → goes_back n puts u ≡ goes_back (n - 1) puts u
-back_other n puts u h not = back_turn n puts u h ∙ by (get_or u (n - 1) blank_entry).item refl
-  where
-    by : (i : Item) → (get_or u (n - 1) blank_entry).item ≡ i
-        → back_right puts i && goes_back (n - 1) (puts_back puts i (get_or u (n - 1) blank_entry).former.kept) u ≡ goes_back (n - 1) puts u
-    by Free q = refl
-    by (Setting i) q = refl
-    by (Stored i) q = absurd (not i q)
+back_other n puts u h not =
+    let e = get_or u (n - 1) blank_entry in
+    let (right, same) = item_other puts e.item e.former.kept not in
+    back_turn n puts u h ∙ (λ j. right j && goes_back (n - 1) (same j) u)
 
 -- the list, by its count's line and then by its entries'
 
@@ -422,8 +425,12 @@ module _ (k : Series) (settings : List ℕ) (values : List Kept) (sheet : List �
   by_count : (p : Part ℕ) → count_from sheet at ≡ p → list ≡ after_count (contents_by k settings values) sheet at p.got p.came
   by_count p e = ap (λ (q : Part ℕ). after_count (contents_by k settings values) sheet at q.got q.came) e
 
+  -- of a list that is wrong its wrong line is all there is: no entry of it is got
+  pub uncounted_wrong : taken ≡ None → list ≡ wrong_at at
+  uncounted_wrong z = by_count (wrong_at at) (counted.astray z)
+
   pub list_uncounted : taken ≡ None → Err (Wrong at) ≡ list_count list
-  list_uncounted z = ap list_count (sym (by_count (wrong_at at) (counted.astray z)))
+  list_uncounted z = ap list_count (sym (uncounted_wrong z))
 
   module _ (t : Taken ℕ) (some : taken ≡ Some t) where
     pub count_most : t.held ≤ entries_n
@@ -440,20 +447,24 @@ module _ (k : Series) (settings : List ℕ) (values : List Kept) (sheet : List �
         by_count (came (at + t.to) (t.held ∷ [])) (counted.more t some ∙ part_ended count_lines 1 1 (at + t.to) sheet (t.held ∷ []) refl)
         ∙ ap (after_entries (contents_by k settings values) sheet at lines.got) e
 
+    pub astray_wrong : (to : ℕ) → lines.came ≡ Err to → list ≡ wrong_at to
+    astray_wrong to e = list_as_lem (Err to) e
+
     module _ (told : Result ℕ SheetRefusal) (are : told ≡ lines_to lines.came) where
       pub list_astray : {e : SheetRefusal} → told ≡ Err e → Err e ≡ list_count list
       list_astray {e} z =
           let s = lines_astray lines.came (sym are ∙ z) in
-          ap (λ (r : SheetRefusal). Err r) s.tells ∙ ap list_count (sym (list_as_lem (Err s.at) s.came))
+          ap (λ (r : SheetRefusal). Err r) s.tells ∙ ap list_count (sym (astray_wrong s.at s.came))
 
       module _ (to : ℕ) (ok : told ≡ Ok to) where
         came_to : lines.came ≡ Ok to
         came_to = lines_whole lines.came (sym are ∙ ok)
 
+        pub past_wrong : (to ≡ length sheet → ⊥) → list ≡ wrong_at to
+        past_wrong f = list_as_lem (Ok to) came_to ∙ rw (ne_eqb to (length sheet) f)
+
         pub list_past : (to ≡ length sheet → ⊥) → Err (Wrong to) ≡ list_count list
-        list_past f =
-            let so : list ≡ wrong_at to = list_as_lem (Ok to) came_to ∙ rw (ne_eqb to (length sheet) f) in
-            ap list_count (sym so)
+        list_past f = ap list_count (sym (past_wrong f))
 
         took : TakenLines (entry_lines k) t.held [] 0 sheet (at + t.to) to lines.got
         took =
@@ -473,15 +484,18 @@ module _ (k : Series) (settings : List ℕ) (values : List Kept) (sheet : List �
               list_as_lem (Ok to) came_to
               ∙ rw (eq-eqb to (length sheet) end) (ap (λ (b : Bool). cond b (came to lines.got) (wrong_at at)) so)
 
+          pub unheld_wrong : back ≡ false → list ≡ wrong_at at
+          unheld_wrong b = ended ∙ rw b
+
           pub list_unheld : back ≡ false → Err (Wrong at) ≡ list_count list
-          list_unheld b = let so : list ≡ wrong_at at = ended ∙ rw b in ap list_count (sym so)
+          list_unheld b = ap list_count (sym (unheld_wrong b))
+
+          -- of one that is right the end is known too
+          pub list_held : back ≡ true → list ≡ came to lines.got
+          list_held b = ended ∙ rw b
 
           pub list_counted : back ≡ true → Ok t.held ≡ list_count list
-          list_counted b =
-              let so : list ≡ came to lines.got = ended ∙ rw b in
-              ap (λ (n : ℕ). Ok n) (sym took.long) ∙ ap list_count (sym so)
+          list_counted b = ap (λ (n : ℕ). Ok n) (sym took.long) ∙ ap list_count (sym (list_held b))
 
           pub list_filled : back ≡ true → held ≡ entries_filled list.got
-          list_filled b =
-              let so : list ≡ came to lines.got = ended ∙ rw b in
-              held_is ∙ ap (λ (p : Part Entry). entries_filled p.got) (sym so)
+          list_filled b = held_is ∙ ap (λ (p : Part Entry). entries_filled p.got) (sym (list_held b))
